@@ -1,0 +1,6 @@
+pub mod BlankLemmas
+pub mod CivilLemmas
+pub mod ReadLemmas
+pub mod StandardFacts
+pub mod SecondOfLemmas
+pub mod MementoLemmas

@@ -1,0 +1,9 @@
+pub mod Text
+pub mod NameField
+pub mod Civil
+pub mod Blanks
+pub mod Names
+pub mod BeforeEpoch
+pub mod Second
+pub mod Mementos
+pub mod SecondOf

@@ -1,0 +1,19 @@
+-- The order of texts by their bytes, and of mementos: by datetime, then by URI.
+use Rattle.std.specs.Prelude.{ℕ, List, refl}
+use Rattle.std.specs.declared.cmp.Ordering.{Ordering}
+use Rattle.std.specs.Ordering.{nat_cmp, on, then_cmp}
+use Rattle.std.specs.Cmp.Lexicographic.{slice_cmp}
+use Rattle.std.specs.Coded.{Coded, code_by, coded×, coded_ℕ, coded_list}
+use Rattle.memento_time.specs.declared.mementos.Memento.{Memento}
+
+-- by bytes, a prefix before the longer text
+abbrev pub text_cmp : List ℕ → List ℕ → Ordering
+text_cmp = slice_cmp nat_cmp
+
+-- by datetime, and then by URI
+abbrev pub memento_cmp : Memento → Memento → Ordering
+memento_cmp = then_cmp (on (λ m. m.at) nat_cmp) (on (λ m. m.uri) text_cmp)
+
+-- a memento as a pair
+abbrev pub coded_memento : Coded Memento
+coded_memento = code_by (ℕ × List ℕ) (coded× coded_ℕ (coded_list coded_ℕ)) (λ m. (m.at, m.uri)) (λ p. record { at = p.0; uri = p.1 }) (λ _. refl)

@@ -1,0 +1,131 @@
+ghost use Rattle.std.specs.Prelude.{◌≡◌, ℕ, ◌↔◌, ◌++◌, drop, IsTrue, IfSome, IfNone, Contains};
+ghost use Rattle.httpdate.specs.Date.{date_text};
+ghost use Rattle.httpdate.specs.declared.date.HttpDate.{HttpDate as Date};
+ghost use Rattle.std.specs.Option.{SomeIff};
+ghost use Rattle.memento_time.specs.Names.{day_names};
+ghost use Rattle.memento_time.specs.Second.{IsSecond, imf, Reads, Asks};
+ghost use Rattle.memento_time.specs.SecondOf.{second_of, asked_of};
+
+use crate::blanks::trim_blanks;
+use crate::form::is_before_epoch;
+use httpdate::HttpDate;
+use std::marker::Model;
+
+/// A second from 1970 to 9999, counted from the start of 1970.
+#[derive(Clone, Copy, Debug, PartialEq, Eq, PartialOrd, Ord, Hash)]
+pub struct Moment {
+    secs: u64,
+}
+
+impl Model for Moment {
+    ghost use Rattle.std.specs.Prelude.{ℕ};
+    ghost use Rattle.memento_time.specs.Second.{IsSecond};
+
+    ghost Value = { ℕ };
+
+    ghost view = { λ moment. moment.secs };
+
+    ghost invariant = { λ moment. IsSecond moment.secs };
+
+    ghost inverse = { λ secs. record { secs = secs } };
+}
+
+const LAST_SECOND: u64 = 253_402_300_799;
+
+impl Moment {
+    /// None above 253402300799, the last second of the year 9999.
+    pub fn from_secs(secs: u64) -> Option<Moment>
+        ensures { SomeIff result (IsSecond secs) secs }
+    {
+        if secs <= LAST_SECOND {
+            Some(Moment { secs })
+        } else {
+            None
+        }
+    }
+
+    pub fn secs(&self) -> u64
+        ensures value { result ≡ self.now }
+        ensures bound { IsSecond result }
+    {
+        self.secs
+    }
+
+    /// The IMF-fixdate, as `Sat, 01 Jan 2000 00:00:00 GMT`.
+    pub fn to_imf(&self) -> [u8; 29]
+        ensures { result ≡ imf self.now }
+    {
+        HttpDate::from_unix_secs(self.secs).unwrap().to_bytes()
+    }
+
+    /// Reads an IMF-fixdate. Whether the name of the day fits the date isn't looked at.
+    pub fn read_imf(text: &[u8]) -> Option<Moment>
+        ensures read { IfSome result (λ s. Reads text.now s) }
+        ensures exact { (s : ℕ) → Reads text.now s → result ≡ Some s }
+        ensures value { result ≡ second_of text.now }
+    {
+        read_date(text)
+    }
+
+    /// Reads what a client asks: an IMF-fixdate between spaces and tabs. One before 1970 asks for second 0.
+    pub fn read_asked(text: &[u8]) -> Option<Moment>
+        ensures asked { IfSome result (λ s. Asks text.now s) }
+        ensures exact { (s : ℕ) → Asks text.now s → result ≡ Some s }
+        ensures value { result ≡ asked_of text.now }
+    {
+        read_wish(text)
+    }
+}
+
+const DAY_NAMES: [[u8; 3]; 7] = [
+    *b"Mon", *b"Tue", *b"Wed", *b"Thu", *b"Fri", *b"Sat", *b"Sun",
+];
+
+fn read_wish(text: &[u8]) -> Option<Moment>
+    ensures asked { IfSome result (λ s. Asks text.now s) }
+    ensures exact { (s : ℕ) → Asks text.now s → result ≡ Some s }
+{
+    let date = trim_blanks(text);
+    if let Some(moment) = Moment::read_imf(date) {
+        return Some(moment);
+    }
+    if is_before_epoch(date) {
+        Some(Moment { secs: 0 })
+    } else {
+        None
+    }
+}
+
+fn read_date(text: &[u8]) -> Option<Moment>
+    ensures read { IfSome result (λ s. Reads text.now s) }
+    ensures exact { (s : ℕ) → Reads text.now s → result ≡ Some s }
+{
+    let bytes: &[u8; 29] = text.try_into().ok()?;
+    if !is_day_name([bytes[0], bytes[1], bytes[2]]) {
+        return None;
+    }
+    for name in &DAY_NAMES {
+        if let Some(date) = date_under(name, bytes) {
+            return Some(Moment {
+                secs: date.unix_secs(),
+            });
+        }
+    }
+    None
+}
+
+fn is_day_name(name: [u8; 3]) -> bool
+    ensures { IsTrue result ↔ Contains day_names name }
+{
+    DAY_NAMES.contains(&name)
+}
+
+// The date that the text shows under this day's name in place of its own. `httpdate` takes the right name only.
+fn date_under(name: &[u8; 3], text: &[u8; 29]) -> Option<HttpDate>
+    ensures shown { IfSome result (λ date. name.now ++ drop 3 text.now ≡ date_text date) }
+    ensures none { IfNone result ((date : Date) → ¬ (name.now ++ drop 3 text.now ≡ date_text date)) }
+{
+    let mut named = *text;
+    named[..3].copy_from_slice(name);
+    HttpDate::parse_ascii(&named).ok()
+}
