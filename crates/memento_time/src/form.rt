@@ -1,4 +1,4 @@
-//! Dates before 1970 in the form of an IMF-fixdate.
+//! The form of an IMF-fixdate, and dates before 1970 in it.
 ghost use Rattle.std.specs.Prelude.{◌≡◌, length};
 ghost use Rattle.std.specs.List.{list_all, zip};
 ghost use Rattle.memento_time.specs.Names.{day_names, month_names};
@@ -7,7 +7,7 @@ ghost use Rattle.memento_time.specs.BeforeEpoch as spec;
 /// A digit stands at each `0`, a name at the question marks, and the rest as it is.
 const FORM: [u8; 29] = *b"???, 00 ??? 0000 00:00:00 GMT";
 
-const DAY_NAMES: [[u8; 3]; 7] = [
+pub(crate) const DAY_NAMES: [[u8; 3]; 7] = [
     *b"Mon", *b"Tue", *b"Wed", *b"Thu", *b"Fri", *b"Sat", *b"Sun",
 ];
 

@@ -1,4 +1,5 @@
-ghost use Rattle.std.specs.Prelude.{◌≡◌, ℕ, ◌↔◌, ◌++◌, drop, IsTrue, IfSome, IfNone, Contains};
+//! Seconds, and the texts that stand for them.
+ghost use Rattle.std.specs.Prelude.{◌≡◌, ℕ, ◌↔◌, ◌++◌, take, drop, IsTrue, IfSome, IfNone, Contains};
 ghost use Rattle.httpdate.specs.Date.{date_text};
 ghost use Rattle.httpdate.specs.declared.date.HttpDate.{HttpDate as Date};
 ghost use Rattle.std.specs.Option.{SomeIff};
@@ -7,7 +8,7 @@ ghost use Rattle.memento_time.specs.Second.{IsSecond, imf, Reads, Asks};
 ghost use Rattle.memento_time.specs.SecondOf.{second_of, asked_of};
 
 use crate::blanks::trim_blanks;
-use crate::form::is_before_epoch;
+use crate::form::{DAY_NAMES, is_before_epoch};
 use httpdate::HttpDate;
 use std::marker::Model;
 
@@ -44,6 +45,7 @@ impl Moment {
         }
     }
 
+    /// Seconds since the start of 1970, without leap seconds.
     pub fn secs(&self) -> u64
         ensures value { result ≡ self.now }
         ensures bound { IsSecond result }
@@ -51,14 +53,14 @@ impl Moment {
         self.secs
     }
 
-    /// The IMF-fixdate, as `Sat, 01 Jan 2000 00:00:00 GMT`.
+    /// The IMF-fixdate (RFC 9110, section 5.6.7), as `Sat, 01 Jan 2000 00:00:00 GMT`.
     pub fn to_imf(&self) -> [u8; 29]
         ensures { result ≡ imf self.now }
     {
         HttpDate::from_unix_secs(self.secs).unwrap().to_bytes()
     }
 
-    /// Reads an IMF-fixdate. Whether the name of the day fits the date isn't looked at.
+    /// Reads an IMF-fixdate (RFC 9110, section 5.6.7). The name of the day needn't fit the date.
     pub fn read_imf(text: &[u8]) -> Option<Moment>
         ensures read { IfSome result (λ s. Reads text.now s) }
         ensures exact { (s : ℕ) → Reads text.now s → result ≡ Some s }
@@ -67,7 +69,8 @@ impl Moment {
         read_date(text)
     }
 
-    /// Reads what a client asks: an IMF-fixdate between spaces and tabs. One before 1970 asks for second 0.
+    /// Reads the value of `Accept-Datetime` (RFC 7089, section 2.1.1): an IMF-fixdate, perhaps between spaces and tabs.
+    /// A date before 1970 asks for second 0, since no memento is earlier.
     pub fn read_asked(text: &[u8]) -> Option<Moment>
         ensures asked { IfSome result (λ s. Asks text.now s) }
         ensures exact { (s : ℕ) → Asks text.now s → result ≡ Some s }
@@ -76,10 +79,6 @@ impl Moment {
         read_wish(text)
     }
 }
-
-const DAY_NAMES: [[u8; 3]; 7] = [
-    *b"Mon", *b"Tue", *b"Wed", *b"Thu", *b"Fri", *b"Sat", *b"Sun",
-];
 
 fn read_wish(text: &[u8]) -> Option<Moment>
     ensures asked { IfSome result (λ s. Asks text.now s) }
@@ -101,9 +100,24 @@ fn read_date(text: &[u8]) -> Option<Moment>
     ensures exact { (s : ℕ) → Reads text.now s → result ≡ Some s }
 {
     let bytes: &[u8; 29] = text.try_into().ok()?;
-    if !is_day_name([bytes[0], bytes[1], bytes[2]]) {
+    let own_name = [bytes[0], bytes[1], bytes[2]];
+    if !is_day_name(own_name) {
         return None;
     }
+    // Nearly every date bears the right name, so that one is tried before the seven.
+    if let Some(date) = date_under(&own_name, bytes) {
+        return Some(Moment {
+            secs: date.unix_secs(),
+        });
+    }
+    date_under_any_name(bytes)
+}
+
+fn date_under_any_name(bytes: &[u8; 29]) -> Option<Moment>
+    requires { Contains day_names (take 3 bytes.now) }
+    ensures read { IfSome result (λ s. Reads bytes.now s) }
+    ensures exact { (s : ℕ) → Reads bytes.now s → result ≡ Some s }
+{
     for name in &DAY_NAMES {
         if let Some(date) = date_under(name, bytes) {
             return Some(Moment {

@@ -1,13 +1,9 @@
-use Rattle.std.proofs.Common.{◌≡◌, ◌≢◌, ℕ, ◌<◌, ◌≤◌, ◌+◌, List, [], ◌∷◌, ◌++◌, length, take, drop, get_or, Option, Some, None, Result, Ok, Err, MatchResult, Contains, Bor, ap, sym, refl, ◌∙◌, arith, true≢false}
+use Rattle.std.proofs.Common.{◌≡◌, ◌≢◌, ℕ, List, [], ◌∷◌, length, take, get_or, Option, Some, Result, Ok, Err, MatchResult, Contains, Bor, ap, sym, refl, ◌∙◌, arith, true≢false}
 use Rattle.std.specs.Result.{result_ok}
 use Rattle.std.specs.Array.{IsWholeChunk}
 use Rattle.std.proofs.lemmas.Option.{same_Some}
-use borrow.Author.Count.{below_more}
-use Rattle.httpdate.specs.Date.{date_text}
-use Rattle.httpdate.specs.declared.date.HttpDate.{HttpDate}
-use Rattle.memento_time.specs.Second.{Reads}
 use Rattle.memento_time.specs.Names.{day_names}
-use Rattle.memento_time.proofs.ReadLemmas.{Reads_unique, Reads_shown, Reads_dated, take_three, length-day_names}
+use Rattle.memento_time.proofs.ReadLemmas.{Reads_unique, Reads_shown, take_three}
 use Rattle.memento_time.proofs.moments.read_date.Goals as goal
 
 -- the array is the whole text
@@ -29,17 +25,7 @@ returns-in-Some-clause-read c =
     let three = take_three c.args.text.now (omega arith) in
     let day : Contains day_names (take 3 c.args.text.now) = rw (three, ← same) (c.if-not-is_day_name.ensures.0 refl) in
     rw c.unix_secs.ensures.value
-    (Reads_shown _ c.args.text.now c.in-Some.date (length-day_names c.loop-name.name-index c.loop-name-test.true) len day (rw same at c.in-Some.ensures.shown) (rw (← c.unix_secs.ensures.value) c.unix_secs.ensures.bound))
+    (Reads_shown (get_or c.args.text.now 0 0 ∷ get_or c.args.text.now 1 0 ∷ get_or c.args.text.now 2 0 ∷ []) c.args.text.now c.in-Some.date refl len day (rw same at c.in-Some.ensures.shown) (rw (← c.unix_secs.ensures.value) c.unix_secs.ensures.bound))
 
 pub returns-in-Some-clause-exact : goal.returns-in-Some-clause-exact
 returns-in-Some-clause-exact c s h = ap Some (Reads_unique c.args.text.now c.unix_secs.result s (returns-in-Some-clause-read c) h)
-
-pub loop-name-preserved : goal.loop-name-preserved
-loop-name-preserved c =
-    below_more (λ k. (date : HttpDate) → ¬ (get_or day_names k [] ++ drop 3 c.in_ok-bytes.bytes.now ≡ date_text date))
-    c.loop-name.name-index c.loop-name.invariant c.in_default.ensures.none
-
-pub returns-clause-exact : goal.returns-clause-exact
-returns-clause-exact c s h =
-    let (same, len) = whole c.args.text.now _ _ c.try_into.ensures.1 c.in_ok-bytes.ensures.value in
-    absurd (Reads_dated c.args.text.now s h (λ k lt. rw same at (c.loop-name.invariant k (omega arith))))
