@@ -1,0 +1,9 @@
+mod Escapes
+mod Cleans
+mod Starts
+mod Found
+mod Trims
+mod FirstLemmas
+mod SetLemmas
+mod Named
+mod SameLists

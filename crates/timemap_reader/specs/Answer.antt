@@ -1,0 +1,34 @@
+-- Which answer a base and a body have: the page that they make, or the first fault.
+use Rattle.std.specs.Prelude.{◌≡◌, ◌≢◌, ℕ, ◌≤◌, ◌<◌, List, length, Option, Some, None, Result, Ok, Err, nat_lt, if◌then◌else◌}
+use Rattle.url.specs.Parts.{Parts}
+use Rattle.url.specs.Parser.{parse_url}
+use Rattle.link_format.specs.Grammar.{Link}
+use Rattle.link_format.specs.Limits as link
+use Rattle.link_format.specs.declared.fault.LinkFault.TheVariants as LinkFault
+use Rattle.timemap_reader.specs.declared.page.Page.{Page}
+use Rattle.timemap_reader.specs.declared.page.PageFault.{PageFault}
+use Rattle.timemap_reader.specs.declared.page.PageFault.TheVariants.{TooLong, Links, BadBase, NoMemory}
+use Rattle.timemap_reader.specs.Address.{is_http_scheme}
+use Rattle.timemap_reader.specs.Page.{IsPageOf}
+
+-- an http or https URL
+abbrev pub http_url : {E : Type 0} → Result Parts E → Option Parts
+http_url (Ok url) = if is_http_scheme url.scheme then Some url else None
+http_url (Err e) = None
+
+-- the base that a text names: an http or https URL, of a text of at most 8,192 bytes
+abbrev pub base_of : List ℕ → Option Parts
+base_of text = if nat_lt 8192 (length text) then None else http_url (parse_url None text)
+
+-- of a body that isn't too long
+abbrev pub IsShort : List ℕ → Type 0
+IsShort body = length body ≤ 8388608
+
+-- The page that the body's one reading makes at the base; or the first fault, in the order of the lines; want of memory at any time.
+abbrev pub IsAnswer : List ℕ → List ℕ → Result Page PageFault → Type 0
+IsAnswer base body (Ok page) =
+    (links : List Link) × (url : Parts) × IsShort body × link.IsAnswer body (Ok links) × (base_of base ≡ Some url) × IsPageOf url links page
+IsAnswer base body (Err TooLong) = 8388608 < length body
+IsAnswer base body (Err (Links fault)) = IsShort body × link.IsAnswer body (Err fault) × (fault ≢ LinkFault.NoMemory)
+IsAnswer base body (Err BadBase) = (links : List Link) × IsShort body × link.IsAnswer body (Ok links) × (base_of base ≡ None)
+IsAnswer base body (Err NoMemory) = Unit {0}

@@ -1,0 +1,136 @@
+//! The addresses that a page's links name.
+ghost use Rattle.std.specs.Prelude.{◌≡◌, ◌==◌, ◌<◌, IsTrue, IfOk, IfSome, length, option_map, string_bytes};
+ghost use Rattle.std.specs.List.{before_first};
+ghost use Rattle.url.specs.Parts.{serialize};
+ghost use Rattle.timemap_reader.specs.Address as spec;
+
+use memento_time::{Clean, CleanFault};
+use percent_encoding::{AsciiSet, CONTROLS, ascii_set, percent_encode};
+use std::alloc::{AllocError, Global};
+use url::{ParseError, Url};
+
+/// The bytes that are escaped in an address, beside those outside ASCII.
+const ESCAPED: AsciiSet = ascii_set!(CONTROLS.add(b' ').add(b'"').add(b'<').add(b'>'));
+
+/// Whether the URL's scheme is `http` or `https`.
+pub(crate) fn is_http(url: &Url) -> bool
+    ensures { result ≡ spec.is_http_scheme url.now.scheme }
+{
+    url.scheme() == "http" || url.scheme() == "https"
+}
+
+/// The text with each byte that is not clean escaped.
+pub(crate) fn cleaned(alloc: Global, text: &[u8]) -> Result<String, AllocError>
+    ensures { IfOk result (λ clean. string_bytes clean ≡ spec.clean_text text.now) }
+{
+    let mut clean = String::new(alloc);
+    percent_encode(text, ESCAPED).append_to(&mut clean)?;
+    Ok(clean)
+}
+
+/// Whether the words are the same in any case.
+pub(crate) fn is_same_word(a: &[u8], b: &[u8]) -> bool
+    ensures { result ≡ spec.same_word a.now b.now }
+{
+    a.eq_ignore_ascii_case(b)
+}
+
+fn starts_with_any_case(text: &[u8], start: &[u8]) -> bool
+    ensures { result ≡ spec.starts_with_any_case text.now start.now }
+{
+    match text.get(..start.len()) {
+        Some(front) => is_same_word(front, start),
+        None => false,
+    }
+}
+
+/// Whether the target begins with `http://` or `https://`, in any case.
+fn is_http_target(target: &[u8]) -> bool
+    ensures { result ≡ spec.is_http_target target.now }
+{
+    starts_with_any_case(target, b"http://") || starts_with_any_case(target, b"https://")
+}
+
+/// The text before the first of these bytes.
+pub(crate) fn before_byte(text: &[u8], byte: u8) -> &[u8]
+    ensures { result.now ≡ before_first (λ b. b == byte) text.now }
+{
+    match text.iter().position(|b| *b == byte) {
+        Some(end) => &text[..end],
+        None => text,
+    }
+}
+
+/// The text in clean bytes; None where they are too many.
+fn clean_address(alloc: Global, text: &[u8]) -> Result<Option<Clean>, AllocError>
+    requires { 0 < length text.now }
+    ensures { IfOk result (λ address. address ≡ spec.clean_address text.now) }
+{
+    // Most addresses are clean as they stand.
+    match Clean::new(alloc, text) {
+        Ok(address) => return Ok(Some(address)),
+        Err(CleanFault::NotClean) => {}
+        Err(CleanFault::NoMemory) => return Err(AllocError),
+    }
+    match Clean::new(alloc, cleaned(alloc, text)?.as_bytes()) {
+        Ok(address) => Ok(Some(address)),
+        Err(CleanFault::NotClean) => Ok(None),
+        Err(CleanFault::NoMemory) => Err(AllocError),
+    }
+}
+
+/// The URL that the target names at the page's base; None where that is no http or https URL.
+fn joined(base: &Url, target: &[u8]) -> Result<Option<Url>, AllocError>
+    ensures text { IfOk result (λ url. spec.joined_text base.now target.now ≡ option_map serialize url) }
+    ensures http { IfOk result (λ url. IfSome url (λ u. IsTrue (spec.is_http_scheme u.scheme))) }
+{
+    let Ok(text) = std::str::from_utf8(target) else {
+        return Ok(None);
+    };
+    match base.join(text) {
+        Ok(url) => {
+            if is_http(&url) {
+                Ok(Some(url))
+            } else {
+                Ok(None)
+            }
+        }
+        Err(ParseError::OutOfMemory | ParseError::Overflow) => Err(AllocError),
+        Err(_) => Ok(None),
+    }
+}
+
+/// The address of a memento; None where the target names none.
+pub(crate) fn memento_address(
+    alloc: Global,
+    base: &Url,
+    target: &[u8],
+) -> Result<Option<Clean>, AllocError>
+    ensures { IfOk result (λ address. address ≡ spec.memento_address base.now target.now) }
+{
+    // Dot segments of an archived address stay, so it is not joined.
+    if is_http_target(target) {
+        return clean_address(alloc, target);
+    }
+    match joined(base, target)? {
+        Some(url) => clean_address(alloc, url.as_str().as_bytes()),
+        None => Ok(None),
+    }
+}
+
+/// The address of a further TimeMap, without its fragment; None where the target names none.
+pub(crate) fn further_address(
+    alloc: Global,
+    base: &Url,
+    target: &[u8],
+) -> Result<Option<Clean>, AllocError>
+    ensures { IfOk result (λ address. address ≡ spec.further_address base.now target.now) }
+{
+    if is_http_target(target) {
+        return clean_address(alloc, before_byte(target, b'#'));
+    }
+    match joined(base, target)? {
+        Some(url) => clean_address(alloc, before_byte(url.as_str().as_bytes(), b'#')),
+        None => Ok(None),
+    }
+}

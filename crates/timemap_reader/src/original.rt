@@ -1,0 +1,78 @@
+//! Originals: the addresses that clients and archives are asked for.
+ghost use Rattle.std.specs.Prelude.{◌≡◌, ◌⊎◌, IfOk, IfErr, Ok, Err};
+ghost use Rattle.timemap_reader.specs.Original.{original_reading};
+
+use crate::address::{cleaned, is_http};
+use memento_time::{CleanFault, Original};
+use std::alloc::{AllocError, Global};
+use std::error::Error;
+use std::fmt;
+use url::{ParseError, Position, Url};
+
+/// Why a text names no original.
+#[derive(Clone, Copy, Debug, PartialEq, Eq)]
+pub enum OriginalFault {
+    /// It is no URL, as `url` reads it without a base.
+    NotUrl,
+    /// The URL's scheme is neither `http` nor `https`.
+    NotHttp,
+    /// The text, or the original that it names, has more than 4,096 bytes.
+    TooLong,
+    /// The allocator refused a growth.
+    NoMemory,
+}
+
+impl fmt::Display for OriginalFault {
+    fn fmt<W: fmt::Write>(&self, f: &mut fmt::Formatter<W>) -> fmt::Result {
+        f.write_str(match self {
+            OriginalFault::NotUrl => "not a URL",
+            OriginalFault::NotHttp => "not an http or https URL",
+            OriginalFault::TooLong => "an original of more than 4096 bytes",
+            OriginalFault::NoMemory => "no memory",
+        })
+    }
+}
+
+impl Error for OriginalFault {}
+
+impl From<AllocError> for OriginalFault {
+    ghost use Rattle.std.specs.Prelude.{◌≡◌};
+    ghost use Rattle.timemap_reader.specs.declared.original.OriginalFault.TheVariants.{NoMemory};
+
+    ghost from_gives = { λ _ fault. fault ≡ NoMemory };
+
+    fn from(_refused: AllocError) -> OriginalFault {
+        OriginalFault::NoMemory
+    }
+}
+
+/// Reads the original that a text names: an http or https URL as `url` reads it without a base and
+/// writes it, without its fragment. What is written is made clean: each byte that isn't a visible
+/// ASCII character, and each `<`, `>` and `"`, is written as `%` and two hexadecimal digits.
+///
+/// A text of more than 4,096 bytes is TooLong before it is looked at; so is, last of all, an original
+/// of more than 4,096 bytes.
+pub fn read_original(alloc: Global, text: &str) -> Result<Original, OriginalFault>
+    ensures read { IfOk result (λ original. original_reading text.now ≡ Ok original) }
+    // Want of memory may come at any place.
+    ensures refused { IfErr result (λ fault.
+        (original_reading text.now ≡ Err fault) ⊎ (fault ≡ OriginalFault.NoMemory)) }
+{
+    if text.len() > Original::MAX_LEN {
+        return Err(OriginalFault::TooLong);
+    }
+    let url = match Url::parse(alloc, text) {
+        Ok(url) => url,
+        Err(ParseError::OutOfMemory | ParseError::Overflow) => return Err(OriginalFault::NoMemory),
+        Err(_) => return Err(OriginalFault::NotUrl),
+    };
+    if !is_http(&url) {
+        return Err(OriginalFault::NotHttp);
+    }
+    let written = url.slice(Position::BeforeScheme, Position::AfterQuery);
+    match Original::new(alloc, cleaned(alloc, written.as_bytes())?.as_bytes()) {
+        Ok(original) => Ok(original),
+        Err(CleanFault::NotClean) => Err(OriginalFault::TooLong),
+        Err(CleanFault::NoMemory) => Err(OriginalFault::NoMemory),
+    }
+}

@@ -1,0 +1,221 @@
+//! Pages of TimeMaps.
+ghost use Rattle.std.specs.Prelude.{◌≡◌, ◌≤◌, ◌<◌, ◌+◌, ◌^◌, ◌⊎◌, ◌++◌, [], ◌∷◌, Some, None, IfOk, OnOk, MatchResult, length};
+ghost use Rattle.timemap_reader.specs.Answer.{IsAnswer, base_of};
+ghost use Rattle.timemap_reader.specs.Found.{IsFoundIn};
+ghost use Rattle.timemap_reader.specs.Page.{IsPageOf, IsSetOf, left_out, named};
+ghost use Rattle.timemap_reader.specs.Role.{further_of, is_further_link, is_memento_link, memento_of, rel_of};
+
+use crate::address::is_http;
+use crate::firsts::firsts;
+use crate::role;
+use link_format::{LinkFault, LinkRef, Links, read_links};
+use memento_time::{Clean, Items, Memento};
+use std::alloc::{AllocError, Global};
+use std::error::Error;
+use std::fmt;
+use url::{ParseError, Url};
+
+const MAX_PAGE: usize = 8_388_608;
+
+const MAX_BASE: usize = 8_192;
+
+/// What a page of a TimeMap says.
+#[derive(Debug, PartialEq, Drop)]
+pub struct Page {
+    /// Its mementos, in order, each once.
+    pub mementos: Items<Memento>,
+    /// The addresses of its further TimeMaps, each once, in the order of their first links.
+    pub further: Items<Clean>,
+    /// How many links of mementos and of further TimeMaps were left out, as nothing can be read from them.
+    pub dropped: u64,
+}
+
+/// Why a page can't be read. Each is tested before the next.
+#[derive(Clone, Copy, Debug, PartialEq, Eq)]
+pub enum PageFault {
+    /// The body has more than 8,388,608 bytes.
+    TooLong,
+    /// Its text is no link-format, or passes a limit of `read_links`; never NoMemory.
+    Links(LinkFault),
+    /// The base is no http or https URL, or has more than 8,192 bytes.
+    BadBase,
+    /// The allocator refused a growth, which may come at any place.
+    NoMemory,
+}
+
+impl fmt::Display for PageFault {
+    fn fmt<W: fmt::Write>(&self, f: &mut fmt::Formatter<W>) -> fmt::Result {
+        f.write_str(match self {
+            PageFault::TooLong => "a page of more than 8388608 bytes",
+            PageFault::Links(_) => "a page that is no link-format",
+            PageFault::BadBase => "a base that is no http or https URL",
+            PageFault::NoMemory => "no memory",
+        })
+    }
+}
+
+impl Error for PageFault {}
+
+impl From<AllocError> for PageFault {
+    ghost use Rattle.std.specs.Prelude.{◌≡◌};
+    ghost use Rattle.timemap_reader.specs.declared.page.PageFault.TheVariants.{NoMemory};
+
+    ghost from_gives = { λ _ fault. fault ≡ NoMemory };
+
+    fn from(_refused: AllocError) -> PageFault {
+        PageFault::NoMemory
+    }
+}
+
+/// What the links so far name, with repeats.
+#[derive(Drop)]
+struct Found {
+    mementos: Vec<Memento>,
+    further: Vec<Clean>,
+    dropped: u64,
+}
+
+impl Found {
+    /// Adds what the link says as a memento link, if it is one.
+    fn add_memento(
+        &mut self,
+        alloc: Global,
+        base: &Url,
+        link: &LinkRef<'_>,
+        rel: &[u8],
+    ) -> Result<(), AllocError>
+        requires rel { rel.now ≡ rel_of link.now }
+        requires room { self.old.dropped < 2 ^ 63 }
+        ensures mementos { OnOk result (self.new.mementos.items
+            ≡ self.old.mementos.items ++ named is_memento_link (memento_of base.now) (link.now ∷ [])) }
+        ensures further { OnOk result (self.new.further.items ≡ self.old.further.items) }
+        ensures dropped { OnOk result (self.new.dropped
+            ≡ self.old.dropped + left_out is_memento_link (memento_of base.now) (link.now ∷ [])) }
+        ensures bound { OnOk result (self.new.dropped ≤ self.old.dropped + 1) }
+    {
+        if !role::is_memento_link(rel) {
+            return Ok(());
+        }
+        match role::memento(alloc, base, link)? {
+            Some(memento) => self.mementos.push(memento)?,
+            None => self.dropped += 1,
+        }
+        Ok(())
+    }
+
+    /// Adds what the link says as the link of a further TimeMap, if it is one.
+    fn add_further(
+        &mut self,
+        alloc: Global,
+        base: &Url,
+        link: &LinkRef<'_>,
+        rel: &[u8],
+    ) -> Result<(), AllocError>
+        requires rel { rel.now ≡ rel_of link.now }
+        requires room { self.old.dropped < 2 ^ 63 }
+        ensures mementos { OnOk result (self.new.mementos.items ≡ self.old.mementos.items) }
+        ensures further { OnOk result (self.new.further.items
+            ≡ self.old.further.items ++ named is_further_link (further_of base.now) (link.now ∷ [])) }
+        ensures dropped { OnOk result (self.new.dropped
+            ≡ self.old.dropped + left_out is_further_link (further_of base.now) (link.now ∷ [])) }
+        ensures bound { OnOk result (self.new.dropped ≤ self.old.dropped + 1) }
+    {
+        if !role::is_further_link(link, rel)? {
+            return Ok(());
+        }
+        match role::further(alloc, base, link)? {
+            Some(address) => self.further.push(address)?,
+            None => self.dropped += 1,
+        }
+        Ok(())
+    }
+}
+
+/// What the links name. Each is looked at once.
+fn find(alloc: Global, base: &Url, links: &Links<'_>) -> Result<Found, AllocError>
+    requires { length links.now ≤ 200000 }
+    ensures { IfOk result (λ found. IsFoundIn base.now links.now found) }
+{
+    let mut found = Found {
+        mementos: Vec::new(alloc),
+        further: Vec::new(alloc),
+        dropped: 0,
+    };
+    for k in 0..links.len() {
+        let link = links.link(k);
+        let rel = role::rel(alloc, &link)?;
+        found.add_memento(alloc, base, &link, &rel)?;
+        found.add_further(alloc, base, &link, &rel)?;
+    }
+    Ok(found)
+}
+
+/// The mementos in order, each once.
+fn in_order(mut mementos: Vec<Memento>) -> Result<Vec<Memento>, AllocError>
+    ensures { IfOk result (λ list. IsSetOf list.items mementos.items) }
+{
+    mementos.sort()?;
+    mementos.dedup();
+    Ok(mementos)
+}
+
+/// What these links say on a page at this base.
+fn page_of(alloc: Global, base: &Url, links: &Links<'_>) -> Result<Page, AllocError>
+    requires { length links.now ≤ 200000 }
+    ensures { IfOk result (λ page. IsPageOf base.now links.now page) }
+{
+    let found = find(alloc, base, links)?;
+    Ok(Page {
+        mementos: Items::of(in_order(found.mementos)?),
+        further: Items::of(firsts(alloc, found.further)?),
+        dropped: found.dropped,
+    })
+}
+
+fn read_base(alloc: Global, base: &str) -> Result<Url, PageFault>
+    ensures { MatchResult result (λ url. base_of base.now ≡ Some url)
+        (λ fault. ((fault ≡ PageFault.BadBase) × (base_of base.now ≡ None)) ⊎ (fault ≡ PageFault.NoMemory)) }
+{
+    if base.len() > MAX_BASE {
+        return Err(PageFault::BadBase);
+    }
+    let url = match Url::parse(alloc, base) {
+        Ok(url) => url,
+        Err(ParseError::OutOfMemory | ParseError::Overflow) => return Err(PageFault::NoMemory),
+        Err(_) => return Err(PageFault::BadBase),
+    };
+    if is_http(&url) {
+        Ok(url)
+    } else {
+        Err(PageFault::BadBase)
+    }
+}
+
+/// Reads a page of an archive's TimeMap that was fetched from the base: a body in link-format
+/// (RFC 6690), with the relation types of RFC 7089.
+///
+/// - A link with the relation type `memento` names a memento: its first `datetime`, an IMF-fixdate,
+///   and its target.
+/// - A link with the relation type `timemap` and without `self` names a further TimeMap, unless its
+///   first `type` is another than `application/link-format`.
+/// - A target that begins with `http://` or `https://` is kept as it is; any other is joined to the
+///   base. A further TimeMap's address loses its fragment. Bytes that aren't clean are escaped.
+/// - A link from which a memento or a further TimeMap can't be read is left out and counted.
+///
+/// Time and memory grow with the body and with what is read from it. Beside the body stand some 60
+/// bytes a link and 60 a memento, and the addresses. A relative target is as long as the base once
+/// it is joined: 8 KB for each link in the worst case, so that a page of 3 MB can name 1.6 GB.
+pub fn read_page(alloc: Global, base: &str, body: &[u8]) -> Result<Page, PageFault>
+    ensures { IsAnswer base.now body.now result }
+{
+    if body.len() > MAX_PAGE {
+        return Err(PageFault::TooLong);
+    }
+    let links = match read_links(alloc, body) {
+        Ok(links) => links,
+        Err(LinkFault::NoMemory) => return Err(PageFault::NoMemory),
+        Err(fault) => return Err(PageFault::Links(fault)),
+    };
+    let url = read_base(alloc, base)?;
+    Ok(page_of(alloc, &url, &links)?)
+}

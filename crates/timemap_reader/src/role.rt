@@ -1,0 +1,152 @@
+//! What a link of a page is, by its relation types.
+ghost use Rattle.std.specs.Prelude.{◌≡◌, Some, IfOk, codes};
+ghost use Rattle.link_format.specs.Values.{first_value};
+ghost use Rattle.timemap_reader.specs.Role as spec;
+
+use crate::address::{before_byte, further_address, is_same_word, memento_address};
+use link_format::LinkRef;
+use memento_time::{Clean, Memento, Moment};
+use std::alloc::{AllocError, Global};
+use url::Url;
+
+/// Which bytes are blank.
+#[derive(Clone, Copy)]
+enum Blanks {
+    /// Those round a datetime.
+    OfDates,
+    /// Those between relation types and round a media type.
+    OfLinks,
+}
+
+impl Blanks {
+    fn has(self, byte: u8) -> bool
+        ensures { result ≡ spec.is_blank self byte }
+    {
+        match self {
+            Blanks::OfDates => matches!(byte, b' ' | b'\t'),
+            Blanks::OfLinks => matches!(byte, b' ' | b'\t' | b'\r' | b'\n'),
+        }
+    }
+}
+
+/// The text without the blanks at its start.
+fn trim_start(blanks: Blanks, text: &[u8]) -> &[u8]
+    ensures { result.now ≡ spec.trim_start blanks text.now }
+{
+    let mut rest = text;
+    while let [first, after @ ..] = rest {
+        if !blanks.has(*first) {
+            return rest;
+        }
+        rest = after;
+    }
+    rest
+}
+
+/// The text without the blanks at its end.
+fn trim_end(blanks: Blanks, text: &[u8]) -> &[u8]
+    ensures { result.now ≡ spec.trim_end blanks text.now }
+{
+    let mut rest = text;
+    while let [before @ .., last] = rest {
+        if !blanks.has(*last) {
+            return rest;
+        }
+        rest = before;
+    }
+    rest
+}
+
+fn trim(blanks: Blanks, text: &[u8]) -> &[u8]
+    ensures { result.now ≡ spec.trim blanks text.now }
+{
+    trim_end(blanks, trim_start(blanks, text))
+}
+
+/// Whether the relation type is one of those that the value of `rel` lists.
+fn lists(rel: &[u8], name: &[u8]) -> bool
+    ensures { result ≡ spec.lists name.now rel.now }
+{
+    rel.split(|byte| Blanks::OfLinks.has(*byte))
+        .any(|word| is_same_word(word, name))
+}
+
+fn is_link_format(media_type: &[u8]) -> bool
+    ensures { result ≡ spec.is_link_format (Some media_type.now) }
+{
+    is_same_word(
+        trim(Blanks::OfLinks, before_byte(media_type, b';')),
+        b"application/link-format",
+    )
+}
+
+fn has_link_format(link: &LinkRef<'_>) -> Result<bool, AllocError>
+    ensures { IfOk result (λ found. found ≡ spec.is_link_format (first_value (codes "type") link.now.params)) }
+{
+    match link.value(b"type")? {
+        Some(media_type) => Ok(is_link_format(&media_type)),
+        None => Ok(true),
+    }
+}
+
+/// The value of the link's first `rel`, or an empty one.
+pub(crate) fn rel(alloc: Global, link: &LinkRef<'_>) -> Result<Vec<u8>, AllocError>
+    ensures { IfOk result (λ rel. rel.items ≡ spec.rel_of link.now) }
+{
+    match link.value(b"rel")? {
+        Some(rel) => Ok(rel),
+        None => Ok(Vec::new(alloc)),
+    }
+}
+
+/// Whether a link with this `rel` names a memento.
+pub(crate) fn is_memento_link(rel: &[u8]) -> bool
+    ensures { result ≡ spec.lists (codes "memento") rel.now }
+{
+    lists(rel, b"memento")
+}
+
+/// Whether the link, whose `rel` this is, names a further TimeMap.
+pub(crate) fn is_further_link(link: &LinkRef<'_>, rel: &[u8]) -> Result<bool, AllocError>
+    requires { rel.now ≡ spec.rel_of link.now }
+    ensures { IfOk result (λ further. further ≡ spec.is_further_link link.now) }
+{
+    Ok(lists(rel, b"timemap") && !lists(rel, b"self") && has_link_format(link)?)
+}
+
+fn datetime(link: &LinkRef<'_>) -> Result<Option<Moment>, AllocError>
+    ensures { IfOk result (λ at. at ≡ spec.datetime_of link.now) }
+{
+    match link.value(b"datetime")? {
+        Some(text) => Ok(Moment::read_imf(trim(Blanks::OfDates, &text))),
+        None => Ok(None),
+    }
+}
+
+/// The memento that the link names; None where its datetime or its address can't be read.
+pub(crate) fn memento(
+    alloc: Global,
+    base: &Url,
+    link: &LinkRef<'_>,
+) -> Result<Option<Memento>, AllocError>
+    ensures { IfOk result (λ named. named ≡ spec.memento_of base.now link.now) }
+{
+    let Some(at) = datetime(link)? else {
+        return Ok(None);
+    };
+    match memento_address(alloc, base, link.target())? {
+        Some(uri) => Ok(Some(Memento { at, uri })),
+        None => Ok(None),
+    }
+}
+
+/// The address of the further TimeMap that the link names; None where it can't be read.
+pub(crate) fn further(
+    alloc: Global,
+    base: &Url,
+    link: &LinkRef<'_>,
+) -> Result<Option<Clean>, AllocError>
+    ensures { IfOk result (λ named. named ≡ spec.further_of base.now link.now) }
+{
+    further_address(alloc, base, link.target())
+}
