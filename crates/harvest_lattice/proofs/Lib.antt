@@ -1,0 +1,11 @@
+pub mod Semilattice
+pub mod Maps
+pub mod Sets
+pub mod Entries
+pub mod Knowledge
+pub mod Ordered
+pub mod RowLemmas
+pub mod Shown
+pub mod Choice
+pub mod Lists
+pub mod Rising

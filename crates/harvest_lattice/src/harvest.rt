@@ -1,0 +1,127 @@
+ghost use Rattle.std.specs.Prelude.{◌≡◌, ◌<◌, ◌≤◌, IfOk, IsErrOf, length};
+ghost use Rattle.harvest_lattice.specs.Sets as set;
+
+use crate::latest::Latest;
+use memento_time::{ArchiveName, Memento, NoMemory, Original};
+use std::error::Error;
+use std::fmt;
+use std::marker::Model;
+
+/// Why mementos are no harvest.
+#[derive(Clone, Copy, Debug, PartialEq, Eq)]
+pub enum HarvestFault {
+    /// There are more than 100,000 distinct mementos.
+    TooMany,
+    NoMemory,
+}
+
+impl fmt::Display for HarvestFault {
+    fn fmt<W: fmt::Write>(&self, f: &mut fmt::Formatter<W>) -> fmt::Result {
+        match self {
+            HarvestFault::TooMany => f.write_str("too many mementos"),
+            HarvestFault::NoMemory => f.write_str("no memory"),
+        }
+    }
+}
+
+impl Error for HarvestFault {}
+
+impl From<NoMemory> for HarvestFault {
+    ghost use Rattle.harvest_lattice.specs.declared.harvest.HarvestFault.TheVariants.{NoMemory as OutOfMemory};
+
+    ghost from_gives = { λ _ fault. fault ≡ OutOfMemory };
+
+    fn from(_refused: NoMemory) -> HarvestFault {
+        HarvestFault::NoMemory
+    }
+}
+
+/// What an archive had of an original at a revision.
+#[derive(Debug, Drop)]
+pub struct Harvest {
+    archive: ArchiveName,
+    original: Original,
+    latest: Latest,
+}
+
+impl Model for Harvest {
+    ghost use Rattle.harvest_lattice.specs.Knowledge.{Harvested, coded_harvested};
+
+    ghost Value = { Harvested };
+
+    ghost coded = { coded_harvested };
+
+    ghost view = { λ h. record { archive = h.archive; original = h.original; revision = h.latest.revision; mementos = h.latest.mementos } };
+}
+
+impl Harvest {
+    /// The most distinct mementos of a harvest.
+    pub const MAX_MEMENTOS: usize = 100_000;
+
+    /// Takes mementos in any order, each as often as it comes.
+    pub fn new(
+        archive: ArchiveName,
+        original: &Original,
+        revision: u64,
+        mementos: Vec<Memento>,
+    ) -> Result<Harvest, HarvestFault>
+        ensures kept { IfOk result (λ h. h ≡ record { archive = archive; original = original.now; revision = revision; mementos = set.from_list mementos.items }) }
+        ensures few { IfOk result (λ h. length (set.items h.mementos) ≤ 100000) }
+        ensures too_many { IsErrOf result HarvestFault.TooMany → 100000 < length (set.items (set.from_list mementos.items)) }
+    {
+        let original = original.try_clone()?;
+        let latest = Latest::of(revision, mementos)?;
+        if latest.mementos().len() > Harvest::MAX_MEMENTOS {
+            return Err(HarvestFault::TooMany);
+        }
+        Ok(Harvest {
+            archive,
+            original,
+            latest,
+        })
+    }
+
+    pub fn archive(&self) -> ArchiveName
+        ensures { result ≡ self.now.archive }
+    {
+        self.archive
+    }
+
+    pub fn original(&self) -> &Original
+        ensures { result.now ≡ self.now.original }
+    {
+        &self.original
+    }
+
+    pub fn revision(&self) -> u64
+        ensures { result ≡ self.now.revision }
+    {
+        self.latest.revision()
+    }
+
+    /// Each once, by datetime, then by URI.
+    pub fn mementos(&self) -> &[Memento]
+        ensures { result.now ≡ set.items self.now.mementos }
+    {
+        self.latest.mementos()
+    }
+
+    // What a state of this harvest alone has of its archive and original.
+    pub fn latest(&self) -> &Latest
+        ensures { result.now ≡ record { revision = self.now.revision; mementos = self.now.mementos } }
+    {
+        &self.latest
+    }
+
+    pub fn try_clone(&self) -> Result<Harvest, NoMemory>
+        ensures { IfOk result (λ copy. copy ≡ self.now) }
+    {
+        let original = self.original.try_clone()?;
+        let latest = self.latest.try_clone()?;
+        Ok(Harvest {
+            archive: self.archive,
+            original,
+            latest,
+        })
+    }
+}

@@ -1,0 +1,161 @@
+//! A state with the list of each original at hand.
+ghost use Rattle.std.specs.Prelude.{◌≡◌, ◌++◌, List, OnOk, OnErr, IfOk, option_copied};
+ghost use Rattle.harvest_lattice.specs.Sets as set;
+ghost use Rattle.harvest_lattice.specs.Lattice.{join};
+ghost use Rattle.harvest_lattice.specs.Knowledge.{Harvested, lat, shown, shown_of};
+ghost use Rattle.harvest_lattice.specs.Choice.{nearest, last};
+ghost use Rattle.harvest_lattice.specs.Lists.{list_of, AllListed};
+
+use crate::harvest::Harvest;
+use crate::nearest::{last_of, nearest_of};
+use crate::state::State;
+use memento_time::{Memento, Moment, NoMemory, Original};
+use std::alloc::Global;
+use std::marker::Model;
+
+/// What an index takes in.
+#[derive(Debug, Drop)]
+pub enum Merge {
+    Harvest(Harvest),
+    State(State),
+}
+
+impl Merge {
+    pub fn try_clone(&self) -> Result<Merge, NoMemory>
+        ensures { IfOk result (λ copy. copy ≡ self.now) }
+    {
+        match self {
+            Merge::Harvest(harvest) => {
+                let copy = harvest.try_clone()?;
+                Ok(Merge::Harvest(copy))
+            }
+            Merge::State(state) => {
+                let copy = state.try_clone()?;
+                Ok(Merge::State(copy))
+            }
+        }
+    }
+}
+
+/// The list of an original.
+#[derive(Debug, Drop)]
+pub struct Listed {
+    pub original: Original,
+    pub mementos: Vec<Memento>,
+}
+
+/// A state, and for each of its originals the mementos that it shows.
+#[derive(Debug, Drop)]
+pub struct Index {
+    alloc: Global,
+    state: State,
+    lists: Vec<Listed>,
+}
+
+impl Model for Index {
+    ghost use Rattle.std.specs.FinMap as map;
+    ghost use Rattle.harvest_lattice.specs.Lattice.{Entries, coded_key, coded_kept};
+
+    ghost Value = { Entries };
+
+    ghost coded = { map.code coded_key coded_kept };
+
+    ghost use Rattle.harvest_lattice.specs.Lists.{AllListed};
+
+    ghost view = { λ i. i.state };
+
+    ghost invariant = { λ i. AllListed i.state i.lists.items };
+}
+
+impl Index {
+    ghost use Rattle.std.specs.FinMap as map;
+    ghost use Rattle.harvest_lattice.specs.Merges.{adds_of};
+
+    pub fn new(alloc: Global) -> Index
+        ensures { result ≡ map.empty }
+    {
+        Index {
+            alloc,
+            state: State::new(alloc),
+            lists: Vec::new(alloc),
+        }
+    }
+
+    /// Takes a harvest, or all that a state has.
+    pub fn absorb(&mut self, merge: &Merge) -> Result<(), NoMemory>
+        ensures ok { OnOk result (self.new ≡ join self.old (lat (adds_of merge.now))) }
+        ensures stands { (hs : List Harvested) → self.old ≡ lat hs → OnOk result (self.new ≡ lat (hs ++ adds_of merge.now)) }
+        ensures err { OnErr result (self.new ≡ self.old) }
+    {
+        let mut state = self.state.try_clone()?;
+        match merge {
+            Merge::Harvest(harvest) => state.merge(harvest)?,
+            Merge::State(other) => state.join(other)?,
+        }
+        let lists = lists_of(self.alloc, &state)?;
+        *self = Index {
+            alloc: self.alloc,
+            state,
+            lists,
+        };
+        Ok(())
+    }
+
+    /// The mementos that are shown of an original, each once, by datetime, then by URI.
+    pub fn list(&self, original: &Original) -> &[Memento]
+        ensures list { result.now ≡ set.items (shown_of self.now original.now) }
+        ensures stands { (hs : List Harvested) → self.now ≡ lat hs → result.now ≡ set.items (shown hs original.now) }
+    {
+        find(&self.lists, original)
+    }
+
+    /// The memento at the least distance in seconds; of two as far the earlier, and at one
+    /// datetime that with the least URI. None where nothing is shown.
+    pub fn nearest(&self, original: &Original, moment: Moment) -> Option<&Memento>
+        ensures nearest { option_copied result ≡ nearest (shown_of self.now original.now) moment }
+        ensures stands { (hs : List Harvested) → self.now ≡ lat hs → option_copied result ≡ nearest (shown hs original.now) moment }
+    {
+        nearest_of(self.list(original), moment)
+    }
+
+    /// The memento of the greatest datetime, there that with the least URI. None where nothing
+    /// is shown.
+    pub fn latest(&self, original: &Original) -> Option<&Memento>
+        ensures last { option_copied result ≡ last (shown_of self.now original.now) }
+        ensures stands { (hs : List Harvested) → self.now ≡ lat hs → option_copied result ≡ last (shown hs original.now) }
+    {
+        last_of(self.list(original))
+    }
+
+    pub fn state(&self) -> &State
+        ensures { result.now ≡ self.now }
+    {
+        &self.state
+    }
+}
+
+// The list of an original, or none.
+fn find<'a>(lists: &'a [Listed], original: &Original) -> &'a [Memento]
+    ensures { result.now ≡ list_of lists.now original.now }
+{
+    for listed in lists {
+        if listed.original == *original {
+            return &listed.mementos;
+        }
+    }
+    &[]
+}
+
+// The lists of a state's originals.
+fn lists_of(alloc: Global, state: &State) -> Result<Vec<Listed>, NoMemory>
+    ensures { IfOk result (λ lists. AllListed state.now lists.items) }
+{
+    let mut lists = Vec::new(alloc);
+    for k in 0..state.len() {
+        let (_, original) = state.key(k);
+        let mementos = state.shown(original)?;
+        let original = original.try_clone()?;
+        lists.push(Listed { original, mementos })?;
+    }
+    Ok(lists)
+}

@@ -1,0 +1,75 @@
+//! Laws of the definitions.
+ghost use Rattle.std.specs.Prelude.{◌≡◌, ℕ, ◌++◌, ◌↔◌, List, [], IsTrue, MatchOption};
+ghost use Rattle.std.specs.List.Sorted.{IsStrictlySortedBy};
+ghost use Rattle.memento_time.specs.Mementos.{memento_cmp};
+ghost use Rattle.memento_time.specs.declared.mementos.Memento.{Memento};
+ghost use Rattle.harvest_lattice.specs.Sets as set;
+ghost use Rattle.harvest_lattice.specs.Choice.{IsNearest, IsLast, nearest, last};
+ghost use Rattle.std.specs.List.{Contains};
+ghost use Rattle.harvest_lattice.specs.Knowledge.{Harvested, IsShown, adds, lat, shown, shown_of};
+ghost use Rattle.harvest_lattice.specs.Lattice.{Entries, Mementos, AtMost, join};
+
+/// `AtMost` is a partial order.
+pub fn states_are_ordered()
+    ensures reflexive { (x : Entries) → AtMost x x }
+    ensures transitive { (x y z : Entries) → AtMost x y → AtMost y z → AtMost x z }
+    ensures antisymmetric { (x y : Entries) → AtMost x y → AtMost y x → x ≡ y }
+{}
+
+/// A join is the least of the states that both are at most.
+pub fn join_is_least_upper_bound()
+    ensures left { (x y : Entries) → AtMost x (join x y) }
+    ensures right { (x y : Entries) → AtMost y (join x y) }
+    ensures least { (x y z : Entries) → AtMost x z → AtMost y z → AtMost (join x y) z }
+{}
+
+/// Neither order, nor grouping, nor repetition makes a difference to a join.
+pub fn join_is_a_semilattice()
+    ensures commutative { (x y : Entries) → join x y ≡ join y x }
+    ensures associative { (x y z : Entries) → join (join x y) z ≡ join x (join y z) }
+    ensures idempotent { (x : Entries) → join x x ≡ x }
+{}
+
+/// The state of two sets of harvests together is the join of their states.
+pub fn state_of_a_union()
+    ensures { (hs gs : List Harvested) → lat (hs ++ gs) ≡ join (lat hs) (lat gs) }
+{}
+
+/// The state of harvests depends on which they are, and not on their order or repetition.
+pub fn state_of_a_set()
+    ensures { (hs gs : List Harvested) → ((h : Harvested) → Contains hs h ↔ Contains gs h) → lat hs ≡ lat gs }
+{}
+
+/// A state is that of its own entries as harvests.
+pub fn state_of_a_state()
+    ensures { (x : Entries) → lat (adds x) ≡ x }
+{}
+
+/// What harvests show of an original is what their state has of it.
+pub fn state_shows_the_same()
+    ensures { (hs : List Harvested) (original : List ℕ) → shown hs original ≡ shown_of (lat hs) original }
+{}
+
+/// There is one nearest memento, unless there is none at all.
+pub fn one_is_nearest()
+    ensures is { (mementos : Mementos) (t : ℕ) → MatchOption (nearest mementos t) (set.items mementos ≡ []) (IsNearest mementos t) }
+    ensures once { (mementos : Mementos) (t : ℕ) (m n : Memento) → IsNearest mementos t m → IsNearest mementos t n → m ≡ n }
+{}
+
+/// There is one last memento, unless there is none at all.
+pub fn one_is_last()
+    ensures is { (mementos : Mementos) → MatchOption (last mementos) (set.items mementos ≡ []) (IsLast mementos) }
+    ensures once { (mementos : Mementos) (m n : Memento) → IsLast mementos m → IsLast mementos n → m ≡ n }
+{}
+
+/// A sorted list of the members of a set, each once, is the one that `items` gives.
+pub fn one_list_of_a_set()
+    ensures sorted { (mementos : Mementos) → IsStrictlySortedBy memento_cmp (set.items mementos) }
+    ensures once { (list : List Memento) → IsStrictlySortedBy memento_cmp list → set.items (set.from_list {R = memento_cmp} list) ≡ list }
+    ensures members { (list : List Memento) (m : Memento) → IsTrue (set.contains (set.from_list {R = memento_cmp} list) m) ↔ Contains list m }
+{}
+
+/// What is shown of an original is what its latest harvests have.
+pub fn the_latest_are_shown()
+    ensures { (hs : List Harvested) (original : List ℕ) (m : Memento) → IsTrue (set.contains (shown hs original) m) ↔ IsShown hs original m }
+{}

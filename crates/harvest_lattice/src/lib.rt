@@ -1,0 +1,22 @@
+//! Harvests, and the lattice of what replicas keep of them.
+#![tactic(auto)]
+
+mod harvest;
+mod index;
+mod latest;
+mod laws;
+mod mementos;
+mod nearest;
+mod place;
+mod row;
+mod state;
+
+pub use harvest::{Harvest, HarvestFault};
+pub use index::{Index, Merge};
+pub use laws::{
+    join_is_a_semilattice, join_is_least_upper_bound, one_is_last, one_is_nearest,
+    one_list_of_a_set, state_of_a_set, state_of_a_state, state_of_a_union, state_shows_the_same,
+    states_are_ordered, the_latest_are_shown,
+};
+pub use row::{Entry, Row, Rows};
+pub use state::State;
