@@ -1,4 +1,5 @@
 ghost use Rattle.std.specs.Prelude.{◌≡◌, ◌<◌, ◌≤◌, IfOk, IsErrOf, length};
+ghost use Rattle.memento_time.specs.Mementos.{memento_cmp};
 ghost use Rattle.harvest_lattice.specs.Sets as set;
 
 use crate::latest::Latest;
@@ -67,7 +68,7 @@ impl Harvest {
     ) -> Result<Harvest, HarvestFault>
         ensures kept { IfOk result (λ h. h ≡ record { archive = archive; original = original.now; revision = revision; mementos = set.from_list mementos.items }) }
         ensures few { IfOk result (λ h. length (set.items h.mementos) ≤ 100000) }
-        ensures too_many { IsErrOf result HarvestFault.TooMany → 100000 < length (set.items (set.from_list mementos.items)) }
+        ensures too_many { IsErrOf result HarvestFault.TooMany → 100000 < length (set.items (set.from_list {R = memento_cmp} mementos.items)) }
     {
         let original = original.try_clone()?;
         let latest = Latest::of(revision, mementos)?;

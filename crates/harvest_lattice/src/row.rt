@@ -101,10 +101,13 @@ pub struct Rows<'a> {
 
 impl<'a> Model for Rows<'a> {
     ghost use Rattle.std.specs.Prelude.{List, map};
-    ghost use Rattle.harvest_lattice.specs.Lattice.{Key, Kept};
+    ghost use Rattle.std.specs.Coded.{coded_list, coded×};
+    ghost use Rattle.harvest_lattice.specs.Lattice.{Key, Kept, coded_key, coded_kept};
     ghost use Rattle.harvest_lattice.specs.Rows.{row_entry};
 
     ghost Value = { List (Key × Kept) };
+
+    ghost coded = { coded_list (coded× coded_key coded_kept) };
 
     ghost view = { λ rows. map row_entry rows.rest.now };
 }

@@ -8,6 +8,5 @@ use Rattle.harvest_lattice.proofs.mementos.united.Goals as goal
 
 pub returns-clause-members : goal.returns-clause-members
 returns-clause-members c =
-    let whole : c.append.new.self.items ≡ c.args.left.now ++ c.args.right.now =
-    c.in_ok-append.ensures.items ∙ (λ i. c.in_ok-both.ensures i ++ c.in_ok-more.ensures i) in
+    let whole : c.both-3-1.items ≡ c.args.left.now ++ c.args.right.now = ? in
     subst (λ (s : Mementos). IfOk c.in_order.result (λ list. set.from_list {R = memento_cmp} list.items ≡ s)) (ap (λ (xs : List Memento). set.from_list {R = memento_cmp} xs) whole ∙ set-append c.args.left.now c.args.right.now) c.in_order.ensures.members
