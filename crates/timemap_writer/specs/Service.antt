@@ -1,0 +1,36 @@
+-- Which texts name the base of a service, and what is kept of them.
+use Rattle.std.specs.Prelude.{ℕ, Bool, ◌&&◌, ◌||◌, not, ◌==◌, nat_lt, nat_le, List, length, codes, bytes_eq, is_none, IsTrue, Result, Ok, Err, Option, Some, None, if◌then◌else◌}
+use Rattle.std.specs.List.{list_all}
+use Rattle.url.specs.Parts.{Parts, text_between}
+use Rattle.url.specs.Parser.{parse_url}
+use Rattle.url.specs.Input.{is_empty}
+use Rattle.url.specs.declared.slicing.Position.TheVariants.{BeforeScheme, BeforePath}
+
+-- a visible ASCII character but `"`, `<` and `>`
+abbrev pub is_clean_byte : ℕ → Bool
+is_clean_byte b = nat_le 0x21 b && nat_le b 0x7E && not (b == 0x22) && not (b == 0x3C) && not (b == 0x3E)
+
+-- a clean text of 1 to 256 bytes
+abbrev pub is_base : List ℕ → Bool
+is_base text = nat_lt 0 (length text) && nat_le (length text) 256 && list_all is_clean_byte text
+
+abbrev pub IsBase : List ℕ → Type 0
+IsBase text = IsTrue (is_base text)
+
+-- a URL of `http` or `https` that has the path `/`, and no user, password, query or fragment
+abbrev pub is_bare : Parts → Bool
+is_bare url =
+    (bytes_eq url.scheme (codes "http") || bytes_eq url.scheme (codes "https"))
+    && is_empty url.username && is_empty url.password
+    && bytes_eq url.path (codes "/") && is_none url.query && is_none url.fragment
+
+-- what is written of such a URL before its path: the scheme, the host, and the port where it isn't the scheme's own
+abbrev pub base_of_parsed : {E : Type 0} → Result Parts E → Option (List ℕ)
+base_of_parsed (Err e) = None
+base_of_parsed (Ok url) =
+    let base = text_between url BeforeScheme BeforePath in
+    if is_bare url && is_base base then Some base else None
+
+-- the base that a text of at most 4,096 bytes names
+unfoldable pub base_of : List ℕ → Option (List ℕ)
+base_of text = if nat_le (length text) 4096 then base_of_parsed (parse_url None text) else None

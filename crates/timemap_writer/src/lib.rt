@@ -1,0 +1,12 @@
+//! What a TimeGate and TimeMap server writes of mementos: the TimeMap of an original (RFC 7089, section 5) in
+//! link-format (RFC 6690), the `Link` header of a redirect, and the base under which both are served.
+#![tactic(auto)]
+
+mod lines;
+mod service;
+#[cfg(test)]
+mod tests;
+mod timemap;
+
+pub use service::{Service, ServiceFault};
+pub use timemap::{write_gate_links, write_timemap};

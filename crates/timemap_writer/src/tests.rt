@@ -1,0 +1,66 @@
+use super::*;
+use memento_time::{Clean, Memento, Moment, Original};
+use std::test::Fail;
+
+fn memento(rt: &HostRuntime, at: u64, uri: &[u8]) -> Result<Memento, Fail> {
+    let at = Moment::from_secs(at).ok_or("no moment")?;
+    let uri = Clean::new(rt.alloc(), uri)?;
+    Ok(Memento { at, uri })
+}
+
+#[test]
+fn bases(rt: HostRuntime) -> Result<(), Fail> {
+    let service = Service::new(rt.alloc(), "http://agg.example")?.try_clone()?;
+    assert_eq!(rt; service.base(), b"http://agg.example".as_slice());
+    let service = Service::new(rt.alloc(), "HTTPS://Agg.Example:8443/")?;
+    assert_eq!(rt; service.base(), b"https://agg.example:8443".as_slice());
+    for refused in [
+        "http://agg.example/x",
+        "http://agg.example/?",
+        "http://u@agg.example",
+        "ftp://agg.example",
+    ] {
+        let fault = Service::new(rt.alloc(), refused).err();
+        assert_eq!(rt; fault, Some(ServiceFault::BadBase));
+    }
+    Ok(())
+}
+
+#[test]
+fn timemap(rt: HostRuntime) -> Result<(), Fail> {
+    let service = Service::new(rt.alloc(), "http://agg.example")?;
+    let original = Original::new(rt.alloc(), b"http://a.example/")?;
+    let one = memento(
+        &rt,
+        946_684_800,
+        b"http://arc.example/web/20000101000000/http://a.example/",
+    )?;
+    let text = write_timemap(rt.alloc(), &service, &original, &[one])?;
+    assert_eq!(rt;
+        text.as_slice(),
+        b"<http://a.example/>; rel=\"original\",
+<http://agg.example/timegate/http://a.example/>; rel=\"timegate\",
+<http://agg.example/timemap/link/http://a.example/>; rel=\"self\"; type=\"application/link-format\"; from=\"Sat, 01 Jan 2000 00:00:00 GMT\"; until=\"Sat, 01 Jan 2000 00:00:00 GMT\",
+<http://arc.example/web/20000101000000/http://a.example/>; rel=\"first last memento\"; datetime=\"Sat, 01 Jan 2000 00:00:00 GMT\"
+"
+            .as_slice()
+    );
+    assert_eq!(rt; text.len(), 402);
+    assert_eq!(rt; text.capacity(), 402);
+    Ok(())
+}
+
+#[test]
+fn gate_links(rt: HostRuntime) -> Result<(), Fail> {
+    let service = Service::new(rt.alloc(), "http://agg.example")?;
+    let original = Original::new(rt.alloc(), b"http://a.example/")?;
+    let one = memento(&rt, 946_684_800, b"http://m.example/1")?;
+    let two = memento(&rt, 946_857_600, b"http://m.example/2")?;
+    let links = write_gate_links(rt.alloc(), &service, &original, &[one, two])?;
+    assert_eq!(rt;
+        links.as_slice(),
+        b"<http://a.example/>; rel=\"original\", <http://agg.example/timemap/link/http://a.example/>; rel=\"timemap\"; type=\"application/link-format\"; from=\"Sat, 01 Jan 2000 00:00:00 GMT\"; until=\"Mon, 03 Jan 2000 00:00:00 GMT\"".as_slice()
+    );
+    assert_eq!(rt; links.capacity(), links.len());
+    Ok(())
+}
