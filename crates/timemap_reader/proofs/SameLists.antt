@@ -1,5 +1,5 @@
 -- Two lists in order with the same members are one; so a page is one.
-use Rattle.std.proofs.Common.{◌≡◌, ℕ, ◌<◌, ◌⊎◌, ◌↔◌, List, [], ◌∷◌, ◌++◌, Some, Ok, Contains, inl, inr, ⊎_elim, refl, sym, ap, subst, ◌∙◌, arith}
+use Rattle.std.proofs.Common.{◌≡◌, ℕ, ◌⊎◌, ◌↔◌, List, [], ◌∷◌, Ok, Contains, inl, inr, ⊎_elim, refl, sym, ap, subst, ◌∙◌, arith}
 use Rattle.std.specs.declared.cmp.Ordering.{Ordering}
 use Rattle.std.specs.declared.cmp.Ordering.TheVariants.{Less, Greater}
 use Rattle.std.specs.Cmp.{IsTotalOrder}
@@ -9,7 +9,7 @@ use Rattle.std.proofs.lemmas.Option.{same_Some}
 use Rattle.std.proofs.lemmas.Map.Keys.{sorted_head}
 use Rattle.std.proofs.lemmas.List.Elements.{All-contains, All-from_recursion, Contains-append_left, Contains-append_right, Contains-append_cases, Contains-push, Contains-push_cases}
 use Rattle.url.specs.Parts.{Parts}
-use Rattle.memento_time.specs.contracts.mementos.MementoOrd.TheImpl.Laws.{total-law}
+use Rattle.memento_time.proofs.MementoLemmas.{memento_cmp_total}
 use Rattle.link_format.specs.Grammar.{Link}
 use Rattle.link_format.proofs.Complete.{reading_complete}
 use Rattle.timemap_reader.specs.declared.page.Page.{Page}
@@ -60,7 +60,7 @@ module _ {K : Type 0} {R : K → K → Ordering} (o : IsTotalOrder R) where
 
 same_page : (url : Parts) (links : List Link) (page other : Page) → IsPageOf url links page → IsPageOf url links other → page ≡ other
 same_page url links page other p q =
-    let mementos = same_list total-law page.mementos other.mementos p.mementos.sorted q.mementos.sorted (λ m. (
+    let mementos = same_list memento_cmp_total page.mementos other.mementos p.mementos.sorted q.mementos.sorted (λ m. (
       (λ c. (q.mementos.same m).1 ((p.mementos.same m).0 c)),
       (λ c. (p.mementos.same m).1 ((q.mementos.same m).0 c)),
     )) in

@@ -1,5 +1,5 @@
 -- The original resource that a text names (RFC 7089, section 1.1): an http or https URL without its fragment, as `url` reads and writes it, in clean text.
-use Rattle.std.specs.Prelude.{ℕ, nat_lt, List, length, Result, Ok, Err, Option, Some, None, if◌then◌else◌}
+use Rattle.std.specs.Prelude.{ℕ, nat_lt, List, length, Result, Ok, Err, Option, None, if◌then◌else◌}
 use Rattle.std.specs.Result.{result_ok}
 use Rattle.url.specs.Parts.{Parts, text_between}
 use Rattle.url.specs.Parser.{parse_url}
