@@ -1,0 +1,4 @@
+pub mod Places
+pub mod Worlds
+pub mod Replies
+pub mod Questions

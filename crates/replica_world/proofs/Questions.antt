@@ -1,0 +1,54 @@
+-- Two questions after a run.
+use Rattle.std.proofs.Common.{◌≡◌, ℕ, List, [], ◌∷◌, refl, sym, ap, subst, ◌∙◌, Ok, Err, inl, inr}
+use Rattle.std.specs.Prelude.{Option, Some, None, MatchOption, ◌⊎◌}
+use Rattle.harvest_lattice.specs.Knowledge.{lat}
+use Rattle.timegate.specs.declared.reply.Request.{Request}
+use Rattle.timegate.specs.declared.reply.Reply.{Reply}
+use Rattle.timegate.specs.Reply.{reply}
+use Rattle.replica_world.specs.declared.event.Event.{Event}
+use Rattle.replica_world.specs.declared.event.Event.TheVariants.{Ask}
+use Rattle.replica_world.specs.declared.event.Said.TheVariants.{Replied}
+use Rattle.replica_world.specs.declared.event.Refused.TheVariants.{NoReplica}
+use Rattle.replica_world.specs.World.{World, Replica, Answer, Run, Step, Effect, Refuses, Accepts, replica, start}
+use Rattle.replica_world.specs.Stands.{Kept, Stands, Steps, Runs}
+use Rattle.replica_world.specs.Agreement.{HasTaken, Gives}
+use Rattle.replica_world.specs.Asked.{AgreeAfter}
+use Rattle.replica_world.proofs.Replies.{agreement, redirects}
+
+-- a question leaves the world as it is
+effect_stays : (base : List ℕ) (w : World) (q : Request) (answer : Answer) (next : World) (o : Option Replica)
+    → MatchOption o (Refuses NoReplica w answer next) (λ r. Accepts (Replied (reply base r.taken q)) w answer next) → next ≡ w
+effect_stays base w q answer next None effect = effect.1
+effect_stays base w q answer next (Some r) effect = effect.1
+
+stays : (base : List ℕ) (w : World) (i : ℕ) (q : Request) (answer : Answer) (next : World) → Step base w (Ask i q) answer next → next ≡ w
+stays base w i q answer next (inl effect) = effect_stays base w q answer next (replica w i) effect
+stays base w i q answer next (inr out) = out.1
+
+question : (base : List ℕ) (kept : Kept) (w : World) (i : ℕ) (q : Request) (answer : Answer) → kept.base ≡ base → Stands kept w → Steps kept (Ask i q) answer kept → Step base w (Ask i q) answer w
+question base kept w i q answer base_is stands steps =
+    let led = steps.leads w stands in
+    let step : Step base w (Ask i q) answer led.next = subst (λ (b : List ℕ). Step b w (Ask i q) answer led.next) base_is led.step in
+    subst (λ (next : World). Step base w (Ask i q) answer next) (stays base w i q answer led.next step) step
+
+pub agree_after : (base : List ℕ) (count : ℕ) (events : List Event) (q : Request) (i j : ℕ) (first after : Kept) (answers : List Answer) (one other : Answer)
+    → Stands first (start count) → first.base ≡ base → Runs first events answers after → Steps after (Ask i q) one after → Steps after (Ask j q) other after
+    → AgreeAfter base count events q i j (one, other)
+agree_after base count events q i j first after answers one other stands base_is runs left right =
+    let led = runs.leads (start count) stands in
+    let after_is : after.base ≡ base = runs.base ∙ base_is in
+    let asked_one = question base after led.end i q one after_is led.stands left in
+    let asked_other = question base after led.end j q other after_is led.stands right in
+    record {
+      answers = answers;
+      world = led.end;
+      run = subst (λ (b : List ℕ). Run b (start count) events answers led.end) base_is led.run;
+      first = asked_one;
+      second = asked_other;
+      agree = λ known know r s i_is j_is same one_is other_is.
+          (agreement base led.end i j known know i_is j_is same).replies q r s
+          (record { next = led.end; asked = subst (λ (a : Answer). Step base led.end (Ask i q) a led.end) one_is asked_one })
+          (record { next = led.end; asked = subst (λ (a : Answer). Step base led.end (Ask j q) a led.end) other_is asked_other });
+      redirects = λ known r i_is one_is status.
+          redirects base led.end i known i_is q r (record { next = led.end; asked = subst (λ (a : Answer). Step base led.end (Ask i q) a led.end) one_is asked_one }) status;
+    }

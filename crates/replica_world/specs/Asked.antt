@@ -1,0 +1,20 @@
+-- What two replicas answer to one request after a list of events.
+use Rattle.std.specs.Prelude.{◌≡◌, ℕ, List, Ok}
+use Rattle.harvest_lattice.specs.Knowledge.{lat}
+use Rattle.timegate.specs.declared.reply.Reply.{Reply}
+use Rattle.timegate.specs.declared.reply.Request.{Request}
+use Rattle.replica_world.specs.declared.event.Event.{Event}
+use Rattle.replica_world.specs.declared.event.Event.TheVariants.{Ask}
+use Rattle.replica_world.specs.declared.event.Said.TheVariants.{Replied}
+use Rattle.replica_world.specs.World.{Knowledge, World, Answer, Step, Run, start}
+use Rattle.replica_world.specs.Agreement.{HasTaken, Redirects}
+
+-- after the events stands a world in which both replicas are asked; where both have the same state and reply, the replies are the same, and a redirect names a nearest memento
+pub record AgreeAfter (base : List ℕ) (count : ℕ) (events : List Event) (q : Request) (i j : ℕ) (said : Answer × Answer) : Type 0 where
+  pub answers : List Answer
+  pub world : World
+  pub run : Run base (start count) events answers world
+  pub first : Step base world (Ask i q) said.0 world
+  pub second : Step base world (Ask j q) said.1 world
+  pub agree : (known other : Knowledge) (r s : Reply) → HasTaken world i known → HasTaken world j other → lat known ≡ lat other → said.0 ≡ Ok (Replied r) → said.1 ≡ Ok (Replied s) → r ≡ s
+  pub redirects : (known : Knowledge) (r : Reply) → HasTaken world i known → said.0 ≡ Ok (Replied r) → r.status ≡ 302 → Redirects known q r

@@ -1,0 +1,16 @@
+//! A Memento aggregator of several replicas in one memory, as events make it: replicas take harvests, send each other
+//! what they have taken, restart, and are asked.
+//!
+//! `World` runs lists of events. `replicas_agree` is what they are for: replicas that have taken the same harvests
+//! reply alike.
+#![tactic(auto)]
+
+mod agreement;
+mod asked;
+mod event;
+mod world;
+
+pub use agreement::replicas_agree;
+pub use asked::asked_after;
+pub use event::{Answer, Event, Refused, Said};
+pub use world::World;
