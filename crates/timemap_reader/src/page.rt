@@ -143,7 +143,7 @@ fn find(alloc: Global, base: &Url, links: &Links<'_>) -> Result<Found, AllocErro
     };
     for k in 0..links.len() {
         let link = links.link(k);
-        let rel = role::rel(alloc, &link)?;
+        let rel = role::rel(&link)?;
         found.add_memento(alloc, base, &link, &rel)?;
         found.add_further(alloc, base, &link, &rel)?;
     }

@@ -1,5 +1,6 @@
 //! What a link of a page is, by its relation types.
 ghost use Rattle.std.specs.Prelude.{◌≡◌, Some, IfOk, codes};
+ghost use Rattle.std.specs.Cow.{cow_slice_items};
 ghost use Rattle.link_format.specs.Values.{first_value};
 ghost use Rattle.timemap_reader.specs.Role as spec;
 
@@ -7,6 +8,7 @@ use crate::address::{before_byte, further_address, is_same_word, memento_address
 use link_format::LinkRef;
 use memento_time::{Clean, Memento, Moment};
 use std::alloc::{AllocError, Global};
+use std::borrow::CowSlice;
 use url::Url;
 
 /// Which bytes are blank.
@@ -83,19 +85,19 @@ fn is_link_format(media_type: &[u8]) -> bool
 fn has_link_format(link: &LinkRef<'_>) -> Result<bool, AllocError>
     ensures { IfOk result (λ found. found ≡ spec.is_link_format (first_value (codes "type") link.now.params)) }
 {
-    match link.value(b"type")? {
+    match link.value_ref(b"type")? {
         Some(media_type) => Ok(is_link_format(&media_type)),
         None => Ok(true),
     }
 }
 
 /// The value of the link's first `rel`, or an empty one.
-pub(crate) fn rel(alloc: Global, link: &LinkRef<'_>) -> Result<Vec<u8>, AllocError>
-    ensures { IfOk result (λ rel. rel.items ≡ spec.rel_of link.now) }
+pub(crate) fn rel<'a>(link: &LinkRef<'a>) -> Result<CowSlice<'a, u8>, AllocError>
+    ensures { IfOk result (λ rel. cow_slice_items rel ≡ spec.rel_of link.now) }
 {
-    match link.value(b"rel")? {
+    match link.value_ref(b"rel")? {
         Some(rel) => Ok(rel),
-        None => Ok(Vec::new(alloc)),
+        None => Ok(CowSlice::Borrowed(&[])),
     }
 }
 
@@ -117,7 +119,7 @@ pub(crate) fn is_further_link(link: &LinkRef<'_>, rel: &[u8]) -> Result<bool, Al
 fn datetime(link: &LinkRef<'_>) -> Result<Option<Moment>, AllocError>
     ensures { IfOk result (λ at. at ≡ spec.datetime_of link.now) }
 {
-    match link.value(b"datetime")? {
+    match link.value_ref(b"datetime")? {
         Some(text) => Ok(Moment::read_imf(trim(Blanks::OfDates, &text))),
         None => Ok(None),
     }

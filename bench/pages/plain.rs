@@ -1,0 +1,347 @@
+//! Reads a page of a TimeMap as a plain Rust program does: the yardstick for `read_page`.
+//!
+//! `rustc -O plain.rs && ./plain BASE < page` prints how many mementos and further TimeMaps the page
+//! names, and how many links were left out. It does the same job as `read_page`, with the standard
+//! library alone: relative targets are joined for the forms that archives use.
+
+use std::collections::HashSet;
+use std::io::Read;
+
+const MAX_PAGE: usize = 8_388_608;
+const MAX_LINKS: usize = 200_000;
+const MAX_PARAMS: usize = 32;
+const MAX_ADDRESS: usize = 8_192;
+
+#[derive(Debug)]
+enum Fault {
+    TooLong,
+    NotLinkFormat(usize),
+    TooManyLinks,
+    TooManyParams,
+    TargetTooLong,
+}
+
+struct Link<'a> {
+    target: &'a [u8],
+    params: Vec<(&'a [u8], Option<Value<'a>>)>,
+}
+
+#[derive(Clone, Copy)]
+enum Value<'a> {
+    Plain(&'a [u8]),
+    Escaped(&'a [u8]),
+}
+
+impl Value<'_> {
+    fn bytes(&self) -> std::borrow::Cow<'_, [u8]> {
+        match self {
+            Value::Plain(text) => (*text).into(),
+            Value::Escaped(text) => {
+                let mut bytes = Vec::new();
+                let mut rest = text.iter();
+                while let Some(byte) = rest.next() {
+                    bytes.extend(if *byte == b'\\' { rest.next() } else { Some(byte) });
+                }
+                bytes.into()
+            }
+        }
+    }
+}
+
+fn is_blank(byte: u8) -> bool {
+    matches!(byte, b' ' | b'\t' | b'\r' | b'\n')
+}
+
+fn is_name_byte(byte: u8) -> bool {
+    byte.is_ascii_alphanumeric() || b"!#$&*+-.^_`|~".contains(&byte)
+}
+
+fn is_token_byte(byte: u8) -> bool {
+    byte.is_ascii_graphic() && !matches!(byte, b'"' | b',' | b';' | b'\\')
+}
+
+fn is_quotable(byte: u8) -> bool {
+    byte >= 0x20 && byte != 0x7f || matches!(byte, b'\t' | b'\r' | b'\n')
+}
+
+struct Scanner<'a> {
+    text: &'a [u8],
+    at: usize,
+}
+
+impl<'a> Scanner<'a> {
+    fn peek(&self) -> Option<u8> {
+        self.text.get(self.at).copied()
+    }
+
+    fn take_while(&mut self, test: impl Fn(u8) -> bool) -> &'a [u8] {
+        let start = self.at;
+        while self.at < self.text.len() && test(self.text[self.at]) {
+            self.at += 1;
+        }
+        &self.text[start..self.at]
+    }
+
+    fn blanks(&mut self) {
+        self.take_while(is_blank);
+    }
+
+    fn eat(&mut self, byte: u8) -> bool {
+        let found = self.peek() == Some(byte);
+        self.at += usize::from(found);
+        found
+    }
+
+    fn fault<T>(&self) -> Result<T, Fault> {
+        Err(Fault::NotLinkFormat(self.at))
+    }
+
+    fn value(&mut self) -> Result<Value<'a>, Fault> {
+        if !self.eat(b'"') {
+            let token = self.take_while(is_token_byte);
+            return if token.is_empty() { self.fault() } else { Ok(Value::Plain(token)) };
+        }
+        let start = self.at;
+        let mut escaped = false;
+        loop {
+            match self.peek() {
+                Some(b'"') => break,
+                Some(b'\\') => {
+                    escaped = true;
+                    self.at += 1;
+                    if !self.peek().is_some_and(is_quotable) {
+                        return self.fault();
+                    }
+                    self.at += 1;
+                }
+                Some(byte) if is_quotable(byte) => self.at += 1,
+                _ => return self.fault(),
+            }
+        }
+        let text = &self.text[start..self.at];
+        self.at += 1;
+        Ok(if escaped { Value::Escaped(text) } else { Value::Plain(text) })
+    }
+
+    fn link(&mut self) -> Result<Link<'a>, Fault> {
+        let target = self.take_while(|byte| byte >= 0x20 && byte != b'>' && byte != 0x7f);
+        if !self.eat(b'>') {
+            return self.fault();
+        }
+        let mut params = Vec::new();
+        loop {
+            self.blanks();
+            if !self.eat(b';') {
+                return Ok(Link { target, params });
+            }
+            self.blanks();
+            let name = self.take_while(is_name_byte);
+            if name.is_empty() {
+                continue;
+            }
+            self.blanks();
+            let value = if self.eat(b'=') {
+                self.blanks();
+                Some(self.value()?)
+            } else {
+                None
+            };
+            params.push((name, value));
+        }
+    }
+}
+
+fn read_links(text: &[u8]) -> Result<Vec<Link<'_>>, Fault> {
+    let mut scanner = Scanner { text, at: 0 };
+    let mut links = Vec::new();
+    let mut too_many = false;
+    loop {
+        scanner.blanks();
+        if scanner.eat(b'<') {
+            let link = scanner.link()?;
+            if links.len() < MAX_LINKS {
+                links.push(link);
+            } else {
+                too_many = true;
+            }
+        }
+        if !scanner.eat(b',') {
+            break;
+        }
+    }
+    if scanner.at < text.len() {
+        scanner.fault()
+    } else if too_many {
+        Err(Fault::TooManyLinks)
+    } else if links.iter().any(|link| link.params.len() > MAX_PARAMS) {
+        Err(Fault::TooManyParams)
+    } else if links.iter().any(|link| link.target.len() > MAX_ADDRESS) {
+        Err(Fault::TargetTooLong)
+    } else {
+        Ok(links)
+    }
+}
+
+impl Link<'_> {
+    fn value(&self, name: &str) -> Option<std::borrow::Cow<'_, [u8]>> {
+        let (_, value) = self
+            .params
+            .iter()
+            .find(|(known, _)| known.eq_ignore_ascii_case(name.as_bytes()))?;
+        Some(value.as_ref().map_or((&[][..]).into(), Value::bytes))
+    }
+}
+
+/// The seconds since 1970 that an IMF-fixdate names, whatever the name of its day.
+fn read_imf(text: &[u8]) -> Option<u64> {
+    const DAYS: [&[u8]; 7] = [b"Mon", b"Tue", b"Wed", b"Thu", b"Fri", b"Sat", b"Sun"];
+    const MONTHS: [&[u8]; 12] = [
+        b"Jan", b"Feb", b"Mar", b"Apr", b"May", b"Jun", b"Jul", b"Aug", b"Sep", b"Oct", b"Nov", b"Dec",
+    ];
+    let number = |from: usize, to: usize| {
+        text[from..to].iter().try_fold(0u64, |number, digit| {
+            digit.is_ascii_digit().then(|| number * 10 + u64::from(digit - b'0'))
+        })
+    };
+    if text.len() != 29 || !DAYS.contains(&&text[..3]) || &text[3..5] != b", " || &text[25..] != b" GMT" {
+        return None;
+    }
+    if [text[7], text[11], text[16]] != [b' '; 3] || [text[19], text[22]] != [b':'; 2] {
+        return None;
+    }
+    let month = MONTHS.iter().position(|name| *name == &text[8..11])? as u64 + 1;
+    let (day, year) = (number(5, 7)?, number(12, 16)?);
+    let (hour, minute, second) = (number(17, 19)?, number(20, 22)?, number(23, 25)?);
+    let leap = year % 4 == 0 && (year % 100 != 0 || year % 400 == 0);
+    let length = match month {
+        2 => 28 + u64::from(leap),
+        4 | 6 | 9 | 11 => 30,
+        _ => 31,
+    };
+    if year < 1970 || day < 1 || day > length || hour > 23 || minute > 59 || second > 59 {
+        return None;
+    }
+    let year_from_march = year - u64::from(month < 3);
+    let day_of_year = (153 * ((month + 9) % 12) + 2) / 5 + day - 1;
+    let days = year_from_march * 365 + year_from_march / 4 - year_from_march / 100
+        + year_from_march / 400 + day_of_year - 719_468;
+    Some(days * 86_400 + hour * 3_600 + minute * 60 + second)
+}
+
+fn is_http_target(target: &[u8]) -> bool {
+    let starts = |start: &[u8]| {
+        target.get(..start.len()).is_some_and(|front| front.eq_ignore_ascii_case(start))
+    };
+    starts(b"http://") || starts(b"https://")
+}
+
+fn clean(text: &[u8]) -> Option<String> {
+    let mut clean = String::with_capacity(text.len());
+    for byte in text {
+        match byte {
+            b'"' | b'<' | b'>' => clean.push_str(&format!("%{byte:02X}")),
+            0x21..=0x7e => clean.push(*byte as char),
+            _ => clean.push_str(&format!("%{byte:02X}")),
+        }
+    }
+    (clean.len() <= MAX_ADDRESS).then_some(clean)
+}
+
+/// The address of a target, before its bytes are cleaned.
+fn address(base: &str, target: &[u8]) -> Option<Vec<u8>> {
+    if is_http_target(target) {
+        return Some(target.to_vec());
+    }
+    let target = std::str::from_utf8(target).ok()?;
+    if target.contains(':') {
+        return None;
+    }
+    let host_end = base.find("//").map(|at| at + 2 + base[at + 2..].find('/').unwrap_or(base.len() - at - 2))?;
+    let joined = match target.as_bytes() {
+        [b'/', b'/', ..] => format!("http:{target}"),
+        [b'/', ..] => format!("{}{target}", &base[..host_end]),
+        _ => format!("{}/{target}", base.rsplit_once('/').map_or(base, |(folder, _)| folder)),
+    };
+    Some(joined.into_bytes())
+}
+
+#[derive(PartialEq, Eq, PartialOrd, Ord)]
+struct Memento {
+    at: u64,
+    uri: String,
+}
+
+#[derive(Default)]
+struct Page {
+    mementos: Vec<Memento>,
+    further: Vec<String>,
+    dropped: u64,
+}
+
+fn trim(text: &[u8], is_cut: impl Fn(u8) -> bool) -> &[u8] {
+    let start = text.iter().position(|byte| !is_cut(*byte)).unwrap_or(text.len());
+    let end = text.iter().rposition(|byte| !is_cut(*byte)).map_or(start, |at| at + 1);
+    &text[start..end]
+}
+
+fn memento(base: &str, link: &Link) -> Option<Memento> {
+    let at = read_imf(trim(&link.value("datetime")?, |byte| byte == b' ' || byte == b'\t'))?;
+    let uri = if is_http_target(link.target) {
+        clean(link.target)
+    } else {
+        clean(&address(base, link.target)?)
+    };
+    Some(Memento { at, uri: uri? })
+}
+
+fn further(base: &str, link: &Link) -> Option<String> {
+    let address = address(base, link.target)?;
+    let end = address.iter().position(|byte| *byte == b'#').unwrap_or(address.len());
+    clean(&address[..end])
+}
+
+fn read_page(base: &str, body: &[u8]) -> Result<Page, Fault> {
+    if body.len() > MAX_PAGE {
+        return Err(Fault::TooLong);
+    }
+    let mut page = Page::default();
+    let mut seen = HashSet::new();
+    for link in read_links(body)? {
+        let rel = link.value("rel").unwrap_or_default();
+        let has = |name: &str| {
+            rel.split(|byte| is_blank(*byte)).any(|word| word.eq_ignore_ascii_case(name.as_bytes()))
+        };
+        if has("memento") {
+            match memento(base, &link) {
+                Some(memento) => page.mementos.push(memento),
+                None => page.dropped += 1,
+            }
+        }
+        let is_link_format = |value: &[u8]| {
+            let media_type = value.split(|byte| *byte == b';').next().unwrap_or_default();
+            trim(media_type, is_blank).eq_ignore_ascii_case(b"application/link-format")
+        };
+        if has("timemap") && !has("self") && link.value("type").is_none_or(|value| is_link_format(&value)) {
+            match further(base, &link) {
+                Some(address) => {
+                    if seen.insert(address.clone()) {
+                        page.further.push(address);
+                    }
+                }
+                None => page.dropped += 1,
+            }
+        }
+    }
+    page.mementos.sort();
+    page.mementos.dedup();
+    Ok(page)
+}
+
+fn main() -> Result<(), Fault> {
+    let base = std::env::args().nth(1).unwrap_or("http://arc.example/list".to_string());
+    let mut body = Vec::new();
+    std::io::stdin().read_to_end(&mut body).expect("standard input");
+    let page = read_page(&base, &body)?;
+    println!("{} {} {}", page.mementos.len(), page.further.len(), page.dropped);
+    Ok(())
+}
