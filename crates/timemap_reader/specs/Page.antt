@@ -1,5 +1,5 @@
 -- What a page of a TimeMap says (RFC 7089, section 5): its mementos, its further TimeMaps, and how many links were left out.
-use Rattle.std.specs.Prelude.{◌≡◌, ℕ, ◌+◌, ◌↔◌, Bool, not, List, [], ◌∷◌, bytes_eq, Option, Contains, count_by}
+use Rattle.std.specs.Prelude.{◌≡◌, ℕ, ◌+◌, ◌↔◌, Bool, List, Option, Contains, count_by}
 use Rattle.std.specs.List.{filter, filter_map}
 use Rattle.std.specs.List.Sorted.{IsStrictlySortedBy}
 use Rattle.std.specs.Option.{is_none}
@@ -8,12 +8,8 @@ use Rattle.memento_time.specs.declared.mementos.Memento.{Memento}
 use Rattle.memento_time.specs.Mementos.{memento_cmp}
 use Rattle.link_format.specs.Grammar.{Link}
 use Rattle.timemap_reader.specs.declared.page.Page.{Page}
+use Rattle.timemap_reader.specs.Firsts.{firsts}
 use Rattle.timemap_reader.specs.Role.{is_memento_link, is_further_link, memento_of, further_of}
-
--- each text once, where it stands first
-abbrev pub firsts : List (List ℕ) → List (List ℕ)
-firsts [] = []
-firsts (x ∷ xs) = x ∷ filter (λ y. not (bytes_eq y x)) (firsts xs)
 
 -- the list has the same members, in order and each once
 pub record IsSetOf (list members : List Memento) : Type 0 where
