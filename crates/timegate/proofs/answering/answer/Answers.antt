@@ -1,0 +1,16 @@
+use Rattle.std.proofs.Common.{◌≡◌, subst}
+use Rattle.std.specs.Prelude.{IfOk}
+use Rattle.harvest_lattice.specs.Knowledge.{shown_of}
+use Rattle.timegate.specs.declared.route.Route.{Route}
+use Rattle.timegate.specs.Reply.{reply_of, routed}
+use Rattle.timegate.proofs.Replies.{known_reply}
+use Rattle.timegate.proofs.answering.answer.Goals as goal
+
+pub returns-clause-state : goal.returns-clause-state
+unfolding reply_of
+returns-clause-state c =
+    let P : Route → Type 0 = λ route. IfOk c.routed.result (λ answer. answer ≡ routed c.args.service.now (shown_of c.args.index.now) c.args.request.now route) in
+    subst P c.in_ok-route.ensures c.routed.ensures
+
+pub returns-clause-knowledge : goal.returns-clause-knowledge
+returns-clause-knowledge c = λ known is. known_reply c.args.service.now c.args.index.now known c.args.request.now c.routed.result is (returns-clause-state c)

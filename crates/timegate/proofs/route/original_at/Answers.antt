@@ -1,0 +1,26 @@
+use Rattle.std.proofs.Common.{◌≡◌, ℕ, List, Bool, true, false, refl, sym, ap, ◌∙◌, Ok, Some, None, inl, inr}
+use Rattle.std.specs.Prelude.{IsUtf8}
+use Rattle.std.specs.Str.{is_utf8}
+use Rattle.std.proofs.lemmas.Bool.{cases_Bool}
+use Rattle.std.proofs.lemmas.Str.{IsUtf8-from_is_utf8, is_utf8-from_IsUtf8}
+use Rattle.timemap_reader.specs.Original.{original_reading, original_of}
+use Rattle.timegate.specs.Route.{original_at}
+use Rattle.timegate.proofs.route.original_at.Goals as goal
+
+not_text : (bytes : List ℕ) → ¬ IsUtf8 bytes → None ≡ original_at bytes
+not_text bytes other =
+    elim (cases_Bool (is_utf8 bytes)) [
+      | inl is ↦ absurd (other (IsUtf8-from_is_utf8 bytes is))
+      | inr is ↦ rw is refl
+    ]
+
+named : (bytes text original : List ℕ) → text ≡ bytes → IsUtf8 bytes → original_reading text ≡ Ok original → Some original ≡ original_at bytes
+named bytes text original same utf8 reading =
+    let is : is_utf8 bytes ≡ true = is_utf8-from_IsUtf8 bytes utf8 in
+    rw (is, ← same, reading) refl
+
+pub returns-in_default : goal.returns-in_default
+returns-in_default c = not_text c.args.bytes.now c.in_default.ensures.cases.0
+
+pub returns-in-Ok-read_original : goal.returns-in-Ok-read_original
+returns-in-Ok-read_original c = named c.args.bytes.now c.in-Ok.text.now c.in-Ok-read_original.original c.in-Ok.ensures.cases.0 c.in-Ok.ensures.cases.1 c.in-Ok-read_original.ensures.read

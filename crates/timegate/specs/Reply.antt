@@ -1,0 +1,77 @@
+-- The reply to each request (RFC 7089, sections 4 and 5), from the harvests that are known.
+use Rattle.std.specs.Prelude.{ℕ, List, [], ◌∷◌, ◌++◌, Option, None, Some, length, codes, if◌then◌else◌, ◌==◌}
+use Rattle.memento_time.specs.declared.mementos.Memento.{Memento}
+use Rattle.harvest_lattice.specs.Sets as set
+use Rattle.harvest_lattice.specs.Lattice.{Mementos, Entries}
+use Rattle.harvest_lattice.specs.Knowledge.{Harvested, shown, shown_of}
+use Rattle.harvest_lattice.specs.Choice.{nearest, last}
+use Rattle.timemap_writer.specs.TimeMap.{timemap_text, gate_links}
+use Rattle.timegate.specs.declared.reply.Reply.{Reply}
+use Rattle.timegate.specs.declared.reply.Header.{Header}
+use Rattle.timegate.specs.declared.reply.Header.TheVariants.{Allow, Vary, Location, Link, ContentType}
+use Rattle.timegate.specs.declared.request.Request.{Request}
+use Rattle.timegate.specs.declared.route.Route.{Route}
+use Rattle.timegate.specs.declared.route.Route.TheVariants.{BadMethod, NoRoute, BadOriginal, BadDatetime, TimeGate, TimeMap}
+use Rattle.timegate.specs.Route.{is_head, is_timegate, route_of}
+
+-- the name of a header field
+abbrev pub header_name : Header → List ℕ
+header_name Allow = codes "Allow"
+header_name Vary = codes "Vary"
+header_name Location = codes "Location"
+header_name Link = codes "Link"
+header_name ContentType = codes "Content-Type"
+
+abbrev pub Headers : Type 0
+Headers = List (Header × List ℕ)
+
+-- HEAD has the status and the headers, and no body
+abbrev pub answered : Request → ℕ → Headers → List ℕ → Reply
+answered q status headers body = record { status = status; headers = headers; body = if is_head q then [] else body }
+
+-- whatever a TimeGate says depends on the datetime that is asked for
+abbrev pub vary : Request → Headers
+vary q = if is_timegate q then (Vary, codes "accept-datetime") ∷ [] else []
+
+-- a short text
+abbrev pub told : Request → ℕ → Headers → List ℕ → Reply
+told q status headers text = answered q status (headers ++ vary q ++ (ContentType, codes "text/plain") ∷ []) text
+
+abbrev pub bad_method : Request → Reply
+bad_method q = told q 405 ((Allow, codes "GET, HEAD") ∷ []) (codes "bad method\n")
+
+-- the nearest memento to the second that is asked for, or the last where none is
+abbrev pub chosen : Mementos → Option ℕ → Option Memento
+chosen mementos None = last mementos
+chosen mementos (Some second) = nearest mementos second
+
+abbrev pub redirect : List ℕ → Request → List ℕ → Mementos → Option Memento → Reply
+redirect base q original mementos None = told q 404 [] (codes "no memento\n")
+redirect base q original mementos (Some m) =
+    answered q 302 (vary q ++ (Location, m.uri) ∷ (Link, gate_links base original (set.items mementos)) ∷ []) []
+
+abbrev pub timemap : List ℕ → Request → List ℕ → List Memento → Reply
+timemap base q original mementos =
+    if length mementos == 0 then told q 404 [] (codes "no memento\n")
+    else answered q 200 ((ContentType, codes "application/link-format") ∷ []) (timemap_text base original mementos)
+
+-- by what is asked for, from what is shown of each original
+abbrev pub routed : List ℕ → (List ℕ → Mementos) → Request → Route → Reply
+routed base shows q BadMethod = bad_method q
+routed base shows q NoRoute = told q 404 [] (codes "no such route\n")
+routed base shows q BadOriginal = told q 400 [] (codes "bad original\n")
+routed base shows q BadDatetime = told q 400 [] (codes "bad datetime\n")
+routed base shows q (TimeGate original asked) = redirect base q original (shows original) (chosen (shows original) asked)
+routed base shows q (TimeMap original) = timemap base q original (set.items (shows original))
+
+-- the reply of one that has taken these harvests
+unfoldable pub reply : List ℕ → List Harvested → Request → Reply
+reply base known q = routed base (shown known) q (route_of q)
+
+-- the reply of one that has this state
+unfoldable pub reply_of : List ℕ → Entries → Request → Reply
+reply_of base entries q = routed base (shown_of entries) q (route_of q)
+
+-- the text of an original's TimeMap
+abbrev pub timemap_of : List ℕ → List Harvested → List ℕ → List ℕ
+timemap_of base known original = timemap_text base original (set.items (shown known original))

@@ -1,0 +1,56 @@
+-- What a request asks for: the TimeGate or the TimeMap of an original, or the reason that it is refused.
+use Rattle.std.specs.Prelude.{ℕ, Bool, not, ◌&&◌, List, [], ◌∷◌, Option, None, Some, drop, length, codes, bytes_eq, nat_eq, if◌then◌else◌}
+use Rattle.std.specs.List.{starts_with}
+use Rattle.std.specs.Str.{is_utf8}
+use Rattle.memento_time.specs.SecondOf.{asked_of}
+use Rattle.timemap_reader.specs.Original.{original_of}
+use Rattle.timegate.specs.declared.request.Request.{Request}
+use Rattle.timegate.specs.declared.route.Route.{Route}
+use Rattle.timegate.specs.declared.route.Route.TheVariants.{BadMethod, NoRoute, BadOriginal, BadDatetime, TimeGate, TimeMap}
+
+abbrev pub is_get : Request → Bool
+is_get q = bytes_eq q.method (codes "GET")
+
+abbrev pub is_head : Request → Bool
+is_head q = bytes_eq q.method (codes "HEAD")
+
+-- where TimeGates stand, each followed by its original
+abbrev pub timegates : List ℕ
+timegates = codes "/timegate/"
+
+-- where TimeMaps in link-format stand, each followed by its original
+abbrev pub timemaps : List ℕ
+timemaps = codes "/timemap/link/"
+
+abbrev pub is_timegate : Request → Bool
+is_timegate q = starts_with nat_eq q.target timegates
+
+abbrev pub is_timemap : Request → Bool
+is_timemap q = starts_with nat_eq q.target timemaps
+
+-- the original that bytes name
+abbrev pub original_at : List ℕ → Option (List ℕ)
+original_at bytes = if is_utf8 bytes then original_of bytes else None
+
+-- a TimeGate is asked for one datetime that can be read (a date before 1970 asks for the first second), or for none
+abbrev pub datetime_route : List ℕ → Option ℕ → Route
+datetime_route original None = BadDatetime
+datetime_route original (Some second) = TimeGate original (Some second)
+
+-- by the values of Accept-Datetime
+abbrev pub timegate_route : List (List ℕ) → List ℕ → Route
+timegate_route [] original = TimeGate original None
+timegate_route (value ∷ []) original = datetime_route original (asked_of value)
+timegate_route (value ∷ next ∷ values) original = BadDatetime
+
+-- what stands at an original, if there is one
+abbrev pub original_route : (List ℕ → Route) → Option (List ℕ) → Route
+original_route route None = BadOriginal
+original_route route (Some original) = route original
+
+unfoldable pub route_of : Request → Route
+route_of q =
+    if not (is_get q) && not (is_head q) then BadMethod
+    else if is_timegate q then original_route (timegate_route q.asked) (original_at (drop (length timegates) q.target))
+    else if is_timemap q then original_route TimeMap (original_at (drop (length timemaps) q.target))
+    else NoRoute

@@ -1,0 +1,176 @@
+//! The reply to a request.
+ghost use Rattle.std.specs.Prelude.{◌≡◌, ◌++◌, [], List, IfOk, OnOk, option_copied};
+ghost use Rattle.harvest_lattice.specs.Sets as set;
+ghost use Rattle.harvest_lattice.specs.Knowledge.{Harvested, lat, shown_of};
+ghost use Rattle.timegate.specs.Reply.{answered, vary, told, bad_method, redirect, timemap, routed, reply, reply_of};
+
+use crate::reply::{Header, Reply};
+use crate::request::Request;
+use crate::route::{Route, is_head, is_timegate, route_of};
+use harvest_lattice::Index;
+use memento_time::{Items, Memento, NoMemory, Octets, Original};
+use std::alloc::Global;
+use timemap_writer::{Service, write_gate_links, write_timemap};
+
+/// The reply to a request, by the first of these that fits:
+///
+/// | Request | Status | Body |
+/// |---|---|---|
+/// | a method other than `GET` and `HEAD` | 405, with `Allow` | `bad method` |
+/// | a target that begins neither with `/timegate/` nor with `/timemap/link/` | 404 | `no such route` |
+/// | a rest of the target that names no original | 400 | `bad original` |
+/// | a TimeGate that is asked for two datetimes, or for one that can't be read | 400 | `bad datetime` |
+/// | an original of which no memento is shown | 404 | `no memento` |
+/// | a TimeGate | 302, with `Location` and `Link` | none |
+/// | a TimeMap | 200 | the TimeMap in link-format |
+///
+/// A TimeGate names the memento nearest to the moment that it is asked for, or else the latest. Whatever is said of
+/// a TimeGate has `Vary: accept-datetime`. The short texts end in a line feed. `HEAD` is answered as `GET` without
+/// the body.
+pub fn answer(
+    alloc: Global,
+    service: &Service,
+    index: &Index,
+    request: &Request,
+) -> Result<Reply, NoMemory>
+    ensures state { IfOk result (λ answer. answer ≡ reply_of service.now index.now request.now) }
+    ensures knowledge { (known : List Harvested) → index.now ≡ lat known →
+        IfOk result (λ answer. answer ≡ reply service.now known request.now) }
+{
+    let route = route_of(alloc, request)?;
+    routed(alloc, service, index, request, &route)
+}
+
+// The reply to what the request asks for.
+fn routed(
+    alloc: Global,
+    service: &Service,
+    index: &Index,
+    request: &Request,
+    route: &Route,
+) -> Result<Reply, NoMemory>
+    ensures { IfOk result (λ answer. answer ≡ routed service.now (shown_of index.now) request.now route.now) }
+{
+    match route {
+        Route::BadMethod => bad_method(alloc, request),
+        Route::NoRoute => told(alloc, request, 404, Vec::new(alloc), b"no such route\n"),
+        Route::BadOriginal => told(alloc, request, 400, Vec::new(alloc), b"bad original\n"),
+        Route::BadDatetime => told(alloc, request, 400, Vec::new(alloc), b"bad datetime\n"),
+        Route::TimeGate(original, asked) => {
+            let memento = match asked {
+                None => index.latest(original),
+                Some(moment) => index.nearest(original, *moment),
+            };
+            redirect(alloc, service, index, request, original, memento)
+        }
+        Route::TimeMap(original) => timemap(alloc, service, index, request, original),
+    }
+}
+
+// The redirect to a memento, if there is one.
+fn redirect(
+    alloc: Global,
+    service: &Service,
+    index: &Index,
+    request: &Request,
+    original: &Original,
+    memento: Option<&Memento>,
+) -> Result<Reply, NoMemory>
+    ensures { IfOk result (λ answer. answer
+        ≡ redirect service.now request.now original.now (shown_of index.now original.now) (option_copied memento.entry)) }
+{
+    let Some(memento) = memento else {
+        return told(alloc, request, 404, Vec::new(alloc), b"no memento\n");
+    };
+    let links = write_gate_links(alloc, service, original, index.list(original))?;
+    let mut headers = Vec::new(alloc);
+    push_vary(alloc, &mut headers, request)?;
+    headers.push((Header::Location, octets(alloc, memento.uri.as_bytes())?))?;
+    headers.push((Header::Link, Octets::of(links)))?;
+    Ok(answered(request, 302, headers, Vec::new(alloc)))
+}
+
+fn timemap(
+    alloc: Global,
+    service: &Service,
+    index: &Index,
+    request: &Request,
+    original: &Original,
+) -> Result<Reply, NoMemory>
+    ensures { IfOk result (λ answer. answer
+        ≡ timemap service.now request.now original.now (set.items (shown_of index.now original.now))) }
+{
+    let mementos = index.list(original);
+    if mementos.is_empty() {
+        return told(alloc, request, 404, Vec::new(alloc), b"no memento\n");
+    }
+    let text = if is_head(request) {
+        Vec::new(alloc)
+    } else {
+        write_timemap(alloc, service, original, mementos)?
+    };
+    let mut headers = Vec::new(alloc);
+    let kind = octets(alloc, b"application/link-format")?;
+    headers.push((Header::ContentType, kind))?;
+    Ok(answered(request, 200, headers, text))
+}
+
+fn bad_method(alloc: Global, request: &Request) -> Result<Reply, NoMemory>
+    ensures { IfOk result (λ answer. answer ≡ bad_method request.now) }
+{
+    let mut headers = Vec::new(alloc);
+    headers.push((Header::Allow, octets(alloc, b"GET, HEAD")?))?;
+    told(alloc, request, 405, headers, b"bad method\n")
+}
+
+// A short text, behind these headers.
+fn told(
+    alloc: Global,
+    request: &Request,
+    status: u16,
+    headers: Vec<(Header, Octets)>,
+    text: &[u8],
+) -> Result<Reply, NoMemory>
+    ensures { IfOk result (λ answer. answer ≡ told request.now status headers.items text.now) }
+{
+    let mut headers = headers;
+    push_vary(alloc, &mut headers, request)?;
+    headers.push((Header::ContentType, octets(alloc, b"text/plain")?))?;
+    let body = Vec::from_slice(alloc, text)?;
+    Ok(answered(request, status, headers, body))
+}
+
+// What a TimeGate says depends on the moment that is asked for.
+fn push_vary(
+    alloc: Global,
+    headers: &mut Vec<(Header, Octets)>,
+    request: &Request,
+) -> Result<(), NoMemory>
+    ensures { OnOk result (headers.new.items ≡ headers.old.items ++ vary request.now) }
+{
+    if is_timegate(request) {
+        headers.push((Header::Vary, octets(alloc, b"accept-datetime")?))?;
+    }
+    Ok(())
+}
+
+// HEAD is answered without the body.
+fn answered(request: &Request, status: u16, headers: Vec<(Header, Octets)>, body: Vec<u8>) -> Reply
+    ensures { result ≡ answered request.now status headers.items body.items }
+{
+    let mut body = body;
+    if is_head(request) {
+        body.clear();
+    }
+    Reply {
+        status,
+        headers: Items::of(headers),
+        body: Octets::of(body),
+    }
+}
+
+fn octets(alloc: Global, text: &[u8]) -> Result<Octets, NoMemory>
+    ensures { IfOk result (λ octets. octets ≡ text.now) }
+{
+    Ok(Octets::of(Vec::from_slice(alloc, text)?))
+}

@@ -1,0 +1,14 @@
+//! What a client of the service is answered: the redirects of a TimeGate and the TimeMaps of originals
+//! (RFC 7089, sections 4 and 5), to the byte.
+#![tactic(auto)]
+
+mod answering;
+mod laws;
+mod reply;
+mod request;
+mod route;
+
+pub use answering::answer;
+pub use laws::{redirects_name_the_nearest, replies_from_state, same_harvests_same_reply};
+pub use reply::{Header, Reply};
+pub use request::Request;

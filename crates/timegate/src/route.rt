@@ -1,0 +1,102 @@
+//! What a request asks for.
+ghost use Rattle.std.specs.Prelude.{◌≡◌, IfOk};
+ghost use Rattle.timegate.specs.Route.{is_get, is_head, is_timegate, is_timemap, original_at, timegate_route, route_of};
+
+use crate::request::Request;
+use memento_time::{Moment, NoMemory, Octets, Original};
+use std::alloc::Global;
+use std::str;
+use timemap_reader::{OriginalFault, read_original};
+
+const TIMEGATES: &[u8] = b"/timegate/";
+
+const TIMEMAPS: &[u8] = b"/timemap/link/";
+
+/// What a request asks for, or why it is refused.
+#[derive(Debug, Drop)]
+pub enum Route {
+    BadMethod,
+    NoRoute,
+    BadOriginal,
+    BadDatetime,
+    /// The TimeGate of an original, and the moment that is asked for, if one is.
+    TimeGate(Original, Option<Moment>),
+    /// The TimeMap of an original.
+    TimeMap(Original),
+}
+
+pub fn is_head(request: &Request) -> bool
+    ensures { result ≡ is_head request.now }
+{
+    request.method.as_slice() == b"HEAD".as_slice()
+}
+
+fn is_get(request: &Request) -> bool
+    ensures { result ≡ is_get request.now }
+{
+    request.method.as_slice() == b"GET".as_slice()
+}
+
+pub fn is_timegate(request: &Request) -> bool
+    ensures { result ≡ is_timegate request.now }
+{
+    request.target.as_slice().starts_with(b"/timegate/")
+}
+
+fn is_timemap(request: &Request) -> bool
+    ensures { result ≡ is_timemap request.now }
+{
+    request.target.as_slice().starts_with(b"/timemap/link/")
+}
+
+// The original that bytes name.
+fn original_at(alloc: Global, bytes: &[u8]) -> Result<Option<Original>, NoMemory>
+    ensures { IfOk result (λ original. original ≡ original_at bytes.now) }
+{
+    let Ok(text) = str::from_utf8(bytes) else {
+        return Ok(None);
+    };
+    match read_original(alloc, text) {
+        Ok(original) => Ok(Some(original)),
+        Err(OriginalFault::NoMemory) => Err(NoMemory),
+        Err(_) => Ok(None),
+    }
+}
+
+// The TimeGate of the original, by the values of `Accept-Datetime`.
+fn timegate_route(asked: &[Octets], original: Original) -> Route
+    ensures { result ≡ timegate_route asked.now original }
+{
+    match asked {
+        [] => Route::TimeGate(original, None),
+        [value] => match Moment::read_asked(value.as_slice()) {
+            Some(moment) => Route::TimeGate(original, Some(moment)),
+            None => Route::BadDatetime,
+        },
+        _ => Route::BadDatetime,
+    }
+}
+
+/// What the request asks for: the first refusal that fits, or the TimeGate or TimeMap.
+#[tactic(auto, unfolding(crate::specs::Route::route_of))]
+pub fn route_of(alloc: Global, request: &Request) -> Result<Route, NoMemory>
+    ensures { IfOk result (λ route. route ≡ route_of request.now) }
+{
+    if !is_get(request) && !is_head(request) {
+        return Ok(Route::BadMethod);
+    }
+    let target = request.target.as_slice();
+    if is_timegate(request) {
+        return match original_at(alloc, &target[10..])? {
+            None => Ok(Route::BadOriginal),
+            Some(original) => Ok(timegate_route(request.asked.as_slice(), original)),
+        };
+    }
+    if is_timemap(request) {
+        return match original_at(alloc, &target[14..])? {
+            None => Ok(Route::BadOriginal),
+            Some(original) => Ok(Route::TimeMap(original)),
+        };
+    }
+    Ok(Route::NoRoute)
+}
