@@ -9,11 +9,11 @@ use Rattle.replica_world.specs.declared.event.Event.{Event}
 use Rattle.replica_world.specs.declared.event.Event.TheVariants.{Ask}
 use Rattle.replica_world.specs.declared.event.Said.TheVariants.{Replied}
 use Rattle.replica_world.specs.declared.event.Refused.TheVariants.{NoReplica}
-use Rattle.replica_world.specs.World.{World, Replica, Answer, Run, Step, Effect, Refuses, Accepts, replica, start}
+use Rattle.replica_world.specs.World.{Knowledge, World, Replica, Answer, Run, Step, Effect, Refuses, Accepts, replica, start}
 use Rattle.replica_world.specs.Stands.{Kept, Stands, Steps, Runs}
 use Rattle.replica_world.specs.Agreement.{HasTaken, Gives}
 use Rattle.replica_world.specs.Asked.{AgreeAfter}
-use Rattle.replica_world.proofs.Replies.{agreement, redirects}
+use Rattle.replica_world.proofs.Replies.{same_state, agreement, redirects}
 
 -- a question leaves the world as it is
 effect_stays : (base : List ℕ) (w : World) (q : Request) (answer : Answer) (next : World) (o : Option Replica)
@@ -31,6 +31,9 @@ question base kept w i q answer base_is stands steps =
     let step : Step base w (Ask i q) answer led.next = subst (λ (b : List ℕ). Step b w (Ask i q) answer led.next) base_is led.step in
     subst (λ (next : World). Step base w (Ask i q) answer next) (stays base w i q answer led.next step) step
 
+replied : (base : List ℕ) (w : World) (i : ℕ) (q : Request) (answer : Answer) (r : Reply) → Step base w (Ask i q) answer w → answer ≡ Ok (Replied r) → Gives base w i q r
+replied base w i q answer r step is = record { next = w; asked = subst (λ (a : Answer). Step base w (Ask i q) a w) is step }
+
 pub agree_after : (base : List ℕ) (count : ℕ) (events : List Event) (q : Request) (i j : ℕ) (first after : Kept) (answers : List Answer) (one other : Answer)
     → Stands first (start count) → first.base ≡ base → Runs first events answers after → Steps after (Ask i q) one after → Steps after (Ask j q) other after
     → AgreeAfter base count events q i j (one, other)
@@ -39,16 +42,16 @@ agree_after base count events q i j first after answers one other stands base_is
     let after_is : after.base ≡ base = runs.base ∙ base_is in
     let asked_one = question base after led.end i q one after_is led.stands left in
     let asked_other = question base after led.end j q other after_is led.stands right in
+    let same : (known know : Knowledge) (r s : Reply) → HasTaken led.end i known → HasTaken led.end j know → lat known ≡ lat know → one ≡ Ok (Replied r) → other ≡ Ok (Replied s) → r ≡ s =
+    λ known know r s i_is j_is same one_is other_is.
+    (agreement base led.end i j known know i_is j_is same).replies q r s (replied base led.end i q one r asked_one one_is) (replied base led.end j q other s asked_other other_is) in
     record {
       answers = answers;
       world = led.end;
       run = subst (λ (b : List ℕ). Run b (start count) events answers led.end) base_is led.run;
       first = asked_one;
       second = asked_other;
-      agree = λ known know r s i_is j_is same one_is other_is.
-          (agreement base led.end i j known know i_is j_is same).replies q r s
-          (record { next = led.end; asked = subst (λ (a : Answer). Step base led.end (Ask i q) a led.end) one_is asked_one })
-          (record { next = led.end; asked = subst (λ (a : Answer). Step base led.end (Ask j q) a led.end) other_is asked_other });
-      redirects = λ known r i_is one_is status.
-          redirects base led.end i known i_is q r (record { next = led.end; asked = subst (λ (a : Answer). Step base led.end (Ask i q) a led.end) one_is asked_one }) status;
+      same_harvests = λ known know r s i_is j_is members one_is other_is. same known know r s i_is j_is (same_state known know members) one_is other_is;
+      same_state = same;
+      redirects = λ known r i_is one_is status. redirects base led.end i known i_is q r (replied base led.end i q one r asked_one one_is) status;
     }

@@ -16,12 +16,6 @@ use Rattle.replica_world.specs.World.{Knowledge, World, Replica, Answer, Step, R
 abbrev pub SameHarvests : Knowledge → Knowledge → Type 0
 SameHarvests known other = (h : Harvested) → Contains known h ↔ Contains other h
 
--- a world that a list of events leads to from so many replicas that have taken nothing
-pub record Reached (base : List ℕ) (count : ℕ) (world : World) : Type 0 where
-  pub events : List Event
-  pub answers : List Answer
-  pub run : Run base (start count) events answers world
-
 -- the replica of this number has taken these harvests since its last restart
 abbrev pub HasTaken : World → ℕ → Knowledge → Type 0
 HasTaken world i known = replica world i ≡ Some (record { taken = known })

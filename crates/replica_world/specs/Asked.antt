@@ -7,14 +7,15 @@ use Rattle.replica_world.specs.declared.event.Event.{Event}
 use Rattle.replica_world.specs.declared.event.Event.TheVariants.{Ask}
 use Rattle.replica_world.specs.declared.event.Said.TheVariants.{Replied}
 use Rattle.replica_world.specs.World.{Knowledge, World, Answer, Step, Run, start}
-use Rattle.replica_world.specs.Agreement.{HasTaken, Redirects}
+use Rattle.replica_world.specs.Agreement.{HasTaken, SameHarvests, Redirects}
 
--- after the events stands a world in which both replicas are asked; where both have the same state and reply, the replies are the same, and a redirect names a nearest memento
+-- after the events stands a world in which both replicas are asked; where they have taken the same harvests, or have the same state, both replies are the same, and each redirect names a nearest memento
 pub record AgreeAfter (base : List ℕ) (count : ℕ) (events : List Event) (q : Request) (i j : ℕ) (said : Answer × Answer) : Type 0 where
   pub answers : List Answer
   pub world : World
   pub run : Run base (start count) events answers world
   pub first : Step base world (Ask i q) said.0 world
   pub second : Step base world (Ask j q) said.1 world
-  pub agree : (known other : Knowledge) (r s : Reply) → HasTaken world i known → HasTaken world j other → lat known ≡ lat other → said.0 ≡ Ok (Replied r) → said.1 ≡ Ok (Replied s) → r ≡ s
+  pub same_harvests : (known other : Knowledge) (r s : Reply) → HasTaken world i known → HasTaken world j other → SameHarvests known other → said.0 ≡ Ok (Replied r) → said.1 ≡ Ok (Replied s) → r ≡ s
+  pub same_state : (known other : Knowledge) (r s : Reply) → HasTaken world i known → HasTaken world j other → lat known ≡ lat other → said.0 ≡ Ok (Replied r) → said.1 ≡ Ok (Replied s) → r ≡ s
   pub redirects : (known : Knowledge) (r : Reply) → HasTaken world i known → said.0 ≡ Ok (Replied r) → r.status ≡ 302 → Redirects known q r

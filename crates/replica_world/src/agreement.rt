@@ -1,8 +1,9 @@
 //! What holds of all replicas of a world.
 ghost use Rattle.std.specs.Prelude.{◌≡◌, ℕ, List};
 ghost use Rattle.harvest_lattice.specs.Knowledge.{lat};
-ghost use Rattle.replica_world.specs.World.{Knowledge, World};
-ghost use Rattle.replica_world.specs.Agreement.{Reached, HasTaken, SameHarvests, Agree, RedirectsWell};
+ghost use Rattle.replica_world.specs.declared.event.Event.{Event};
+ghost use Rattle.replica_world.specs.World.{Knowledge, World, Answer, Run, start};
+ghost use Rattle.replica_world.specs.Agreement.{HasTaken, SameHarvests, Agree, RedirectsWell};
 
 /// After every list of harvests taken, states sent, restarts, and deliveries that were lost, delayed, repeated or
 /// reordered, two replicas that have taken the same harvests since their last restart, directly or through each
@@ -11,12 +12,15 @@ ghost use Rattle.replica_world.specs.Agreement.{Reached, HasTaken, SameHarvests,
 ///
 /// The replicas agree already where the states of what they have taken are the same.
 pub fn replicas_agree()
-    ensures same_harvests { (base : List ℕ) (count : ℕ) (world : World) → Reached base count world →
+    ensures same_harvests { (base : List ℕ) (count : ℕ) (events : List Event) (answers : List Answer) (world : World) →
+        Run base (start count) events answers world →
         (i j : ℕ) (known other : Knowledge) → HasTaken world i known → HasTaken world j other →
         SameHarvests known other → Agree base world i j known other }
-    ensures same_state { (base : List ℕ) (count : ℕ) (world : World) → Reached base count world →
+    ensures same_state { (base : List ℕ) (count : ℕ) (events : List Event) (answers : List Answer) (world : World) →
+        Run base (start count) events answers world →
         (i j : ℕ) (known other : Knowledge) → HasTaken world i known → HasTaken world j other →
         lat known ≡ lat other → Agree base world i j known other }
-    ensures redirects { (base : List ℕ) (count : ℕ) (world : World) → Reached base count world →
+    ensures redirects { (base : List ℕ) (count : ℕ) (events : List Event) (answers : List Answer) (world : World) →
+        Run base (start count) events answers world →
         (i : ℕ) (known : Knowledge) → HasTaken world i known → RedirectsWell base world i known }
 {}

@@ -5,7 +5,7 @@ ghost use Rattle.replica_world.specs.Faults.{refusal};
 use harvest_lattice::Harvest;
 use memento_time::{NoMemory, Octets};
 use replica_exchange::StateFault;
-use std::alloc::AllocError;
+use std::alloc::{AllocError, AllocFailed};
 use std::error::Error;
 use std::fmt;
 use timegate::{Reply, Request};
@@ -71,6 +71,14 @@ impl From<AllocError> for Refused {
     ghost from_gives = { λ _ refused. refused ≡ OutOfMemory };
 
     fn from(_refused: AllocError) -> Refused {
+        Refused::NoMemory
+    }
+}
+
+impl<T: Drop> From<AllocFailed<T>> for Refused {
+    ghost from_gives = { λ _ refused. refused ≡ OutOfMemory };
+
+    fn from(_refused: AllocFailed<T>) -> Refused {
         Refused::NoMemory
     }
 }

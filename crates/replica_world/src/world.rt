@@ -12,7 +12,7 @@ use timegate::{Request, answer};
 use timemap_writer::Service;
 
 /// Replicas of one service, and the messages that they have sent. Replicas and messages are numbered from 1.
-#[derive(Drop)]
+#[derive(Debug, Drop)]
 pub struct World {
     alloc: Global,
     service: Service,
@@ -57,7 +57,7 @@ impl World {
         ensures stands { IfOk result (λ world. Stands world (start replicas)) }
         ensures base { IfOk result (λ world. world.base ≡ service) }
     {
-        let mut indexes = Vec::new(alloc);
+        let mut indexes = Vec::with_capacity(alloc, replicas)?;
         for _ in 0..replicas {
             indexes.push(Index::new(alloc))?;
         }
@@ -118,9 +118,7 @@ impl World {
             return Err(Refused::NoReplica);
         };
         let text = write_state(self.alloc, self.replicas[place].state())?;
-        if self.messages.push(Octets::of(text)).is_err() {
-            return Err(Refused::NoMemory);
-        }
+        self.messages.push(Octets::of(text))?;
         Ok(Said::Sent(self.messages.len()))
     }
 
@@ -134,8 +132,8 @@ impl World {
         let Some(sent) = place_of(message, self.messages.len()) else {
             return Err(Refused::NoMessage);
         };
-        let state = read_state(self.alloc, self.messages[sent].as_slice())?;
-        self.absorb(place, &Merge::State(state))?;
+        let told = read_state(self.alloc, self.messages[sent].as_slice())?;
+        self.absorb(place, &Merge::State(told))?;
         Ok(Said::Joined)
     }
 

@@ -2,10 +2,10 @@ use Rattle.replica_world.proofs.Replies.{same_state, agreement, redirects}
 use Rattle.replica_world.proofs.agreement.replicas_agree.Goals as goal
 
 pub returns-clause-same_harvests : goal.returns-clause-same_harvests
-returns-clause-same_harvests c base count world reached i j known other i_is j_is same = agreement base world i j known other i_is j_is (same_state known other same)
+returns-clause-same_harvests c base count events answers world run i j known other i_is j_is same = agreement base world i j known other i_is j_is (same_state known other same)
 
 pub returns-clause-same_state : goal.returns-clause-same_state
-returns-clause-same_state c base count world reached i j known other i_is j_is same = agreement base world i j known other i_is j_is same
+returns-clause-same_state c base count events answers world run i j known other i_is j_is same = agreement base world i j known other i_is j_is same
 
 pub returns-clause-redirects : goal.returns-clause-redirects
-returns-clause-redirects c base count world reached i known is = redirects base world i known is
+returns-clause-redirects c base count events answers world run i known is = redirects base world i known is

@@ -1,22 +1,22 @@
-use Rattle.std.proofs.Common.{rules, ◌≡◌, ◌<◌, length}
+use Rattle.std.proofs.Common.{rules, ◌≡◌, ◌<◌, length, get_or}
 use Rattle.replica_world.proofs.Worlds.{delivered, not_delivered}
 use Rattle.replica_world.proofs.world.World.deliver.Goals as goal
 
-pub returns-in_err-state-clause-steps : goal.returns-in_err-state-clause-steps
-returns-in_err-state-clause-steps c =
+pub returns-in_err-told-clause-steps : goal.returns-in_err-told-clause-steps
+returns-in_err-told-clause-steps c =
     let below : c.in-Some.place < length c.args.self.now.states = search rules in
     let sent : c.in-Some-place_of.sent < length c.args.self.now.messages = search rules in
-    let bytes : c.as_slice.result.now ≡ _ = search rules in
-    not_delivered c.args.self.now c.args.number c.in-Some.place c.args.message c.in-Some-place_of.sent c.as_slice.result.now c.in_err-state.field-0.0 c.from_residual.result
-    c.in-Some.ensures.found.0 below c.in-Some-place_of.ensures.found.0 sent bytes c.in_err-state.ensures.cause (search rules)
+    let bytes : c.as_slice.result.now ≡ get_or c.args.self.now.messages c.in-Some-place_of.sent c.as_slice.result.now = search rules in
+    not_delivered c.args.self.now c.args.number c.in-Some.place c.args.message c.in-Some-place_of.sent c.as_slice.result.now c.in_err-told.field-0.0 c.from_residual.result
+    c.in-Some.ensures.found.0 below c.in-Some-place_of.ensures.found.0 sent bytes c.in_err-told.ensures.cause (search rules)
 
 pub returns-clause-steps : goal.returns-clause-steps
 returns-clause-steps c =
     let below : c.in-Some.place < length c.args.self.now.states = search rules in
     let sent : c.in-Some-place_of.sent < length c.args.self.now.messages = search rules in
-    let bytes : c.as_slice.result.now ≡ _ = search rules in
-    let read = c.in_ok-state.ensures in
-    delivered c.args.self.now c.absorb.new.self c.args.number c.in-Some.place c.args.message c.in-Some-place_of.sent c.as_slice.result.now c.in_ok-state.state
+    let bytes : c.as_slice.result.now ≡ get_or c.args.self.now.messages c.in-Some-place_of.sent c.as_slice.result.now = search rules in
+    let read = c.in_ok-told.ensures in
+    delivered c.args.self.now c.absorb.new.self c.args.number c.in-Some.place c.args.message c.in-Some-place_of.sent c.as_slice.result.now c.in_ok-told.told
     c.in-Some.ensures.found.0 below c.in-Some-place_of.ensures.found.0 sent bytes
     (record { state = read.found.0; text = read.found.1; within = read.within })
     (record { base = c.absorb.ensures.base; messages = c.absorb.ensures.messages; states = c.in_ok-absorb.ensures.ok })

@@ -1,0 +1,97 @@
+use super::*;
+use harvest_lattice::Harvest;
+use memento_time::{ArchiveName, Clean, Items, Memento, Moment, Octets, Original};
+use std::test::Fail;
+use timegate::{Reply, Request};
+use timemap_writer::Service;
+
+const SECOND_1: u64 = 946_684_800;
+
+const SECOND_2: u64 = 946_857_600;
+
+const TIMEMAP: &[u8] = b"<http://a.example/>; rel=\"original\",
+<http://agg.example/timegate/http://a.example/>; rel=\"timegate\",
+<http://agg.example/timemap/link/http://a.example/>; rel=\"self\"; type=\"application/link-format\"; from=\"Sat, 01 Jan 2000 00:00:00 GMT\"; until=\"Mon, 03 Jan 2000 00:00:00 GMT\",
+<http://m.example/1>; rel=\"first memento\"; datetime=\"Sat, 01 Jan 2000 00:00:00 GMT\",
+<http://m.example/2>; rel=\"last memento\"; datetime=\"Mon, 03 Jan 2000 00:00:00 GMT\"
+";
+
+fn service(rt: &HostRuntime) -> Result<Service, Fail> {
+    Ok(Service::new(rt.alloc(), "http://agg.example")?)
+}
+
+fn take(rt: &HostRuntime, replica: usize, second: u64, uri: &[u8]) -> Result<Event, Fail> {
+    let archive = ArchiveName::new(b"a1").ok_or("no name")?;
+    let original = Original::new(rt.alloc(), b"http://a.example/")?;
+    let at = Moment::from_secs(second).ok_or("no moment")?;
+    let uri = Clean::new(rt.alloc(), uri)?;
+    let mementos = vec![in rt.alloc(); Memento { at, uri }]?;
+    let harvest = Harvest::new(archive, &original, 5, mementos)?;
+    Ok(Event::Take(replica, harvest))
+}
+
+fn octets(rt: &HostRuntime, text: &[u8]) -> Result<Octets, Fail> {
+    Ok(Octets::of(Vec::from_slice(rt.alloc(), text)?))
+}
+
+fn get(rt: &HostRuntime, target: &[u8]) -> Result<Request, Fail> {
+    Ok(Request {
+        method: octets(rt, b"GET")?,
+        target: octets(rt, target)?,
+        asked: Items::of(Vec::new(rt.alloc())),
+    })
+}
+
+fn timemap(rt: &HostRuntime) -> Result<Request, Fail> {
+    get(rt, b"/timemap/link/http://a.example/")
+}
+
+fn reply_of(answer: &Answer) -> Option<&Reply> {
+    match answer {
+        Ok(Said::Replied(reply)) => Some(reply),
+        _ => None,
+    }
+}
+
+// Two replicas that each take one memento, send, and get what the other sent.
+fn exchange(rt: &HostRuntime) -> Result<Vec<Event>, Fail> {
+    Ok(vec![in rt.alloc();
+        take(rt, 1, SECOND_1, b"http://m.example/1")?,
+        take(rt, 2, SECOND_2, b"http://m.example/2")?,
+        Event::Send(1),
+        Event::Send(2),
+        Event::Deliver(2, 1),
+        Event::Deliver(1, 2),
+    ]?)
+}
+
+#[test]
+fn replicas_that_told_each_other(rt: HostRuntime) -> Result<(), Fail> {
+    let mut world = World::new(rt.alloc(), 2, service(&rt)?)?;
+    let mut events = exchange(&rt)?;
+    events.push(Event::Ask(1, timemap(&rt)?))?;
+    events.push(Event::Ask(2, timemap(&rt)?))?;
+    let answers = world.run(&events)?;
+    assert_eq!(rt; TIMEMAP.len(), 444);
+    assert!(rt; matches!(answers[1], Ok(Said::Taken)));
+    assert!(rt; matches!(answers[3], Ok(Said::Sent(2))));
+    assert!(rt; matches!(answers[5], Ok(Said::Joined)));
+    for answer in &answers[6..] {
+        let reply = reply_of(answer).ok_or("no reply")?;
+        assert_eq!(rt; reply.status, 200);
+        assert_eq!(rt; reply.body.as_slice(), TIMEMAP);
+    }
+    replicas_agree();
+    let (one, other) = asked_after(
+        rt.alloc(),
+        2,
+        service(&rt)?,
+        &exchange(&rt)?,
+        &timemap(&rt)?,
+        1,
+        2,
+    )?;
+    assert_eq!(rt; reply_of(&one).ok_or("no reply")?.body.as_slice(), TIMEMAP);
+    assert!(rt; reply_of(&one) == reply_of(&other));
+    Ok(())
+}
