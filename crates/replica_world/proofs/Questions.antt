@@ -2,7 +2,7 @@
 use Rattle.std.proofs.Common.{◌≡◌, ℕ, List, [], ◌∷◌, refl, sym, ap, subst, ◌∙◌, Ok, Err, inl, inr}
 use Rattle.std.specs.Prelude.{Option, Some, None, MatchOption, ◌⊎◌}
 use Rattle.harvest_lattice.specs.Knowledge.{lat}
-use Rattle.timegate.specs.declared.reply.Request.{Request}
+use Rattle.timegate.specs.declared.request.Request.{Request}
 use Rattle.timegate.specs.declared.reply.Reply.{Reply}
 use Rattle.timegate.specs.Reply.{reply}
 use Rattle.replica_world.specs.declared.event.Event.{Event}
@@ -13,7 +13,7 @@ use Rattle.replica_world.specs.World.{Knowledge, World, Replica, Answer, Run, St
 use Rattle.replica_world.specs.Stands.{Kept, Stands, Steps, Runs}
 use Rattle.replica_world.specs.Agreement.{HasTaken, Gives}
 use Rattle.replica_world.specs.Asked.{AgreeAfter}
-use Rattle.replica_world.proofs.Replies.{same_state, agreement, redirects}
+use Rattle.replica_world.proofs.Replies.{same_state, agreement, redirects_well}
 
 -- a question leaves the world as it is
 effect_stays : (base : List ℕ) (w : World) (q : Request) (answer : Answer) (next : World) (o : Option Replica)
@@ -53,5 +53,5 @@ agree_after base count events q i j first after answers one other stands base_is
       second = asked_other;
       same_harvests = λ known know r s i_is j_is members one_is other_is. same known know r s i_is j_is (same_state known know members) one_is other_is;
       same_state = same;
-      redirects = λ known r i_is one_is status. redirects base led.end i known i_is q r (replied base led.end i q one r asked_one one_is) status;
+      redirects = λ known r i_is one_is status. redirects_well base led.end i known i_is q r (replied base led.end i q one r asked_one one_is) status;
     }

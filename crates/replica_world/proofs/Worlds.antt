@@ -13,7 +13,7 @@ use Rattle.replica_exchange.specs.declared.fault.StateFault.TheVariants as fault
 use Rattle.replica_exchange.specs.Faults.{IsCause}
 use Rattle.replica_exchange.specs.StateText.{IsState, state_text}
 use Rattle.replica_exchange.proofs.States.{one_text}
-use Rattle.timegate.specs.declared.reply.Request.{Request}
+use Rattle.timegate.specs.declared.request.Request.{Request}
 use Rattle.timegate.specs.declared.reply.Reply.{Reply}
 use Rattle.timegate.specs.Reply.{reply, reply_of}
 use Rattle.timegate.proofs.Replies.{reply_from_state}

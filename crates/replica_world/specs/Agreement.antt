@@ -1,16 +1,16 @@
 -- When replicas agree: the same harvests, the same TimeMaps, the same replies, and redirects to nearest mementos.
-use Rattle.std.specs.Prelude.{◌≡◌, ℕ, ◌≤◌, ◌↔◌, List, [], ◌∷◌, Contains, Option, Some, MatchOption, Ok}
-use Rattle.memento_time.specs.declared.mementos.Memento.{Memento}
-use Rattle.harvest_lattice.specs.Knowledge.{Harvested, IsShown, lat}
-use Rattle.harvest_lattice.specs.Choice.{distance}
+use Rattle.std.specs.Prelude.{◌≡◌, ℕ, ◌↔◌, ◌==◌, if◌then◌else◌, List, [], length, Contains, Option, Some, None, Ok}
+use Rattle.harvest_lattice.specs.Sets as set
+use Rattle.harvest_lattice.specs.Knowledge.{Harvested, shown}
 use Rattle.timegate.specs.declared.reply.Reply.{Reply}
-use Rattle.timegate.specs.declared.reply.Request.{Request}
-use Rattle.timegate.specs.declared.reply.Header.TheVariants.{Location}
-use Rattle.timegate.specs.Reply.{reply, timemap_of, route_of, Gate}
-use Rattle.replica_world.specs.declared.event.Event.{Event}
+use Rattle.timegate.specs.declared.request.Request.{Request}
+use Rattle.timegate.specs.declared.route.Route.TheVariants.{TimeGate, TimeMap}
+use Rattle.timegate.specs.Route.{route_of, is_head}
+use Rattle.timegate.specs.Reply.{timemap_of}
+use Rattle.timegate.specs.Redirect.{Redirects}
 use Rattle.replica_world.specs.declared.event.Event.TheVariants.{Ask}
 use Rattle.replica_world.specs.declared.event.Said.TheVariants.{Replied}
-use Rattle.replica_world.specs.World.{Knowledge, World, Replica, Answer, Step, Run, start, replica}
+use Rattle.replica_world.specs.World.{Knowledge, World, Step, replica}
 
 -- the same harvests, in whatever order and however often
 abbrev pub SameHarvests : Knowledge → Knowledge → Type 0
@@ -20,26 +20,36 @@ SameHarvests known other = (h : Harvested) → Contains known h ↔ Contains oth
 abbrev pub HasTaken : World → ℕ → Knowledge → Type 0
 HasTaken world i known = replica world i ≡ Some (record { taken = known })
 
--- the replica of this number may give this reply
+-- the replica of this number gives this reply where it is asked
 pub record Gives (base : List ℕ) (world : World) (i : ℕ) (q : Request) (r : Reply) : Type 0 where
   pub next : World
   pub asked : Step base world (Ask i q) (Ok (Replied r)) next
 
--- two replicas give every request the same reply, and what they know every original the same TimeMap
-pub record Agree (base : List ℕ) (world : World) (i j : ℕ) (known other : Knowledge) : Type 0 where
-  pub timemaps : (original : List ℕ) → timemap_of base known original ≡ timemap_of base other original
-  pub replies : (q : Request) (r s : Reply) → Gives base world i q r → Gives base world j q s → r ≡ s
+-- the TimeMap of an original, if any memento of it is shown
+abbrev pub timemap_at : List ℕ → Knowledge → List ℕ → Option (List ℕ)
+timemap_at base known original = if length (set.items (shown known original)) == 0 then None else Some (timemap_of base known original)
 
--- the reply to a request to a TimeGate names a memento of the latest harvests, and none of these lies nearer to the asked second; where none is asked, none is later
-pub record Redirects (known : Knowledge) (q : Request) (r : Reply) : Type 0 where
+-- every request has the same reply from both replicas, and so has every original the same TimeMap, or neither has one
+pub record Agree (base : List ℕ) (world : World) (i j : ℕ) (known other : Knowledge) : Type 0 where
+  pub replies : (q : Request) (r s : Reply) → Gives base world i q r → Gives base world j q s → r ≡ s
+  pub timemaps : (original : List ℕ) → timemap_at base known original ≡ timemap_at base other original
+
+-- a reply with the bytes of a TimeMap, which HEAD leaves out, or a 404 where there is none
+abbrev pub Shows : Option (List ℕ) → Request → Reply → Type 0
+Shows None q r = r.status ≡ 404
+Shows (Some text) q r = (r.status ≡ 200) × (r.body ≡ (if is_head q then [] else text))
+
+-- each reply to a request for the TimeMap of an original
+abbrev pub ServesTimeMaps : List ℕ → World → ℕ → Knowledge → Type 0
+ServesTimeMaps base world i known = (q : Request) (original : List ℕ) (r : Reply) → route_of q ≡ TimeMap original → Gives base world i q r → Shows (timemap_at base known original) q r
+
+-- a reply to a request to the TimeGate of an original, that names a memento of its latest harvests than which none of these is nearer
+pub record NamesNearest (known : Knowledge) (q : Request) (r : Reply) : Type 0 where
   pub original : List ℕ
   pub asked : Option ℕ
-  pub route : route_of q ≡ Gate original asked
-  pub memento : Memento
-  pub location : Contains r.headers (Location, memento.uri)
-  pub shown : IsShown known original memento
-  pub nearest : (other : Memento) → IsShown known original other → MatchOption asked (other.at ≤ memento.at) (λ second. distance second memento ≤ distance second other)
+  pub route : route_of q ≡ TimeGate original asked
+  pub redirects : Redirects known original asked r
 
--- each redirect that the replica gives
+-- each redirect
 abbrev pub RedirectsWell : List ℕ → World → ℕ → Knowledge → Type 0
-RedirectsWell base world i known = (q : Request) (r : Reply) → Gives base world i q r → r.status ≡ 302 → Redirects known q r
+RedirectsWell base world i known = (q : Request) (r : Reply) → Gives base world i q r → r.status ≡ 302 → NamesNearest known q r

@@ -3,7 +3,7 @@ ghost use Rattle.std.specs.Prelude.{◌≡◌, ℕ, List};
 ghost use Rattle.harvest_lattice.specs.Knowledge.{lat};
 ghost use Rattle.replica_world.specs.declared.event.Event.{Event};
 ghost use Rattle.replica_world.specs.World.{Knowledge, World, Answer, Run, start};
-ghost use Rattle.replica_world.specs.Agreement.{HasTaken, SameHarvests, Agree, RedirectsWell};
+ghost use Rattle.replica_world.specs.Agreement.{HasTaken, SameHarvests, Agree, ServesTimeMaps, RedirectsWell};
 
 /// After every list of harvests taken, states sent, restarts, and deliveries that were lost, delayed, repeated or
 /// reordered, two replicas that have taken the same harvests since their last restart, directly or through each
@@ -20,6 +20,9 @@ pub fn replicas_agree()
         Run base (start count) events answers world →
         (i j : ℕ) (known other : Knowledge) → HasTaken world i known → HasTaken world j other →
         lat known ≡ lat other → Agree base world i j known other }
+    ensures timemaps { (base : List ℕ) (count : ℕ) (events : List Event) (answers : List Answer) (world : World) →
+        Run base (start count) events answers world →
+        (i : ℕ) (known : Knowledge) → HasTaken world i known → ServesTimeMaps base world i known }
     ensures redirects { (base : List ℕ) (count : ℕ) (events : List Event) (answers : List Answer) (world : World) →
         Run base (start count) events answers world →
         (i : ℕ) (known : Knowledge) → HasTaken world i known → RedirectsWell base world i known }

@@ -8,6 +8,8 @@
 mod agreement;
 mod asked;
 mod event;
+#[cfg(test)]
+mod tests;
 mod world;
 
 pub use agreement::replicas_agree;

@@ -91,7 +91,81 @@ fn replicas_that_told_each_other(rt: HostRuntime) -> Result<(), Fail> {
         1,
         2,
     )?;
-    assert_eq!(rt; reply_of(&one).ok_or("no reply")?.body.as_slice(), TIMEMAP);
-    assert!(rt; reply_of(&one) == reply_of(&other));
+    for answer in [&one, &other] {
+        assert_eq!(rt;
+            reply_of(answer).ok_or("no reply")?.body.as_slice(),
+            TIMEMAP
+        );
+    }
+    Ok(())
+}
+
+// Whether the replica shows no memento of the original.
+fn shows_nothing(rt: &HostRuntime, world: &World, replica: usize) -> Result<bool, Fail> {
+    let answer = world.ask(replica, &timemap(rt)?);
+    let reply = reply_of(&answer).ok_or("no reply")?;
+    Ok(reply.status == 404 && reply.body.as_slice() == b"no memento\n".as_slice())
+}
+
+#[test]
+fn restarts(rt: HostRuntime) -> Result<(), Fail> {
+    let mut world = World::new(rt.alloc(), 2, service(&rt)?)?;
+    world.run(&exchange(&rt)?)?;
+    assert!(rt; matches!(world.step(&Event::Restart(1)), Ok(Said::Restarted)));
+    assert!(rt; shows_nothing(&rt, &world, 1)?);
+    assert!(rt; !shows_nothing(&rt, &world, 2)?);
+    world.step(&Event::Deliver(1, 2))?;
+    let answer = world.ask(1, &timemap(&rt)?);
+    let reply = reply_of(&answer).ok_or("no reply")?;
+    assert_eq!(rt; reply.body.as_slice().len(), 382);
+    world.step(&Event::Deliver(1, 1))?;
+    let answer = world.ask(1, &timemap(&rt)?);
+    assert_eq!(rt;
+        reply_of(&answer).ok_or("no reply")?.body.as_slice(),
+        TIMEMAP
+    );
+    Ok(())
+}
+
+#[test]
+fn deliveries_in_any_order(rt: HostRuntime) -> Result<(), Fail> {
+    let mut world = World::new(rt.alloc(), 2, service(&rt)?)?;
+    let events = exchange(&rt)?;
+    world.run(&events[..4])?;
+    let deliveries = [(1, 2), (2, 2), (1, 2), (2, 1), (1, 1), (2, 1)];
+    for (replica, message) in deliveries {
+        assert!(rt;
+            matches!(
+                world.step(&Event::Deliver(replica, message)),
+                Ok(Said::Joined)
+            )
+        );
+    }
+    for replica in 1..3 {
+        let answer = world.ask(replica, &timemap(&rt)?);
+        assert_eq!(rt;
+            reply_of(&answer).ok_or("no reply")?.body.as_slice(),
+            TIMEMAP
+        );
+    }
+    Ok(())
+}
+
+#[test]
+fn refusals(rt: HostRuntime) -> Result<(), Fail> {
+    let mut world = World::new(rt.alloc(), 1, service(&rt)?)?;
+    let bad = b"memento-state 1\nentries 0\nend\n\n";
+    let refusals = [
+        (Event::Restart(2), Refused::NoReplica),
+        (Event::Deliver(0, 1), Refused::NoReplica),
+        (Event::Deliver(1, 1), Refused::NoMessage),
+        (Event::Receive(1, octets(&rt, bad)?), Refused::BadState),
+    ];
+    for (event, refused) in &refusals {
+        assert!(rt; world.step(event).err() == Some(*refused));
+    }
+    let empty = octets(&rt, b"memento-state 1\nentries 0\nend\n")?;
+    assert!(rt; matches!(world.step(&Event::Receive(1, empty)), Ok(Said::Joined)));
+    assert!(rt; shows_nothing(&rt, &world, 1)?);
     Ok(())
 }

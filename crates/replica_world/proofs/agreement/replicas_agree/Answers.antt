@@ -1,4 +1,4 @@
-use Rattle.replica_world.proofs.Replies.{same_state, agreement, redirects}
+use Rattle.replica_world.proofs.Replies.{same_state, agreement, serves_timemaps, redirects_well}
 use Rattle.replica_world.proofs.agreement.replicas_agree.Goals as goal
 
 pub returns-clause-same_harvests : goal.returns-clause-same_harvests
@@ -8,4 +8,7 @@ pub returns-clause-same_state : goal.returns-clause-same_state
 returns-clause-same_state c base count events answers world run i j known other i_is j_is same = agreement base world i j known other i_is j_is same
 
 pub returns-clause-redirects : goal.returns-clause-redirects
-returns-clause-redirects c base count events answers world run i known is = redirects base world i known is
+returns-clause-redirects c base count events answers world run i known is = redirects_well base world i known is
+
+pub returns-clause-timemaps : goal.returns-clause-timemaps
+returns-clause-timemaps c base count events answers world run i known is = serves_timemaps base world i known is
