@@ -1,0 +1,103 @@
+//! The parameters of a link, read again from its text.
+ghost use Rattle.std.specs.Prelude.{◌≡◌, ◌<◌, length, option_map, IfOk, IfSome, IfNone, false, Some, None};
+ghost use Rattle.std.specs.List.{slice_get};
+ghost use Rattle.std.specs.Cow.{cow_slice_items};
+ghost use Rattle.link_format.specs.Scan.{params_of, quoted_bytes};
+ghost use Rattle.link_format.specs.Spans.{meant_bytes};
+ghost use Rattle.link_format.specs.Values.{first_value, same_name, value_or_empty};
+
+use crate::scan::next_param;
+use crate::spans::{ParamSpan, ValueSpan};
+use std::alloc::{AllocError, Global};
+use std::borrow::CowSlice;
+
+/// The name of the parameter `k`, counted from 0.
+pub(crate) fn nth_name(text: &[u8], k: usize) -> &[u8]
+    requires { k < length (params_of text.now) }
+    ensures { option_map (λ p. p.name) (slice_get (params_of text.now) k) ≡ Some result.now }
+{
+    let mut rest = text;
+    let mut left = k;
+    loop {
+        match next_param(rest) {
+            Some((found, after)) => {
+                if left == 0 {
+                    return found.name;
+                }
+                left -= 1;
+                rest = after;
+            }
+            None => unreachable!(),
+        }
+    }
+}
+
+/// Whether the names are the same without regard to ASCII case.
+fn is_same_name(a: &[u8], b: &[u8]) -> bool
+    ensures { result ≡ same_name a.now b.now }
+{
+    let mut a = a;
+    let mut b = b;
+    while let [x, xs @ ..] = a {
+        let [y, ys @ ..] = b else {
+            return false;
+        };
+        if !x.eq_ignore_ascii_case(y) {
+            return false;
+        }
+        a = xs;
+        b = ys;
+    }
+    b.is_empty()
+}
+
+/// The bytes that are meant, up to the closing quote.
+fn unquote(alloc: Global, text: &[u8]) -> Result<Vec<u8>, AllocError>
+    ensures { IfOk result (λ v. v.items ≡ quoted_bytes false text.now) }
+{
+    let mut out = Vec::new(alloc);
+    let mut rest = text;
+    let mut escaped = false;
+    while let [b, tail @ ..] = rest {
+        if !escaped && *b == b'"' {
+            break;
+        }
+        if !escaped && *b == b'\\' {
+            escaped = true;
+        } else {
+            out.push(*b)?;
+            escaped = false;
+        }
+        rest = tail;
+    }
+    Ok(out)
+}
+
+/// The bytes that are meant: a part of the text, or a copy where something in it is escaped.
+pub(crate) fn shown(
+    alloc: Global,
+    value: Option<ValueSpan<'_>>,
+) -> Result<CowSlice<'_, u8, Global>, AllocError>
+    ensures { IfOk result (λ v. cow_slice_items v ≡ value_or_empty (option_map meant_bytes value.entry)) }
+{
+    match value {
+        None => Ok(CowSlice::Borrowed(&[])),
+        Some(ValueSpan::Plain(text)) => Ok(CowSlice::Borrowed(text)),
+        Some(ValueSpan::Escaped(text)) => Ok(CowSlice::Owned(unquote(alloc, text)?)),
+    }
+}
+
+/// The first parameter of this name.
+pub(crate) fn first_named<'a>(text: &'a [u8], name: &[u8]) -> Option<ParamSpan<'a>>
+    ensures none { IfNone result (first_value name.now (params_of text.now) ≡ None) }
+    ensures some { IfSome result (λ p. first_value name.now (params_of text.now) ≡ Some (value_or_empty (option_map meant_bytes p.value))) }
+{
+    let mut rest = text;
+    while let Some((found, after)) = next_param(rest) {
+        if is_same_name(found.name, name) {
+            return Some(found);
+        }
+        rest = after;
+    }
+    None
+}
