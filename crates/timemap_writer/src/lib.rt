@@ -2,11 +2,13 @@
 //! link-format (RFC 6690), the `Link` header of a redirect, and the base under which both are served.
 #![tactic(auto)]
 
+mod laws;
 mod lines;
 mod service;
 #[cfg(test)]
 mod tests;
 mod timemap;
 
+pub use laws::timemaps_are_read;
 pub use service::{Service, ServiceFault};
 pub use timemap::{write_gate_links, write_timemap};

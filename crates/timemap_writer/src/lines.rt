@@ -49,8 +49,9 @@ pub fn push_timemap(
     out.extend_from_slice(b">; rel=\"")?;
     out.extend_from_slice(relation)?;
     out.extend_from_slice(b"\"; type=\"application/link-format\"")?;
-    push_datetime(out, b"from", mementos.first())?;
-    push_datetime(out, b"until", mementos.last())?;
+    let (first, last) = (mementos.first(), mementos.last());
+    push_datetime(out, b"from", first)?;
+    push_datetime(out, b"until", last)?;
     Ok(())
 }
 

@@ -34,7 +34,7 @@ pub fn write_timemap(
     text.extend_from_slice(b",\n")?;
     push_timemap(&mut text, b"self", service, original, mementos)?;
     push_mementos(&mut text, mementos)?;
-    text.push(b'\n')?;
+    text.extend_from_slice(b"\n")?;
     Ok(text)
 }
 
