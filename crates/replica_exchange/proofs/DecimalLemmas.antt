@@ -1,0 +1,73 @@
+-- What decimals are read as.
+use Rattle.std.proofs.Common.{◌≡◌, ℕ, ◌+◌, ◌-◌, ◌*◌, ◌^◌, ◌<◌, ◌≤◌, zero, suc, List, length, get_or, take, take_all, Option, None, Some, IfSome, IfNone, IfOk, refl, sym, ap, subst, ◌∙◌, arith}
+use Rattle.std.specs.Option.{SomeIff}
+use Rattle.std.specs.Int.{IsInRange}
+use Rattle.std.specs.Fmt.{decimal}
+use Rattle.std.specs.Char.{digit_value}
+use Rattle.std.specs.Str.Parse.{AllDigits, digits_value}
+use Rattle.std.proofs.lemmas.Str.{digit_value_digit}
+use Rattle.std.proofs.lemmas.Str.Parse.{IsNumeralModel, tells_digits, numerals_by_value, digit_at, digits_value-take-le}
+use Rattle.std.proofs.lemmas.Int.Digits.{digits_more, digits_value_more}
+use Rattle.std.proofs.lemmas.Fmt.{decimal-digits_value, digits_decimal, digits_value-decimal, decimal_nonempty, first_decimal, decimal_digit}
+
+own : IsNumeralModel (AllDigits 10) (digits_value 10)
+own = numerals_by_value (AllDigits 10) tells_digits
+
+pub decimal_digits : (n : ℕ) → n < 2 ^ 64 → AllDigits 10 (decimal n)
+decimal_digits n small = digits_decimal own n small
+
+-- the number is that of the first digits
+pub record ReadsTo (digits : List ℕ) (i number : ℕ) : Type 0 where
+  pub all : AllDigits 10 (take i digits)
+  pub value : number ≡ digits_value 10 (take i digits)
+  pub small : number < 2 ^ 64
+
+value_at : (digits : List ℕ) (i : ℕ) → i < length digits → IsInRange 48 57 (get_or digits i 0) → digits_value 10 (take (i + 1) digits) ≡ digits_value 10 (take i digits) * 10 + (get_or digits i 0 - 48)
+value_at digits i lt range =
+    let value = digit_value_digit (get_or digits i 0) range in
+    let same : digit_value (get_or digits i 0) ≡ get_or digits i 0 - 48 = omega arith in
+    digits_value_more 10 digits i lt ∙ ap (λ (d : ℕ). digits_value 10 (take i digits) * 10 + d) same
+
+pub reads_more : (digits : List ℕ) (i number next : ℕ) → i < length digits → ReadsTo digits i number → IsInRange 48 57 (get_or digits i 0) → number * 10 + (get_or digits i 0 - 48) ≡ next → next < 2 ^ 64 → ReadsTo digits (i + 1) next
+reads_more digits i number next lt so_far range step below =
+    let value = digit_value_digit (get_or digits i 0) range in
+    let small : digit_value (get_or digits i 0) < 10 = omega (arith, value, range) in
+    record {
+      all = digits_more 10 digits i lt so_far.all small;
+      value = sym step ∙ (ap (λ (n : ℕ). n * 10 + (get_or digits i 0 - 48)) so_far.value ∙ sym (value_at digits i lt range));
+      small = below;
+    }
+
+-- a digit that can't be appended stands in no number of 64 bits
+pub reads_no_more : (digits : List ℕ) (i number : ℕ) → i < length digits → ReadsTo digits i number → ¬ (IsInRange 48 57 (get_or digits i 0) × (number * 10 + (get_or digits i 0 - 48) < 2 ^ 64)) → ¬ (AllDigits 10 digits × (digits_value 10 digits < 2 ^ 64))
+reads_no_more digits i number lt so_far refused whole =
+    let range = digit_at digits i whole.0 lt in
+    let value = value_at digits i lt range in
+    let part = digits_value-take-le 10 digits (i + 1) (omega arith) in
+    let at : number ≡ digits_value 10 (take i digits) = so_far.value in
+    refused (range, omega (arith, value, part, at, whole.1))
+
+front : (n : ℕ) → n < 2 ^ 64 → get_or (decimal n) 0 0 ≡ 48 → length (decimal n) ≡ 1
+front zero small first = ap length (decimal_digit 0 (omega arith))
+front (suc n) small first = let above = first_decimal (suc n) (omega arith) small in absurd (omega arith)
+
+pub decimal_found : (digits : List ℕ) (r : Option ℕ) → 0 < length digits → (get_or digits 0 0 ≡ 48 → length digits ≡ 1)
+    → SomeIff r (AllDigits 10 digits × (digits_value 10 digits < 2 ^ 64)) (digits_value 10 digits) → IfSome r (λ n. (n < 2 ^ 64) × (digits ≡ decimal n))
+decimal_found digits None some one read = tt
+decimal_found digits (Some n) some one read =
+    (subst (λ v. v < 2 ^ 64) (sym read.1) read.0.1, sym (ap decimal read.1 ∙ decimal-digits_value own digits read.0.0 some one read.0.1))
+
+pub decimal_none : (digits : List ℕ) (r : Option ℕ) → SomeIff r (AllDigits 10 digits × (digits_value 10 digits < 2 ^ 64)) (digits_value 10 digits) → IfNone r ((n : ℕ) → n < 2 ^ 64 → ¬ (digits ≡ decimal n))
+decimal_none digits (Some n) read = tt
+decimal_none digits None read = λ n small is.
+    read (subst (AllDigits 10) (sym is) (decimal_digits n small), subst (λ v. v < 2 ^ 64) (sym (ap (digits_value 10) is ∙ digits_value-decimal own n small)) small)
+
+pub no_decimal : (digits : List ℕ) → ¬ ((0 < length digits) × (get_or digits 0 0 ≡ 48 → length digits ≡ 1)) → (n : ℕ) → n < 2 ^ 64 → ¬ (digits ≡ decimal n)
+no_decimal digits refused n small is =
+    refused (subst (λ ds. 0 < length ds) (sym is) (decimal_nonempty n small), subst (λ ds. get_or ds 0 0 ≡ 48 → length ds ≡ 1) (sym is) (front n small))
+
+pub reads_all : (digits : List ℕ) (i number : ℕ) → length digits ≤ i → ReadsTo digits i number → (AllDigits 10 digits × (digits_value 10 digits < 2 ^ 64)) × (number ≡ digits_value 10 digits)
+reads_all digits i number le so_far =
+    let whole = take_all i digits le in
+    let value : number ≡ digits_value 10 digits = so_far.value ∙ ap (digits_value 10) whole in
+    ((subst (AllDigits 10) whole so_far.all, subst (λ n. n < 2 ^ 64) value so_far.small), value)

@@ -1,0 +1,6 @@
+pub mod DecimalLemmas
+pub mod SpellingLemmas
+pub mod Sequences
+pub mod PartLemmas
+pub mod StateLemmas
+pub mod WritingLemmas

@@ -1,0 +1,128 @@
+-- A field ends at the first of its end byte, so a text begins with at most one.
+use Rattle.std.proofs.Common.{◌≡◌, ◌≢◌, ℕ, ◌+◌, ◌^◌, ◌<◌, ◌⊎◌, inl, inr, List, [], ◌∷◌, ◌++◌, length, get_or, take, drop, true, false, refl, sym, ap, subst, ◌∙◌, append_assoc, arith}
+use Rattle.std.specs.Prelude.{All}
+use Rattle.std.specs.Int.{IsInRange}
+use Rattle.std.specs.Fmt.{decimal}
+use Rattle.std.specs.Str.Parse.{AllDigits}
+use Rattle.std.specs.Bool.{nat_eq}
+use Rattle.std.specs.Cmp.Lexicographic.{pointwise}
+use Rattle.std.proofs.lemmas.Slice.Eq.{bytes_eq-Decides}
+use Rattle.std.proofs.lemmas.List.{get_or_default, take_at, take-append-drop}
+use Rattle.std.proofs.lemmas.List.Elements.{All-head, All-tail, All-weaker, All-append, All-cons}
+use Rattle.std.proofs.lemmas.Str.Parse.{digit_at}
+use Rattle.std.proofs.lemmas.Fmt.{decimal_injective}
+use Rattle.memento_time.specs.Text.{IsClean, IsCleanByte, IsArchiveName, IsNameByte, IsOriginal}
+use Rattle.memento_time.specs.declared.faults.CleanFault.{CleanFault}
+use Rattle.memento_time.specs.declared.faults.CleanFault.TheVariants.{NotClean, NoMemory}
+use Rattle.replica_exchange.specs.Faults.{fault_of}
+use Rattle.replica_exchange.specs.Spelling.{Spelling, Begins, Refuses, Lacks, ended, field, number}
+use Rattle.replica_exchange.proofs.DecimalLemmas.{decimal_digits}
+
+-- no text begins with two of these values, or in two ways with one
+abbrev pub Once : {A : Type 0} → Spelling A → Type 0
+Once {A} s = (text : List ℕ) (x y : A) (r t : List ℕ) → Begins s text x r → Begins s text y t → (x ≡ y) × (r ≡ t)
+
+-- ---- the first of a byte
+
+pub cut_once : (byte : ℕ) (a b x y : List ℕ) → Lacks byte a → Lacks byte b → a ++ byte ∷ x ≡ b ++ byte ∷ y → (a ≡ b) × (x ≡ y)
+cut_once byte [] [] x y la lb e = (refl, cc)
+cut_once byte [] (c ∷ b) x y la lb e = absurd (All-head (λ d. d ≢ byte) c b lb (cc))
+cut_once byte (c ∷ a) [] x y la lb e = absurd (All-head (λ d. d ≢ byte) c a la (cc))
+cut_once byte (c ∷ a) (d ∷ b) x y la lb e =
+    let heads : c ≡ d = cc in
+    let tails : a ++ byte ∷ x ≡ b ++ byte ∷ y = cc in
+    let rest = cut_once byte a b x y (All-tail (λ d. d ≢ byte) c a la) (All-tail (λ d. d ≢ byte) d b lb) tails in
+    ((λ i. heads i ∷ rest.0 i), rest.1)
+
+pub cut_none : (byte : ℕ) (a x : List ℕ) → ¬ Lacks byte (a ++ byte ∷ x)
+cut_none byte [] x lacks = All-head (λ d. d ≢ byte) byte x lacks refl
+cut_none byte (c ∷ a) x lacks = cut_none byte a x (All-tail (λ d. d ≢ byte) c (a ++ byte ∷ x) lacks)
+
+-- ---- given bytes in front
+
+pub front_found : (text front rest : List ℕ) → pointwise nat_eq (take (length front) text) front ≡ true → rest ≡ drop (length front) text → text ≡ front ++ rest
+front_found text front rest test left =
+    let same : take (length front) text ≡ front = (bytes_eq-Decides (take (length front) text) front).0 test in
+    sym (take-append-drop (length front) text) ∙ (λ i. same i ++ sym left i)
+
+pub front_refused : (text front : List ℕ) → pointwise nat_eq (take (length front) text) front ≡ false → (rest : List ℕ) → ¬ (text ≡ front ++ rest)
+front_refused text front test rest whole =
+    let same : take (length front) text ≡ front = ap (take (length front)) whole ∙ take_at front rest (length front) refl in
+    let passes : pointwise nat_eq (take (length front) text) front ≡ true = (bytes_eq-Decides (take (length front) text) front).1 same in
+    absurd (let both : true ≡ false = sym passes ∙ test in cc)
+
+-- ---- a value and the byte that ends it
+
+module _ {A : Type 0} (Is : A → Type 0) (written : A → List ℕ) (byte : ℕ) where
+  regrouped : (text : List ℕ) (v : A) (rest : List ℕ) → Begins (ended Is written byte) text v rest → text ≡ written v ++ byte ∷ rest
+  regrouped text v rest begins = begins.whole ∙ append_assoc (written v) (byte ∷ []) rest
+
+  pub ended_found : (text front rest : List ℕ) (v : A) → text ≡ front ++ byte ∷ rest → front ≡ written v → Is v → Begins (ended Is written byte) text v rest
+  ended_found text front rest v whole same is = record {
+    is = is;
+    whole = whole ∙ (ap (λ (f : List ℕ). f ++ byte ∷ rest) same ∙ sym (append_assoc (written v) (byte ∷ []) rest));
+  }
+
+  pub ended_none : (text : List ℕ) → Lacks byte text → (v : A) (rest : List ℕ) → ¬ Begins (ended Is written byte) text v rest
+  ended_none text lacks v rest begins = cut_none byte (written v) rest (subst (Lacks byte) (regrouped text v rest begins) lacks)
+
+  module _ (lack : (v : A) → Is v → Lacks byte (written v)) where
+    pub ended_refused : (text front rest : List ℕ) → text ≡ front ++ byte ∷ rest → Lacks byte front → ((v : A) → Is v → ¬ (front ≡ written v)) → (v : A) (r : List ℕ) → ¬ Begins (ended Is written byte) text v r
+    ended_refused text front rest whole lacks other v r begins =
+        let once = cut_once byte front (written v) rest r lacks (lack v begins.is) (sym whole ∙ regrouped text v r begins) in
+        other v begins.is once.0
+
+    pub ended_once : ((x y : A) → Is x → Is y → written x ≡ written y → x ≡ y) → Once (ended Is written byte)
+    ended_once one text x y r t bx by =
+        let once = cut_once byte (written x) (written y) r t (lack x bx.is) (lack y by.is) (sym (regrouped text x r bx) ∙ regrouped text y t by) in
+        (one x y bx.is by.is once.0, once.1)
+
+-- a field of another kind
+pub field_refused : (Is : List ℕ → Type 0) (byte : ℕ) → ((t : List ℕ) → Is t → Lacks byte t) → (text front rest : List ℕ) → text ≡ front ++ byte ∷ rest → Lacks byte front → ¬ Is front
+    → (v r : List ℕ) → ¬ Begins (field Is byte) text v r
+field_refused Is byte lack text front rest whole lacks other = ended_refused Is (λ t. t) byte lack text front rest whole lacks (λ v is same. other (subst Is (sym same) is))
+
+pub clean_refused : (Is : List ℕ → Type 0) (byte : ℕ) → ((t : List ℕ) → Is t → Lacks byte t) → (text front rest : List ℕ) → text ≡ front ++ byte ∷ rest → Lacks byte front
+    → (fault : CleanFault) → (fault ≡ NotClean → ¬ Is front) → Refuses (field Is byte) text (fault_of fault)
+clean_refused Is byte lack text front rest whole lacks NotClean other = field_refused Is byte lack text front rest whole lacks (other refl)
+clean_refused Is byte lack text front rest whole lacks NoMemory other = tt
+
+-- ---- which fields lack which bytes
+
+digits_lack : (byte : ℕ) (ds : List ℕ) → byte < 48 → AllDigits 10 ds → Lacks byte ds
+digits_lack byte ds low all k d lt =
+    let range : IsInRange 48 57 (get_or ds k 0) = digit_at ds k all lt in
+    let same : get_or ds k d ≡ get_or ds k 0 = get_or_default ds k d 0 lt in
+    λ is. omega (arith, range, same, is)
+
+pub decimal_lacks : (byte : ℕ) → byte < 48 → (n : ℕ) → n < 2 ^ 64 → Lacks byte (decimal n)
+decimal_lacks byte low n small = digits_lack byte (decimal n) low (decimal_digits n small)
+
+pub clean_lacks : (text : List ℕ) → IsClean text → Lacks 10 text
+clean_lacks text clean = All-weaker IsCleanByte (λ b. b ≢ 10) (λ b is same. omega (arith, is.0, same)) text clean.1
+
+pub original_lacks : (text : List ℕ) → IsOriginal text → Lacks 10 text
+original_lacks text original = clean_lacks text original.0
+
+name_byte : (b : ℕ) → IsNameByte b → b ≢ 32
+name_byte b (inl letter) same = omega (arith, letter, same)
+name_byte b (inr (inl digit)) same = omega (arith, digit, same)
+name_byte b (inr (inr (inl dot))) same = omega (arith, dot, same)
+name_byte b (inr (inr (inr dash))) same = omega (arith, dash, same)
+
+pub name_lacks : (text : List ℕ) → IsArchiveName text → Lacks 32 text
+name_lacks text name = All-weaker IsNameByte (λ b. b ≢ 32) name_byte text name.1
+
+-- ---- so each is read in one way
+
+pub number_once : (byte : ℕ) → byte < 48 → Once (number byte)
+number_once byte low = ended_once (λ n. n < 2 ^ 64) decimal byte (decimal_lacks byte low) decimal_injective
+
+pub archive_once : Once (field IsArchiveName 32)
+archive_once = ended_once IsArchiveName (λ text. text) 32 name_lacks (λ x y _ _ same. same)
+
+pub original_once : Once (field IsOriginal 10)
+original_once = ended_once IsOriginal (λ text. text) 10 original_lacks (λ x y _ _ same. same)
+
+pub uri_once : Once (field IsClean 10)
+uri_once = ended_once IsClean (λ text. text) 10 clean_lacks (λ x y _ _ same. same)

@@ -1,0 +1,4 @@
+pub mod StateText
+pub mod Faults
+pub mod Spelling
+pub mod Parts

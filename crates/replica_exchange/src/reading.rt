@@ -1,0 +1,143 @@
+//! Reading a state from its text.
+ghost use Rattle.std.specs.Prelude.{◌≡◌, ◌≤◌, ◌↔◌, [], length, codes, IsTrue, map as map_list, IfOk, IfErr};
+ghost use Rattle.harvest_lattice.specs.Rows.{row_entry};
+ghost use Rattle.replica_exchange.specs.StateText.{state_text, IsState};
+ghost use Rattle.replica_exchange.specs.Faults.{IsCause, longest_text};
+ghost use Rattle.replica_exchange.specs.Spelling.{Begins, Refuses, RefusesWhole};
+ghost use Rattle.replica_exchange.specs.Parts.{memento, head, entry, many, listing};
+
+use crate::fault::StateFault;
+use crate::fields::{cut, read_number, read_original, read_uri, skip};
+use harvest_lattice::{Row, State};
+use memento_time::{ArchiveName, Memento, Moment, Original};
+use std::alloc::Global;
+
+/// The most bytes of a state's text.
+const MAX_LEN: usize = 268_435_456;
+
+/// A memento's line, and what follows.
+fn read_memento(alloc: Global, text: &[u8]) -> Result<(Memento, &[u8]), StateFault>
+    ensures found { IfOk result (λ read. Begins memento text.now read.0 read.1.now) }
+    ensures refused { IfErr result (λ fault. Refuses memento text.now fault) }
+{
+    let (second, rest) = read_number(text, b' ')?;
+    let Some(at) = Moment::from_secs(second) else {
+        return Err(StateFault::NotState);
+    };
+    let (uri, rest) = read_uri(alloc, rest)?;
+    Ok((Memento { at, uri }, rest))
+}
+
+/// The lines of so many mementos, and what follows. Nothing is reserved for lines that may not come.
+fn read_mementos(
+    alloc: Global,
+    count: u64,
+    text: &[u8],
+) -> Result<(Vec<Memento>, &[u8]), StateFault>
+    ensures found { IfOk result (λ read. Begins (many count memento) text.now read.0.items read.1.now) }
+    ensures refused { IfErr result (λ fault. Refuses (many count memento) text.now fault) }
+{
+    let mut mementos = Vec::new(alloc);
+    let mut rest = text;
+    for _ in 0..count {
+        let (memento, after) = read_memento(alloc, rest)?;
+        mementos.push(memento)?;
+        rest = after;
+    }
+    Ok((mementos, rest))
+}
+
+/// An entry's line.
+#[derive(Debug, Drop)]
+struct Head {
+    archive: ArchiveName,
+    revision: u64,
+    count: u64,
+    original: Original,
+}
+
+fn read_head(alloc: Global, text: &[u8]) -> Result<(Head, &[u8]), StateFault>
+    ensures found { IfOk result (λ read. Begins head text.now ((read.0.archive, read.0.original), (read.0.revision, read.0.count)) read.1.now) }
+    ensures refused { IfErr result (λ fault. Refuses head text.now fault) }
+{
+    let rest = skip(text, b"entry ")?;
+    let (name, rest) = cut(rest, b' ')?;
+    let Some(archive) = ArchiveName::new(name) else {
+        return Err(StateFault::NotState);
+    };
+    let (revision, rest) = read_number(rest, b' ')?;
+    let (count, rest) = read_number(rest, b' ')?;
+    let (original, rest) = read_original(alloc, rest)?;
+    let head = Head {
+        archive,
+        revision,
+        count,
+        original,
+    };
+    Ok((head, rest))
+}
+
+/// An entry's line and the lines of its mementos, and what follows.
+fn read_entry(alloc: Global, text: &[u8]) -> Result<(Row, &[u8]), StateFault>
+    ensures found { IfOk result (λ read. Begins entry text.now (row_entry read.0) read.1.now) }
+    ensures refused { IfErr result (λ fault. Refuses entry text.now fault) }
+{
+    let (head, rest) = read_head(alloc, text)?;
+    let (mementos, rest) = read_mementos(alloc, head.count, rest)?;
+    match Row::new(head.archive, head.original, head.revision, mementos) {
+        Some(row) => Ok((row, rest)),
+        None => Err(StateFault::NotState),
+    }
+}
+
+/// So many entries, and what follows. Nothing is reserved for entries that may not come.
+fn read_entries(alloc: Global, count: u64, text: &[u8]) -> Result<(Vec<Row>, &[u8]), StateFault>
+    ensures found { IfOk result (λ read. Begins (many count entry) text.now (map_list row_entry read.0.items) read.1.now) }
+    ensures refused { IfErr result (λ fault. Refuses (many count entry) text.now fault) }
+{
+    let mut rows = Vec::new(alloc);
+    let mut rest = text;
+    for _ in 0..count {
+        let (row, after) = read_entry(alloc, rest)?;
+        rows.push(row)?;
+        rest = after;
+    }
+    Ok((rows, rest))
+}
+
+fn is_end(text: &[u8]) -> bool
+    ensures { IsTrue result ↔ (text.now ≡ codes "end\n") }
+{
+    text == b"end\n".as_slice()
+}
+
+/// The entries from `entries N` to `end`, after which nothing comes.
+fn read_listing(alloc: Global, text: &[u8]) -> Result<Vec<Row>, StateFault>
+    ensures found { IfOk result (λ rows. Begins listing text.now (map_list row_entry rows.items) []) }
+    ensures refused { IfErr result (λ fault. RefusesWhole listing text.now fault) }
+{
+    let rest = skip(text, b"entries ")?;
+    let (count, rest) = read_number(rest, b'\n')?;
+    let (rows, rest) = read_entries(alloc, count, rest)?;
+    if !is_end(rest) {
+        return Err(StateFault::NotState);
+    }
+    Ok(rows)
+}
+
+/// Reads the state whose text this is. Takes time linear in the text.
+pub fn read_state(alloc: Global, text: &[u8]) -> Result<State, StateFault>
+    ensures found { IfOk result (λ state. IsState state × (text.now ≡ state_text state)) }
+    ensures within { IfOk result (λ _. length text.now ≤ longest_text) }
+    ensures cause { IfErr result (λ fault. IsCause fault text.now) }
+{
+    if text.len() > MAX_LEN {
+        return Err(StateFault::TooLong);
+    }
+    let entries = skip(text, b"memento-state 1\n")?;
+    let rows = read_listing(alloc, entries)?;
+    match State::of_rows(alloc, rows)? {
+        Some(state) => Ok(state),
+        None => Err(StateFault::NotState),
+    }
+}
