@@ -117,7 +117,7 @@ fn restarts(rt: HostRuntime) -> Result<(), Fail> {
     world.step(&Event::Deliver(1, 2))?;
     let answer = world.ask(1, &timemap(&rt)?);
     let reply = reply_of(&answer).ok_or("no reply")?;
-    assert_eq!(rt; reply.body.as_slice().len(), 382);
+    assert_eq!(rt; reply.body.as_slice().len(), 365);
     world.step(&Event::Deliver(1, 1))?;
     let answer = world.ask(1, &timemap(&rt)?);
     assert_eq!(rt;
