@@ -10,9 +10,9 @@ use Rattle.harvest_lattice.proofs.Knowledge.{lat-append, lat-adds}
 use Rattle.replica_exchange.specs.declared.fault.StateFault.{StateFault}
 use Rattle.replica_exchange.specs.declared.fault.StateFault.TheVariants.{TooLong, NotState}
 use Rattle.replica_exchange.specs.declared.fault.StateFault.TheVariants as fault
-use Rattle.replica_exchange.specs.Faults.{IsCause}
+use Rattle.replica_exchange.specs.Faults.{IsCause, longest_text}
 use Rattle.replica_exchange.specs.StateText.{IsState, state_text}
-use Rattle.replica_exchange.proofs.States.{one_text}
+use Rattle.replica_exchange.proofs.StateLemmas.{one_text}
 use Rattle.timegate.specs.declared.request.Request.{Request}
 use Rattle.timegate.specs.declared.reply.Reply.{Reply}
 use Rattle.timegate.specs.Reply.{reply, reply_of}
@@ -23,7 +23,7 @@ use Rattle.replica_world.specs.declared.event.Said.TheVariants.{Taken, Sent, Joi
 use Rattle.replica_world.specs.declared.event.Refused.TheVariants.{NoReplica, NoMessage, BadState, NoMemory}
 use Rattle.replica_world.specs.Faults.{refusal}
 use Rattle.replica_world.specs.Places.{IsNoNumber}
-use Rattle.replica_world.specs.World.{Knowledge, World, Replica, Message, Answer, Step, Run, Effect, RunsOut, IsText, replica, message, with_replica, with_message, taking, sent_by, fresh, longest_message, start}
+use Rattle.replica_world.specs.World.{Knowledge, World, Replica, Message, Answer, Step, Run, Effect, RunsOut, IsText, replica, message, with_replica, with_message, taking, sent_by, fresh, start}
 use Rattle.replica_world.specs.Stands.{Kept, Stands, Leads, LeadsOn, IsSent, Steps, Runs, state_of, bytes_of}
 use Rattle.replica_world.proofs.Places.{At, at_place, no_number}
 
@@ -169,11 +169,11 @@ delivered old new number place k slot bytes s number_is below k_is slot_below by
     (λ w r stands there.
     let m = message_at old w k slot bytes stands k_is slot_below bytes_is in
     let same : s ≡ lat m.found.taken = one_text s (lat m.found.taken) text.state m.sent.state (sym text.text ∙ m.bytes_is ∙ m.sent.text) in
-    let within : length m.found.bytes ≤ longest_message = subst (λ (b : List ℕ). length b ≤ longest_message) m.bytes_is text.within in
+    let within : length m.found.bytes ≤ longest_text = subst (λ (b : List ℕ). length b ≤ longest_text) m.bytes_is text.within in
     (m.found.taken, lat-adds s ∙ same, inl (rw there (rw m.there (inl (within, (refl, refl)))))))
 
 -- a message's bytes are a state's text, so only their number can refuse them
-too_long : (bytes : List ℕ) (s : Entries) → IsState s → bytes ≡ state_text s → IsCause TooLong bytes ⊎ IsCause NotState bytes → longest_message < length bytes
+too_long : (bytes : List ℕ) (s : Entries) → IsState s → bytes ≡ state_text s → IsCause TooLong bytes ⊎ IsCause NotState bytes → longest_text < length bytes
 too_long bytes s state text (inl long) = long
 too_long bytes s state text (inr not) = absurd (not.1 s state text)
 
@@ -184,8 +184,8 @@ not_joined kept number place k slot bytes answer number_is below k_is slot_below
     (λ w stands.
     let x = replica_at kept w number place fmap.empty stands number_is below in
     let m = message_at kept w k slot bytes stands k_is slot_below bytes_is in
-    let over : longest_message < length m.found.bytes =
-    subst (λ (b : List ℕ). longest_message < length b) m.bytes_is (too_long bytes (lat m.found.taken) m.sent.state (m.bytes_is ∙ m.sent.text) cause) in
+    let over : longest_text < length m.found.bytes =
+    subst (λ (b : List ℕ). longest_text < length b) m.bytes_is (too_long bytes (lat m.found.taken) m.sent.state (m.bytes_is ∙ m.sent.text) cause) in
     inl (rw x.there (rw m.there (inr (over, (is, refl))))))
 
 pub not_delivered : (kept : Kept) (number place k slot : ℕ) (bytes : List ℕ) (fault : StateFault) (answer : Answer) → number ≡ place + 1 → place < length kept.states

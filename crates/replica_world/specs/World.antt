@@ -3,6 +3,7 @@ use Rattle.std.specs.Prelude.{◌≡◌, ℕ, zero, suc, ◌+◌, ◌<◌, ◌�
 use Rattle.harvest_lattice.specs.Lattice.{Entries}
 use Rattle.harvest_lattice.specs.Knowledge.{Harvested, lat, adds}
 use Rattle.replica_exchange.specs.StateText.{IsState, state_text}
+use Rattle.replica_exchange.specs.Faults.{longest_text}
 use Rattle.timegate.specs.declared.request.Request.{Request}
 use Rattle.timegate.specs.Reply.{reply}
 use Rattle.replica_world.specs.declared.event.Event.{Event}
@@ -31,7 +32,7 @@ pub record World : Type 0 where
   pub replicas : List Replica
   pub messages : List Message
 
--- what a world says to an event
+-- what is said to an event
 abbrev pub Answer : Type 0
 Answer = Result Said Refused
 
@@ -70,66 +71,62 @@ sent_by i r = record { sender = i; taken = r.taken; bytes = state_text (lat r.ta
 abbrev pub with_message : World → Message → World
 with_message w m = record w { messages = w.messages ++ m ∷ [] }
 
--- the most bytes that a replica takes in
-abbrev pub longest_message : ℕ
-longest_message = 268435456
+-- what may come of an event: what is said, and the world after it
+abbrev pub Outcome : Type 1
+Outcome = Answer → World → Type 0
 
--- the event is accepted: what is said, and the world after it
-abbrev pub Accepts : Said → World → Answer → World → Type 0
+-- the event is accepted: this is said, and this is the world then
+abbrev pub Accepts : Said → World → Outcome
 Accepts said next answer new = (answer ≡ Ok said) × (new ≡ next)
 
 -- the event is refused, and changes nothing
-abbrev pub Refuses : Refused → World → Answer → World → Type 0
+abbrev pub Refuses : Refused → World → Outcome
 Refuses why w answer new = (answer ≡ Err why) × (new ≡ w)
 
--- the bytes are the text of a state, and not too many
+-- what comes of an event at the replica of this number, if there is one
+abbrev pub AtReplica : World → ℕ → (Replica → Outcome) → Outcome
+AtReplica w i happens answer new = MatchOption (replica w i) (Refuses NoReplica w answer new) (λ r. happens r answer new)
+
+-- and with the message of this number
+abbrev pub WithMessage : World → ℕ → (Message → Outcome) → Outcome
+WithMessage w k happens answer new = MatchOption (message w k) (Refuses NoMessage w answer new) (λ m. happens m answer new)
+
+-- with bytes of at most 268,435,456, or with more
+abbrev pub IfWithinLimit : List ℕ → Outcome → Outcome → Outcome
+IfWithinLimit bytes happens otherwise answer new = ((length bytes ≤ longest_text) × happens answer new) ⊎ ((longest_text < length bytes) × otherwise answer new)
+
+-- the bytes are the text of a state, and at most 268,435,456
 pub record IsText (bytes : List ℕ) (s : Entries) : Type 0 where
   pub state : IsState s
   pub text : bytes ≡ state_text s
-  pub within : length bytes ≤ longest_message
+  pub within : length bytes ≤ longest_text
 
--- what happens with bytes that are the text of a state, and with others
-abbrev pub IfText : List ℕ → (Entries → Type 0) → Type 0 → Type 0
-IfText bytes happens otherwise = ((s : Entries) × IsText bytes s × happens s) ⊎ (((s : Entries) → IsText bytes s → ⊥) × otherwise)
+-- with bytes that are the text of a state, or with others
+abbrev pub IfText : List ℕ → (Entries → Outcome) → Outcome → Outcome
+IfText bytes happens otherwise answer new = ((s : Entries) × IsText bytes s × happens s answer new) ⊎ (((s : Entries) → ¬ IsText bytes s) × otherwise answer new)
 
--- what happens with bytes that aren't too many, and with too many
-abbrev pub IfWithinLimit : List ℕ → Type 0 → Type 0 → Type 0
-IfWithinLimit bytes happens otherwise = ((length bytes ≤ longest_message) × happens) ⊎ ((longest_message < length bytes) × otherwise)
+-- what comes of an event where there is memory
+abbrev pub Effect : List ℕ → World → Event → Outcome
+Effect base w (Take i h) = AtReplica w i (λ r. Accepts Taken (with_replica w i (taking r (h ∷ []))))
+Effect base w (Send i) = AtReplica w i (λ r. Accepts (Sent (length w.messages + 1)) (with_message w (sent_by i r)))
+Effect base w (Deliver i k) =
+    AtReplica w i (λ r. WithMessage w k (λ m. IfWithinLimit m.bytes (Accepts Joined (with_replica w i (taking r m.taken))) (Refuses BadState w)))
+Effect base w (Receive i bytes) =
+    AtReplica w i (λ r. IfText bytes (λ s. Accepts Joined (with_replica w i (taking r (adds s)))) (Refuses BadState w))
+Effect base w (Restart i) = AtReplica w i (λ r. Accepts Restarted (with_replica w i fresh))
+Effect base w (Ask i q) = AtReplica w i (λ r. Accepts (Replied (reply base r.taken q)) w)
 
--- what happens at a replica, where there is one of that number
-abbrev pub AtReplica : World → ℕ → Answer → World → (Replica → Type 0) → Type 0
-AtReplica w i answer new happens = MatchOption (replica w i) (Refuses NoReplica w answer new) happens
-
--- what happens with a message, where there is one of that number
-abbrev pub WithMessage : World → ℕ → Answer → World → (Message → Type 0) → Type 0
-WithMessage w k answer new happens = MatchOption (message w k) (Refuses NoMessage w answer new) happens
-
--- what an event does where there is memory
-abbrev pub Effect : List ℕ → World → Event → Answer → World → Type 0
-Effect base w (Take i h) answer new = AtReplica w i answer new (λ r. Accepts Taken (with_replica w i (taking r (h ∷ []))) answer new)
-Effect base w (Send i) answer new =
-    AtReplica w i answer new (λ r. Accepts (Sent (length w.messages + 1)) (with_message w (sent_by i r)) answer new)
-Effect base w (Deliver i k) answer new =
-    AtReplica w i answer new (λ r.
-    WithMessage w k answer new (λ m.
-    IfWithinLimit m.bytes (Accepts Joined (with_replica w i (taking r m.taken)) answer new) (Refuses BadState w answer new)))
-Effect base w (Receive i bytes) answer new =
-    AtReplica w i answer new (λ r.
-    IfText bytes (λ s. Accepts Joined (with_replica w i (taking r (adds s))) answer new) (Refuses BadState w answer new))
-Effect base w (Restart i) answer new = AtReplica w i answer new (λ r. Accepts Restarted (with_replica w i fresh) answer new)
-Effect base w (Ask i q) answer new = AtReplica w i answer new (λ r. Accepts (Replied (reply base r.taken q)) w answer new)
-
--- an event may be refused for want of memory, but a restart takes none
-abbrev pub RunsOut : World → Event → Answer → World → Type 0
-RunsOut w (Restart i) answer new = ⊥
-RunsOut w (Take i h) answer new = Refuses NoMemory w answer new
-RunsOut w (Send i) answer new = Refuses NoMemory w answer new
-RunsOut w (Deliver i k) answer new = Refuses NoMemory w answer new
-RunsOut w (Receive i bytes) answer new = Refuses NoMemory w answer new
-RunsOut w (Ask i q) answer new = Refuses NoMemory w answer new
+-- what comes of an event for want of memory, which a restart never is
+abbrev pub RunsOut : World → Event → Outcome
+RunsOut w (Take i h) = Refuses NoMemory w
+RunsOut w (Send i) = Refuses NoMemory w
+RunsOut w (Deliver i k) = Refuses NoMemory w
+RunsOut w (Receive i bytes) = Refuses NoMemory w
+RunsOut w (Restart i) = λ answer new. ⊥
+RunsOut w (Ask i q) = Refuses NoMemory w
 
 -- one event in a world whose service has this base
-abbrev pub Step : List ℕ → World → Event → Answer → World → Type 0
+abbrev pub Step : List ℕ → World → Event → Outcome
 Step base w event answer new = Effect base w event answer new ⊎ RunsOut w event answer new
 
 -- events one after the other, with one answer to each
