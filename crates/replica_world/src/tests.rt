@@ -2,7 +2,7 @@ use super::*;
 use harvest_lattice::Harvest;
 use memento_time::{ArchiveName, Clean, Items, Memento, Moment, Octets, Original};
 use std::test::Fail;
-use timegate::{Reply, Request};
+use timegate::{Header, Reply, Request};
 use timemap_writer::Service;
 
 const SECOND_1: u64 = 946_684_800;
@@ -167,5 +167,29 @@ fn refusals(rt: HostRuntime) -> Result<(), Fail> {
     let empty = octets(&rt, b"memento-state 1\nentries 0\nend\n")?;
     assert!(rt; matches!(world.step(&Event::Receive(1, empty)), Ok(Said::Joined)));
     assert!(rt; shows_nothing(&rt, &world, 1)?);
+    Ok(())
+}
+
+#[test]
+fn received_bytes(rt: HostRuntime) -> Result<(), Fail> {
+    let state =
+        b"memento-state 1\nentries 1\nentry arc.example 7 1 http://a.example/\n946684800 http://arc.example/web/20000101000000/http://a.example/\nend\n";
+    assert_eq!(rt; state.len(), 136);
+    let mut world = World::new(rt.alloc(), 1, service(&rt)?)?;
+    world.step(&Event::Receive(1, octets(&rt, state)?))?;
+    let answer = world.ask(1, &get(&rt, b"/timegate/http://a.example/")?);
+    let reply = reply_of(&answer).ok_or("no reply")?;
+    assert_eq!(rt; reply.status, 302);
+    let locations = reply
+        .headers
+        .as_slice()
+        .iter()
+        .filter(|(header, _)| *header == Header::Location);
+    for (_, location) in locations {
+        assert_eq!(rt;
+            location.as_slice(),
+            b"http://arc.example/web/20000101000000/http://a.example/".as_slice()
+        );
+    }
     Ok(())
 }
