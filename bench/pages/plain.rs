@@ -12,7 +12,6 @@ const MAX_LINKS: usize = 200_000;
 const MAX_PARAMS: usize = 32;
 const MAX_ADDRESS: usize = 8_192;
 
-#[derive(Debug)]
 enum Fault {
     TooLong,
     NotLinkFormat(usize),
@@ -40,7 +39,11 @@ impl Value<'_> {
                 let mut bytes = Vec::new();
                 let mut rest = text.iter();
                 while let Some(byte) = rest.next() {
-                    bytes.extend(if *byte == b'\\' { rest.next() } else { Some(byte) });
+                    bytes.extend(if *byte == b'\\' {
+                        rest.next()
+                    } else {
+                        Some(byte)
+                    });
                 }
                 bytes.into()
             }
@@ -99,7 +102,11 @@ impl<'a> Scanner<'a> {
     fn value(&mut self) -> Result<Value<'a>, Fault> {
         if !self.eat(b'"') {
             let token = self.take_while(is_token_byte);
-            return if token.is_empty() { self.fault() } else { Ok(Value::Plain(token)) };
+            return if token.is_empty() {
+                self.fault()
+            } else {
+                Ok(Value::Plain(token))
+            };
         }
         let start = self.at;
         let mut escaped = false;
@@ -120,7 +127,11 @@ impl<'a> Scanner<'a> {
         }
         let text = &self.text[start..self.at];
         self.at += 1;
-        Ok(if escaped { Value::Escaped(text) } else { Value::Plain(text) })
+        Ok(if escaped {
+            Value::Escaped(text)
+        } else {
+            Value::Plain(text)
+        })
     }
 
     fn link(&mut self) -> Result<Link<'a>, Fault> {
@@ -196,14 +207,21 @@ impl Link<'_> {
 fn read_imf(text: &[u8]) -> Option<u64> {
     const DAYS: [&[u8]; 7] = [b"Mon", b"Tue", b"Wed", b"Thu", b"Fri", b"Sat", b"Sun"];
     const MONTHS: [&[u8]; 12] = [
-        b"Jan", b"Feb", b"Mar", b"Apr", b"May", b"Jun", b"Jul", b"Aug", b"Sep", b"Oct", b"Nov", b"Dec",
+        b"Jan", b"Feb", b"Mar", b"Apr", b"May", b"Jun", b"Jul", b"Aug", b"Sep", b"Oct", b"Nov",
+        b"Dec",
     ];
     let number = |from: usize, to: usize| {
         text[from..to].iter().try_fold(0u64, |number, digit| {
-            digit.is_ascii_digit().then(|| number * 10 + u64::from(digit - b'0'))
+            digit
+                .is_ascii_digit()
+                .then(|| number * 10 + u64::from(digit - b'0'))
         })
     };
-    if text.len() != 29 || !DAYS.contains(&&text[..3]) || &text[3..5] != b", " || &text[25..] != b" GMT" {
+    if text.len() != 29
+        || !DAYS.contains(&&text[..3])
+        || &text[3..5] != b", "
+        || &text[25..] != b" GMT"
+    {
         return None;
     }
     if [text[7], text[11], text[16]] != [b' '; 3] || [text[19], text[22]] != [b':'; 2] {
@@ -224,13 +242,17 @@ fn read_imf(text: &[u8]) -> Option<u64> {
     let year_from_march = year - u64::from(month < 3);
     let day_of_year = (153 * ((month + 9) % 12) + 2) / 5 + day - 1;
     let days = year_from_march * 365 + year_from_march / 4 - year_from_march / 100
-        + year_from_march / 400 + day_of_year - 719_468;
+        + year_from_march / 400
+        + day_of_year
+        - 719_468;
     Some(days * 86_400 + hour * 3_600 + minute * 60 + second)
 }
 
 fn is_http_target(target: &[u8]) -> bool {
     let starts = |start: &[u8]| {
-        target.get(..start.len()).is_some_and(|front| front.eq_ignore_ascii_case(start))
+        target
+            .get(..start.len())
+            .is_some_and(|front| front.eq_ignore_ascii_case(start))
     };
     starts(b"http://") || starts(b"https://")
 }
@@ -253,14 +275,22 @@ fn address(base: &str, target: &[u8]) -> Option<Vec<u8>> {
         return Some(target.to_vec());
     }
     let target = std::str::from_utf8(target).ok()?;
-    if target.contains(':') {
+    let mark = target.find([':', '/', '?', '#']);
+    if mark.is_some_and(|at| target.as_bytes()[at] == b':') {
         return None;
     }
-    let host_end = base.find("//").map(|at| at + 2 + base[at + 2..].find('/').unwrap_or(base.len() - at - 2))?;
+    let authority = base.find("//")? + 2;
+    let host_end = base[authority..]
+        .find('/')
+        .map_or(base.len(), |at| authority + at);
     let joined = match target.as_bytes() {
         [b'/', b'/', ..] => format!("http:{target}"),
         [b'/', ..] => format!("{}{target}", &base[..host_end]),
-        _ => format!("{}/{target}", base.rsplit_once('/').map_or(base, |(folder, _)| folder)),
+        [b'?', ..] => format!("{base}{target}"),
+        _ => {
+            let folder = base.rsplit_once('/').map_or(base, |(folder, _)| folder);
+            format!("{folder}/{target}")
+        }
     };
     Some(joined.into_bytes())
 }
@@ -279,13 +309,21 @@ struct Page {
 }
 
 fn trim(text: &[u8], is_cut: impl Fn(u8) -> bool) -> &[u8] {
-    let start = text.iter().position(|byte| !is_cut(*byte)).unwrap_or(text.len());
-    let end = text.iter().rposition(|byte| !is_cut(*byte)).map_or(start, |at| at + 1);
+    let start = text
+        .iter()
+        .position(|byte| !is_cut(*byte))
+        .unwrap_or(text.len());
+    let end = text
+        .iter()
+        .rposition(|byte| !is_cut(*byte))
+        .map_or(start, |at| at + 1);
     &text[start..end]
 }
 
 fn memento(base: &str, link: &Link) -> Option<Memento> {
-    let at = read_imf(trim(&link.value("datetime")?, |byte| byte == b' ' || byte == b'\t'))?;
+    let at = read_imf(trim(&link.value("datetime")?, |byte| {
+        byte == b' ' || byte == b'\t'
+    }))?;
     let uri = if is_http_target(link.target) {
         clean(link.target)
     } else {
@@ -296,7 +334,10 @@ fn memento(base: &str, link: &Link) -> Option<Memento> {
 
 fn further(base: &str, link: &Link) -> Option<String> {
     let address = address(base, link.target)?;
-    let end = address.iter().position(|byte| *byte == b'#').unwrap_or(address.len());
+    let end = address
+        .iter()
+        .position(|byte| *byte == b'#')
+        .unwrap_or(address.len());
     clean(&address[..end])
 }
 
@@ -309,7 +350,8 @@ fn read_page(base: &str, body: &[u8]) -> Result<Page, Fault> {
     for link in read_links(body)? {
         let rel = link.value("rel").unwrap_or_default();
         let has = |name: &str| {
-            rel.split(|byte| is_blank(*byte)).any(|word| word.eq_ignore_ascii_case(name.as_bytes()))
+            rel.split(|byte| is_blank(*byte))
+                .any(|word| word.eq_ignore_ascii_case(name.as_bytes()))
         };
         if has("memento") {
             match memento(base, &link) {
@@ -321,7 +363,12 @@ fn read_page(base: &str, body: &[u8]) -> Result<Page, Fault> {
             let media_type = value.split(|byte| *byte == b';').next().unwrap_or_default();
             trim(media_type, is_blank).eq_ignore_ascii_case(b"application/link-format")
         };
-        if has("timemap") && !has("self") && link.value("type").is_none_or(|value| is_link_format(&value)) {
+        if has("timemap")
+            && !has("self")
+            && link
+                .value("type")
+                .is_none_or(|value| is_link_format(&value))
+        {
             match further(base, &link) {
                 Some(address) => {
                     if seen.insert(address.clone()) {
@@ -337,11 +384,25 @@ fn read_page(base: &str, body: &[u8]) -> Result<Page, Fault> {
     Ok(page)
 }
 
-fn main() -> Result<(), Fault> {
-    let base = std::env::args().nth(1).unwrap_or("http://arc.example/list".to_string());
+fn main() {
+    let base = std::env::args()
+        .nth(1)
+        .unwrap_or("http://arc.example/list".to_string());
     let mut body = Vec::new();
-    std::io::stdin().read_to_end(&mut body).expect("standard input");
-    let page = read_page(&base, &body)?;
-    println!("{} {} {}", page.mementos.len(), page.further.len(), page.dropped);
-    Ok(())
+    std::io::stdin()
+        .read_to_end(&mut body)
+        .expect("standard input");
+    match read_page(&base, &body) {
+        Ok(page) => println!(
+            "{} {} {}",
+            page.mementos.len(),
+            page.further.len(),
+            page.dropped
+        ),
+        Err(Fault::TooLong) => println!("too long"),
+        Err(Fault::NotLinkFormat(at)) => println!("not link-format at {at}"),
+        Err(Fault::TooManyLinks) => println!("too many links"),
+        Err(Fault::TooManyParams) => println!("too many parameters"),
+        Err(Fault::TargetTooLong) => println!("a target that is too long"),
+    }
 }

@@ -47,7 +47,7 @@ impl fmt::Display for PageFault {
     fn fmt<W: fmt::Write>(&self, f: &mut fmt::Formatter<W>) -> fmt::Result {
         f.write_str(match self {
             PageFault::TooLong => "a page of more than 8388608 bytes",
-            PageFault::Links(_) => "a page that is no link-format",
+            PageFault::Links(_) => "a page whose links can't be read",
             PageFault::BadBase => "a base that is no http or https URL",
             PageFault::NoMemory => "no memory",
         })
@@ -202,9 +202,10 @@ fn read_base(alloc: Global, base: &str) -> Result<Url, PageFault>
 ///   base. A further TimeMap's address loses its fragment. Bytes that aren't clean are escaped.
 /// - A link from which a memento or a further TimeMap can't be read is left out and counted.
 ///
-/// Time and memory grow with the body and with what is read from it. Beside the body stand some 60
-/// bytes a link and 60 a memento, and the addresses. A relative target is as long as the base once
-/// it is joined: 8 KB for each link in the worst case, so that a page of 3 MB can name 1.6 GB.
+/// Time and memory grow with the body and with what is read from it. Beside the body stand up to 80
+/// bytes a link, and as many a memento or further TimeMap beside its address. A relative target is as
+/// long as the base once it is joined, 8 KB in the worst case for each of up to 200,000 links: a page
+/// of 3 MB can name addresses of 1.6 GB.
 pub fn read_page(alloc: Global, base: &str, body: &[u8]) -> Result<Page, PageFault>
     ensures { IsAnswer base.now body.now result }
 {
