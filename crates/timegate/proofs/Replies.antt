@@ -16,13 +16,14 @@ use Rattle.timegate.specs.declared.reply.Header.{Header}
 use Rattle.timegate.specs.declared.reply.Header.TheVariants.{Location, Link}
 use Rattle.timegate.specs.declared.request.Request.{Request}
 use Rattle.timegate.specs.declared.route.Route.{Route}
-use Rattle.timegate.specs.declared.route.Route.TheVariants.{BadMethod, NoRoute, BadOriginal, BadDatetime, TimeGate, TimeMap}
+use Rattle.timegate.specs.declared.route.Route.TheVariants.{BadMethod, State, NoRoute, BadOriginal, BadDatetime, TimeGate, TimeMap}
 use Rattle.timegate.specs.Route.{route_of}
 use Rattle.timegate.specs.Reply.{routed, reply, reply_of, redirect, timemap, chosen, vary}
 use Rattle.timegate.specs.Redirect.{Redirects}
 
-routed_from_state : (base : List ℕ) (known : List Harvested) (q : Request) (route : Route) → routed base (shown known) q route ≡ routed base (shown_of (lat known)) q route
+routed_from_state : (base : List ℕ) (known : List Harvested) (q : Request) (route : Route) → routed base (shown known) (lat known) q route ≡ routed base (shown_of (lat known)) (lat known) q route
 routed_from_state base known q BadMethod = refl
+routed_from_state base known q State = refl
 routed_from_state base known q NoRoute = refl
 routed_from_state base known q BadOriginal = refl
 routed_from_state base known q BadDatetime = refl
@@ -33,6 +34,12 @@ routed_from_state base known q (TimeMap original) = ap (λ (ms : Mementos). time
 pub reply_from_state : (base : List ℕ) (known : List Harvested) (q : Request) → reply base known q ≡ reply_of base (lat known) q
 unfolding reply reply_of
 reply_from_state base known q = routed_from_state base known q (route_of q)
+
+-- a TimeMap is asked for
+pub timemap_reply : (base : List ℕ) (known : List Harvested) (q : Request) (original : List ℕ) → route_of q ≡ TimeMap original
+    → reply base known q ≡ timemap base q original (set.items (shown known original))
+unfolding reply
+timemap_reply base known q original is = ap (λ (route : Route). routed base (shown known) (lat known) q route) is
 
 -- equal states give equal replies
 pub same_reply : (base : List ℕ) (known others : List Harvested) (q : Request) → lat known ≡ lat others → reply base known q ≡ reply base others q
@@ -93,10 +100,11 @@ not_found false x y is other status = omega (arith, other, status)
 -- that the reply to what is asked for redirects well
 abbrev RedirectsAt : List ℕ → List Harvested → Request → Route → Type 0
 RedirectsAt base known q route =
-    (original : List ℕ) × (asked : Option ℕ) × (route ≡ TimeGate original asked) × Redirects known original asked (routed base (shown known) q route)
+    (original : List ℕ) × (asked : Option ℕ) × (route ≡ TimeGate original asked) × Redirects known original asked (routed base (shown known) (lat known) q route)
 
-at_route : (base : List ℕ) (known : List Harvested) (q : Request) (route : Route) → (routed base (shown known) q route).status ≡ 302 → RedirectsAt base known q route
+at_route : (base : List ℕ) (known : List Harvested) (q : Request) (route : Route) → (routed base (shown known) (lat known) q route).status ≡ 302 → RedirectsAt base known q route
 at_route base known q BadMethod status = absurd (omega arith)
+at_route base known q State status = absurd (omega arith)
 at_route base known q NoRoute status = absurd (omega arith)
 at_route base known q BadOriginal status = absurd (omega arith)
 at_route base known q BadDatetime status = absurd (omega arith)

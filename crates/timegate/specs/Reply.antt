@@ -3,15 +3,16 @@ use Rattle.std.specs.Prelude.{ℕ, List, [], ◌∷◌, ◌++◌, Option, None, 
 use Rattle.memento_time.specs.declared.mementos.Memento.{Memento}
 use Rattle.harvest_lattice.specs.Sets as set
 use Rattle.harvest_lattice.specs.Lattice.{Mementos, Entries}
-use Rattle.harvest_lattice.specs.Knowledge.{Harvested, shown, shown_of}
+use Rattle.harvest_lattice.specs.Knowledge.{Harvested, lat, shown, shown_of}
 use Rattle.harvest_lattice.specs.Choice.{nearest, last}
+use Rattle.replica_exchange.specs.StateText.{state_text}
 use Rattle.timemap_writer.specs.TimeMap.{timemap_text, gate_links}
 use Rattle.timegate.specs.declared.reply.Reply.{Reply}
 use Rattle.timegate.specs.declared.reply.Header.{Header}
 use Rattle.timegate.specs.declared.reply.Header.TheVariants.{Allow, Vary, Location, Link, ContentType}
 use Rattle.timegate.specs.declared.request.Request.{Request}
 use Rattle.timegate.specs.declared.route.Route.{Route}
-use Rattle.timegate.specs.declared.route.Route.TheVariants.{BadMethod, NoRoute, BadOriginal, BadDatetime, TimeGate, TimeMap}
+use Rattle.timegate.specs.declared.route.Route.TheVariants.{BadMethod, State, NoRoute, BadOriginal, BadDatetime, TimeGate, TimeMap}
 use Rattle.timegate.specs.Route.{is_head, is_timegate, route_of}
 
 -- the name of a header field
@@ -55,22 +56,23 @@ timemap base q original mementos =
     if length mementos == 0 then told q 404 [] (codes "no memento\n")
     else answered q 200 ((ContentType, codes "application/link-format") ∷ []) (timemap_text base original mementos)
 
--- by what is asked for, from what is shown of each original
-abbrev pub routed : List ℕ → (List ℕ → Mementos) → Request → Route → Reply
-routed base shows q BadMethod = bad_method q
-routed base shows q NoRoute = told q 404 [] (codes "no such route\n")
-routed base shows q BadOriginal = told q 400 [] (codes "bad original\n")
-routed base shows q BadDatetime = told q 400 [] (codes "bad datetime\n")
-routed base shows q (TimeGate original asked) = redirect base q original (shows original) (chosen (shows original) asked)
-routed base shows q (TimeMap original) = timemap base q original (set.items (shows original))
+-- by what is asked for, from what is shown of each original and what is kept of all
+abbrev pub routed : List ℕ → (List ℕ → Mementos) → Entries → Request → Route → Reply
+routed base shows entries q BadMethod = bad_method q
+routed base shows entries q State = answered q 200 ((ContentType, codes "text/plain") ∷ []) (state_text entries)
+routed base shows entries q NoRoute = told q 404 [] (codes "no such route\n")
+routed base shows entries q BadOriginal = told q 400 [] (codes "bad original\n")
+routed base shows entries q BadDatetime = told q 400 [] (codes "bad datetime\n")
+routed base shows entries q (TimeGate original asked) = redirect base q original (shows original) (chosen (shows original) asked)
+routed base shows entries q (TimeMap original) = timemap base q original (set.items (shows original))
 
 -- the reply of one that has taken these harvests
 unfoldable pub reply : List ℕ → List Harvested → Request → Reply
-reply base known q = routed base (shown known) q (route_of q)
+reply base known q = routed base (shown known) (lat known) q (route_of q)
 
 -- the reply of one that has this state
 unfoldable pub reply_of : List ℕ → Entries → Request → Reply
-reply_of base entries q = routed base (shown_of entries) q (route_of q)
+reply_of base entries q = routed base (shown_of entries) entries q (route_of q)
 
 -- the text of an original's TimeMap
 abbrev pub timemap_of : List ℕ → List Harvested → List ℕ → List ℕ

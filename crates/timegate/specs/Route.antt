@@ -1,4 +1,4 @@
--- What a request asks for: the TimeGate or the TimeMap of an original, or the reason that it is refused.
+-- What a request asks for: the TimeGate or the TimeMap of an original, the state bytes, or the reason that it is refused.
 use Rattle.std.specs.Prelude.{ℕ, Bool, not, ◌&&◌, List, [], ◌∷◌, Option, None, Some, drop, length, codes, bytes_eq, nat_eq, if◌then◌else◌}
 use Rattle.std.specs.List.{starts_with}
 use Rattle.std.specs.Str.{is_utf8}
@@ -6,13 +6,17 @@ use Rattle.memento_time.specs.SecondOf.{asked_of}
 use Rattle.timemap_reader.specs.Original.{original_of}
 use Rattle.timegate.specs.declared.request.Request.{Request}
 use Rattle.timegate.specs.declared.route.Route.{Route}
-use Rattle.timegate.specs.declared.route.Route.TheVariants.{BadMethod, NoRoute, BadOriginal, BadDatetime, TimeGate, TimeMap}
+use Rattle.timegate.specs.declared.route.Route.TheVariants.{BadMethod, State, NoRoute, BadOriginal, BadDatetime, TimeGate, TimeMap}
 
 abbrev pub is_get : Request → Bool
 is_get q = bytes_eq q.method (codes "GET")
 
 abbrev pub is_head : Request → Bool
 is_head q = bytes_eq q.method (codes "HEAD")
+
+-- where the state bytes stand, which peers fetch
+abbrev pub is_state : Request → Bool
+is_state q = bytes_eq q.target (codes "/state")
 
 -- where TimeGates stand, each followed by its original
 abbrev pub timegates : List ℕ
@@ -51,6 +55,7 @@ original_route route (Some original) = route original
 unfoldable pub route_of : Request → Route
 route_of q =
     if not (is_get q) && not (is_head q) then BadMethod
+    else if is_state q then State
     else if is_timegate q then original_route (timegate_route q.asked) (original_at (drop (length timegates) q.target))
     else if is_timemap q then original_route TimeMap (original_at (drop (length timemaps) q.target))
     else NoRoute

@@ -1,7 +1,8 @@
 //! The reply to a request.
-ghost use Rattle.std.specs.Prelude.{◌≡◌, ◌++◌, [], List, IfOk, OnOk, option_copied};
+ghost use Rattle.std.specs.Prelude.{◌≡◌, ◌++◌, ◌∷◌, [], List, IfOk, OnOk, codes, option_copied};
 ghost use Rattle.harvest_lattice.specs.Sets as set;
 ghost use Rattle.harvest_lattice.specs.Knowledge.{Harvested, lat, shown_of};
+ghost use Rattle.replica_exchange.specs.StateText.{state_text};
 ghost use Rattle.timegate.specs.Reply.{answered, vary, told, bad_method, redirect, timemap, routed, reply, reply_of};
 
 use crate::reply::{Header, Reply};
@@ -9,6 +10,7 @@ use crate::request::Request;
 use crate::route::{Route, is_head, is_timegate, route_of};
 use harvest_lattice::Index;
 use memento_time::{Items, Memento, NoMemory, Octets, Original};
+use replica_exchange::write_state;
 use std::alloc::Global;
 use timemap_writer::{Service, write_gate_links, write_timemap};
 
@@ -17,6 +19,7 @@ use timemap_writer::{Service, write_gate_links, write_timemap};
 /// | Request | Status | Body |
 /// |---|---|---|
 /// | a method other than `GET` and `HEAD` | 405, with `Allow` | `bad method` |
+/// | `/state` | 200 | the state bytes |
 /// | a target that begins neither with `/timegate/` nor with `/timemap/link/` | 404 | `no such route` |
 /// | a rest of the target that names no original | 400 | `bad original` |
 /// | a TimeGate that is asked for two datetimes, or for one that can't be read | 400 | `bad datetime` |
@@ -49,10 +52,11 @@ fn routed(
     request: &Request,
     route: &Route,
 ) -> Result<Reply, NoMemory>
-    ensures { IfOk result (λ answer. answer ≡ routed service.now (shown_of index.now) request.now route.now) }
+    ensures { IfOk result (λ answer. answer ≡ routed service.now (shown_of index.now) index.now request.now route.now) }
 {
     match route {
         Route::BadMethod => bad_method(alloc, request),
+        Route::State => state(alloc, index, request),
         Route::NoRoute => told(alloc, request, 404, Vec::new(alloc), b"no such route\n"),
         Route::BadOriginal => told(alloc, request, 400, Vec::new(alloc), b"bad original\n"),
         Route::BadDatetime => told(alloc, request, 400, Vec::new(alloc), b"bad datetime\n"),
@@ -112,6 +116,16 @@ fn timemap(
     let mut headers = Vec::new(alloc);
     let kind = octets(alloc, b"application/link-format")?;
     headers.push((Header::ContentType, kind))?;
+    Ok(answered(request, 200, headers, text))
+}
+
+fn state(alloc: Global, index: &Index, request: &Request) -> Result<Reply, NoMemory>
+    ensures { IfOk result (λ answer. answer
+        ≡ answered request.now 200 ((Header.ContentType, codes "text/plain") ∷ []) (state_text index.now)) }
+{
+    let text = write_state(alloc, index.state())?;
+    let mut headers = Vec::new(alloc);
+    headers.push((Header::ContentType, octets(alloc, b"text/plain")?))?;
     Ok(answered(request, 200, headers, text))
 }
 

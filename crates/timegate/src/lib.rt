@@ -7,6 +7,8 @@ mod laws;
 mod reply;
 mod request;
 mod route;
+#[cfg(test)]
+mod tests;
 
 pub use answering::answer;
 pub use laws::{redirects_name_the_nearest, replies_from_state, same_harvests_same_reply};

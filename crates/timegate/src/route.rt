@@ -1,6 +1,6 @@
 //! What a request asks for.
 ghost use Rattle.std.specs.Prelude.{◌≡◌, IfOk};
-ghost use Rattle.timegate.specs.Route.{is_get, is_head, is_timegate, is_timemap, original_at, timegate_route, route_of};
+ghost use Rattle.timegate.specs.Route.{is_get, is_head, is_state, is_timegate, is_timemap, original_at, timegate_route, route_of};
 
 use crate::request::Request;
 use memento_time::{Moment, NoMemory, Octets, Original};
@@ -16,6 +16,8 @@ const TIMEMAPS: &[u8] = b"/timemap/link/";
 #[derive(Debug, Drop)]
 pub enum Route {
     BadMethod,
+    /// The state bytes.
+    State,
     NoRoute,
     BadOriginal,
     BadDatetime,
@@ -35,6 +37,12 @@ fn is_get(request: &Request) -> bool
     ensures { result ≡ is_get request.now }
 {
     request.method.as_slice() == b"GET".as_slice()
+}
+
+fn is_state(request: &Request) -> bool
+    ensures { result ≡ is_state request.now }
+{
+    request.target.as_slice() == b"/state".as_slice()
 }
 
 pub fn is_timegate(request: &Request) -> bool
@@ -84,6 +92,9 @@ pub fn route_of(alloc: Global, request: &Request) -> Result<Route, NoMemory>
 {
     if !is_get(request) && !is_head(request) {
         return Ok(Route::BadMethod);
+    }
+    if is_state(request) {
+        return Ok(Route::State);
     }
     let target = request.target.as_slice();
     if is_timegate(request) {

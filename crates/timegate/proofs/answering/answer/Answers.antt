@@ -9,7 +9,7 @@ use Rattle.timegate.proofs.answering.answer.Goals as goal
 pub returns-clause-state : goal.returns-clause-state
 unfolding reply_of
 returns-clause-state c =
-    let P : Route → Type 0 = λ route. IfOk c.routed.result (λ answer. answer ≡ routed c.args.service.now (shown_of c.args.index.now) c.args.request.now route) in
+    let P : Route → Type 0 = λ route. IfOk c.routed.result (λ answer. answer ≡ routed c.args.service.now (shown_of c.args.index.now) c.args.index.now c.args.request.now route) in
     subst P c.in_ok-route.ensures c.routed.ensures
 
 pub returns-clause-knowledge : goal.returns-clause-knowledge
