@@ -23,6 +23,7 @@ struct Link<'a> {
 }
 
 #[derive(Debug)]
+#[allow(dead_code)]
 enum Fault {
     NotLinkFormat { at: usize },
     TooManyLinks,

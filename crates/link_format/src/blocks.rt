@@ -1,4 +1,4 @@
-//! Runs of usual bytes, skipped sixteen at a time.
+//! Usual bytes, which make up most of a text, are skipped sixteen at a time.
 ghost use Rattle.std.specs.Prelude.{◌≡◌, ◌<◌, ◌≤◌, ℕ, length, slice_index, true};
 ghost use Rattle.link_format.specs.Bytes.{is_plain, is_target_byte, is_usual};
 ghost use Rattle.link_format.specs.Scan.{first_lane, past};
@@ -35,7 +35,8 @@ fn usual_run(text: &[u8]) -> usize
     first_lane(unusual.to_bitmask())
 }
 
-/// Cuts usual bytes from the front. A longest front of target or plain bytes ends where it did.
+/// Cuts usual bytes from the front, perhaps not all of them. What comes after the target bytes at
+/// the front is the same before and after the cut, and so is what comes after the plain ones.
 #[inline]
 pub(crate) fn skip_usual(text: &[u8]) -> &[u8]
     ensures target { past is_target_byte result.now ≡ past is_target_byte text.now }

@@ -36,22 +36,10 @@ pub(crate) fn nth_name(text: &[u8], k: usize) -> &[u8]
 fn is_same_name(a: &[u8], b: &[u8]) -> bool
     ensures { result ≡ same_name a.now b.now }
 {
-    let mut a = a;
-    let mut b = b;
-    while let [x, xs @ ..] = a {
-        let [y, ys @ ..] = b else {
-            return false;
-        };
-        if !x.eq_ignore_ascii_case(y) {
-            return false;
-        }
-        a = xs;
-        b = ys;
-    }
-    b.is_empty()
+    a.eq_ignore_ascii_case(b)
 }
 
-/// The bytes that are meant, up to the closing quote.
+/// The bytes that a quoted text says, up to the closing quote.
 fn unquote(alloc: Global, text: &[u8]) -> Result<Vec<u8>, AllocError>
     ensures { IfOk result (λ v. v.items ≡ quoted_bytes false text.now) }
 {
@@ -73,12 +61,13 @@ fn unquote(alloc: Global, text: &[u8]) -> Result<Vec<u8>, AllocError>
     Ok(out)
 }
 
-/// The bytes that are meant: a part of the text, or a copy where something in it is escaped.
+/// The bytes that a value says: a part of the text, or a copy where something in it is escaped.
 pub(crate) fn shown(
     alloc: Global,
     value: Option<ValueSpan<'_>>,
 ) -> Result<CowSlice<'_, u8, Global>, AllocError>
-    ensures { IfOk result (λ v. cow_slice_items v ≡ value_or_empty (option_map meant_bytes value.entry)) }
+    ensures { IfOk result (λ shown. cow_slice_items shown
+        ≡ value_or_empty (option_map meant_bytes value.entry)) }
 {
     match value {
         None => Ok(CowSlice::Borrowed(&[])),
@@ -90,7 +79,8 @@ pub(crate) fn shown(
 /// The first parameter of this name.
 pub(crate) fn first_named<'a>(text: &'a [u8], name: &[u8]) -> Option<ParamSpan<'a>>
     ensures none { IfNone result (first_value name.now (params_of text.now) ≡ None) }
-    ensures some { IfSome result (λ p. first_value name.now (params_of text.now) ≡ Some (value_or_empty (option_map meant_bytes p.value))) }
+    ensures some { IfSome result (λ found. first_value name.now (params_of text.now)
+        ≡ Some (value_or_empty (option_map meant_bytes found.value))) }
 {
     let mut rest = text;
     while let Some((found, after)) = next_param(rest) {
