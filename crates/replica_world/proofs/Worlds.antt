@@ -78,13 +78,13 @@ stands_with old new w number place r state stands number_is state_is states mess
 joined_state : (known more : Knowledge) (state other : Entries) → state ≡ lat known → other ≡ lat more → join state other ≡ lat (known ++ more)
 joined_state known more state other state_is other_is = (λ i. join (state_is i) (other_is i)) ∙ sym (lat-append known more)
 
--- what a replica is told, and what that adds
+-- the state at the place has joined that of more harvests, and nothing else has changed
 pub record Absorbed (old new : Kept) (place : ℕ) (more : Knowledge) : Type 0 where
   pub base : new.base ≡ old.base
   pub messages : new.messages ≡ old.messages
   pub states : new.states ≡ slice_set old.states place (join (get_or old.states place fmap.empty) (lat more))
 
--- at a replica that was told something, the world has what was told to the replica in each of its worlds
+-- where a replica's state has joined that of more harvests, each world is followed by one in which the replica has taken harvests of that state
 told : (old new : Kept) (number place : ℕ) (event : Event) (answer : Answer) (more : Knowledge) → number ≡ place + 1 → place < length old.states → Absorbed old new place more
     → ((w : World) (r : Replica) → Stands old w → replica w number ≡ Some r → (added : Knowledge) × (lat more ≡ lat added) × Step old.base w event answer (with_replica w number (taking r added)))
     → Steps old event answer new
