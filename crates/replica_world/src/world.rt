@@ -167,7 +167,8 @@ impl World {
         let Some(place) = place_of(number, self.replicas.len()) else {
             return Err(Refused::NoReplica);
         };
-        let reply = answer(self.alloc, &self.service, &self.replicas[place], request)?;
+        let index = &self.replicas[place];
+        let reply = answer(self.alloc, &self.service, index, request)?;
         Ok(Said::Replied(reply))
     }
 
