@@ -8,11 +8,10 @@ use Rattle.harvest_lattice.proofs.Knowledge.{lat_same, shown-lat}
 use Rattle.timemap_writer.specs.TimeMap.{timemap_text}
 use Rattle.timegate.specs.declared.reply.Reply.{Reply}
 use Rattle.timegate.specs.declared.request.Request.{Request}
-use Rattle.timegate.specs.declared.route.Route.{Route}
 use Rattle.timegate.specs.declared.route.Route.TheVariants.{TimeMap}
 use Rattle.timegate.specs.Route.{route_of, is_head}
-use Rattle.timegate.specs.Reply.{routed, reply, reply_of, timemap, timemap_of}
-use Rattle.timegate.proofs.Replies.{same_reply, redirects}
+use Rattle.timegate.specs.Reply.{reply, timemap_of}
+use Rattle.timegate.proofs.Replies.{same_reply, timemap_reply, redirects}
 use Rattle.replica_world.specs.declared.event.Event.TheVariants.{Ask}
 use Rattle.replica_world.specs.declared.event.Said.TheVariants.{Replied}
 use Rattle.replica_world.specs.declared.event.Refused.TheVariants.{NoReplica}
@@ -49,10 +48,8 @@ shows true q text none some missing status body = missing
 shows false q text none some missing status body = (status, body)
 
 timemap_shows : (base : List ℕ) (known : Knowledge) (q : Request) (original : List ℕ) → route_of q ≡ TimeMap original → Shows (timemap_at base known original) q (reply base known q)
-unfolding reply
 timemap_shows base known q original is =
-    let e : reply base known q ≡ timemap base q original (set.items (shown known original)) = ap (λ (route : Route). routed base (shown known) q route) is in
-    subst (λ (r : Reply). Shows (timemap_at base known original) q r) (sym e)
+    subst (λ (r : Reply). Shows (timemap_at base known original) q r) (sym (timemap_reply base known q original is))
     (shows (length (set.items (shown known original)) == 0) q (timemap_of base known original) _ _ refl refl refl)
 
 pub serves_timemaps : (base : List ℕ) (world : World) (i : ℕ) (known : Knowledge) → HasTaken world i known → ServesTimeMaps base world i known
