@@ -1,4 +1,4 @@
-use Rattle.std.proofs.Common.{◌≡◌, ◌≤◌, length, ap, ◌∙◌, arith}
+use Rattle.std.proofs.Common.{◌≤◌, length, ap, ◌∙◌, arith}
 use Rattle.link_format.specs.Bytes.{is_plain, is_target_byte}
 use Rattle.link_format.specs.Scan.{past}
 use Rattle.link_format.proofs.Fronts.{usual_drop}
