@@ -24,12 +24,12 @@ pub enum OriginalFault {
 
 impl fmt::Display for OriginalFault {
     fn fmt<W: fmt::Write>(&self, f: &mut fmt::Formatter<W>) -> fmt::Result {
-        f.write_str(match self {
-            OriginalFault::NotUrl => "not a URL",
-            OriginalFault::NotHttp => "not an http or https URL",
-            OriginalFault::TooLong => "an original of more than 4096 bytes",
-            OriginalFault::NoMemory => "no memory",
-        })
+        match self {
+            OriginalFault::NotUrl => write!(f, "not a URL"),
+            OriginalFault::NotHttp => write!(f, "not an http or https URL"),
+            OriginalFault::TooLong => write!(f, "an original of more than 4,096 bytes"),
+            OriginalFault::NoMemory => write!(f, "no memory"),
+        }
     }
 }
 

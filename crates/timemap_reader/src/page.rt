@@ -45,12 +45,12 @@ pub enum PageFault {
 
 impl fmt::Display for PageFault {
     fn fmt<W: fmt::Write>(&self, f: &mut fmt::Formatter<W>) -> fmt::Result {
-        f.write_str(match self {
-            PageFault::TooLong => "a page of more than 8388608 bytes",
-            PageFault::Links(_) => "a page whose links can't be read",
-            PageFault::BadBase => "a base that is no http or https URL",
-            PageFault::NoMemory => "no memory",
-        })
+        match self {
+            PageFault::TooLong => write!(f, "a page of more than 8,388,608 bytes"),
+            PageFault::Links(fault) => write!(f, "{fault}"),
+            PageFault::BadBase => write!(f, "a base that is no http or https URL"),
+            PageFault::NoMemory => write!(f, "no memory"),
+        }
     }
 }
 
