@@ -1,6 +1,6 @@
 -- Two questions after a run.
-use Rattle.std.proofs.Common.{◌≡◌, ℕ, List, [], ◌∷◌, refl, sym, ap, subst, ◌∙◌, Ok, Err, inl, inr}
-use Rattle.std.specs.Prelude.{Option, Some, None, MatchOption, ◌⊎◌}
+use Rattle.std.proofs.Common.{◌≡◌, ℕ, List, subst, ◌∙◌, Ok, inl, inr}
+use Rattle.std.specs.Prelude.{Option, Some, None, MatchOption}
 use Rattle.harvest_lattice.specs.Knowledge.{lat}
 use Rattle.timegate.specs.declared.request.Request.{Request}
 use Rattle.timegate.specs.declared.reply.Reply.{Reply}
@@ -9,7 +9,7 @@ use Rattle.replica_world.specs.declared.event.Event.{Event}
 use Rattle.replica_world.specs.declared.event.Event.TheVariants.{Ask}
 use Rattle.replica_world.specs.declared.event.Said.TheVariants.{Replied}
 use Rattle.replica_world.specs.declared.event.Refused.TheVariants.{NoReplica}
-use Rattle.replica_world.specs.World.{Knowledge, World, Replica, Answer, Run, Step, Effect, Refuses, Accepts, replica, start}
+use Rattle.replica_world.specs.World.{Knowledge, World, Replica, Answer, Run, Step, Refuses, Accepts, replica, start}
 use Rattle.replica_world.specs.Stands.{Kept, Stands, Steps, Runs}
 use Rattle.replica_world.specs.Agreement.{HasTaken, Gives}
 use Rattle.replica_world.specs.Asked.{AgreeAfter}

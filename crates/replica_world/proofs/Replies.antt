@@ -1,5 +1,5 @@
 -- What the replies of a world follow from.
-use Rattle.std.proofs.Common.{◌≡◌, ℕ, ◌==◌, Bool, true, false, List, [], length, Option, refl, ap, ◌∙◌, sym, subst, Ok, Err, Some, None, inl, inr}
+use Rattle.std.proofs.Common.{◌≡◌, ℕ, ◌==◌, Bool, true, false, List, [], length, Option, refl, ap, ◌∙◌, sym, subst, Ok, Some, None, inl, inr}
 use Rattle.std.specs.Prelude.{MatchOption, if◌then◌else◌}
 use Rattle.harvest_lattice.specs.Sets as set
 use Rattle.harvest_lattice.specs.Lattice.{Mementos, Entries}
@@ -15,7 +15,7 @@ use Rattle.timegate.proofs.Replies.{same_reply, timemap_reply, redirects}
 use Rattle.replica_world.specs.declared.event.Event.TheVariants.{Ask}
 use Rattle.replica_world.specs.declared.event.Said.TheVariants.{Replied}
 use Rattle.replica_world.specs.declared.event.Refused.TheVariants.{NoReplica}
-use Rattle.replica_world.specs.World.{Knowledge, World, Replica, Answer, Step, Refuses, Accepts, replica}
+use Rattle.replica_world.specs.World.{Knowledge, World, Replica, Step, Refuses, Accepts}
 use Rattle.replica_world.specs.Agreement.{SameHarvests, HasTaken, Gives, Agree, Shows, ServesTimeMaps, NamesNearest, RedirectsWell, timemap_at}
 
 pub same_state : (known other : Knowledge) → SameHarvests known other → lat known ≡ lat other

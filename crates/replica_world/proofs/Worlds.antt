@@ -1,5 +1,5 @@
 -- The steps of the worlds that what is kept stands for.
-use Rattle.std.proofs.Common.{◌≡◌, ℕ, zero, suc, ◌+◌, ◌<◌, ◌≤◌, List, [], ◌∷◌, ◌++◌, length, get_or, map, Option, Some, None, Result, Ok, Err, refl, sym, ap, subst, ◌∙◌, arith, inl, inr, All}
+use Rattle.std.proofs.Common.{◌≡◌, ℕ, zero, suc, ◌+◌, ◌<◌, ◌≤◌, List, [], ◌∷◌, ◌++◌, length, get_or, map, Some, None, Ok, Err, refl, sym, ap, subst, ◌∙◌, arith, inl, inr}
 use Rattle.std.specs.Prelude.{slice_set, ◌⊎◌, replicate}
 use Rattle.std.proofs.lemmas.List.{map-set, map_push, length_push, length-map}
 use Rattle.std.proofs.lemmas.List.Elements.{All-push, All-get_or}
@@ -24,7 +24,7 @@ use Rattle.replica_world.specs.declared.event.Refused.TheVariants.{NoReplica, No
 use Rattle.replica_world.specs.Faults.{refusal}
 use Rattle.replica_world.specs.Places.{IsNoNumber}
 use Rattle.replica_world.specs.World.{Knowledge, World, Replica, Message, Answer, Step, Run, Effect, RunsOut, IsText, replica, message, with_replica, with_message, taking, sent_by, fresh, start}
-use Rattle.replica_world.specs.Stands.{Kept, Stands, Leads, LeadsOn, IsSent, Steps, Runs, state_of, bytes_of}
+use Rattle.replica_world.specs.Stands.{Kept, Stands, IsSent, Steps, Runs, state_of, bytes_of}
 use Rattle.replica_world.proofs.Places.{At, at_place, no_number}
 
 empty_is : (let e : Entries = fmap.empty in e) ≡ lat []

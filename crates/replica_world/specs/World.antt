@@ -1,10 +1,9 @@
 -- Worlds of replicas: what each replica has taken, the messages that were sent, and what each event does.
-use Rattle.std.specs.Prelude.{◌≡◌, ℕ, zero, suc, ◌+◌, ◌<◌, ◌≤◌, ◌⊎◌, List, [], ◌∷◌, ◌++◌, length, replicate, slice_get, slice_set, Option, None, Some, MatchOption, Result, Ok, Err}
+use Rattle.std.specs.Prelude.{◌≡◌, ℕ, zero, suc, ◌+◌, ◌<◌, ◌≤◌, ◌⊎◌, List, [], ◌∷◌, ◌++◌, length, replicate, slice_get, slice_set, Option, None, MatchOption, Result, Ok, Err}
 use Rattle.harvest_lattice.specs.Lattice.{Entries}
 use Rattle.harvest_lattice.specs.Knowledge.{Harvested, lat, adds}
 use Rattle.replica_exchange.specs.StateText.{IsState, state_text}
 use Rattle.replica_exchange.specs.Faults.{longest_text}
-use Rattle.timegate.specs.declared.request.Request.{Request}
 use Rattle.timegate.specs.Reply.{reply}
 use Rattle.replica_world.specs.declared.event.Event.{Event}
 use Rattle.replica_world.specs.declared.event.Event.TheVariants.{Take, Send, Deliver, Receive, Restart, Ask}
