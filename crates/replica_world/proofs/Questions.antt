@@ -9,6 +9,7 @@ use Rattle.replica_world.specs.declared.event.Event.{Event}
 use Rattle.replica_world.specs.declared.event.Event.TheVariants.{Ask}
 use Rattle.replica_world.specs.declared.event.Said.TheVariants.{Replied}
 use Rattle.replica_world.specs.declared.event.Refused.TheVariants.{NoReplica}
+use Rattle.replica_world.specs.declared.asked.Asked.{Asked}
 use Rattle.replica_world.specs.World.{Knowledge, World, Replica, Answer, Run, Step, Refuses, Accepts, replica, start}
 use Rattle.replica_world.specs.Stands.{Kept, Stands, Steps, Runs}
 use Rattle.replica_world.specs.Agreement.{HasTaken, Gives}
@@ -34,24 +35,23 @@ question base kept w i q answer base_is stands steps =
 replied : (base : List ℕ) (w : World) (i : ℕ) (q : Request) (answer : Answer) (r : Reply) → Step base w (Ask i q) answer w → answer ≡ Ok (Replied r) → Gives base w i q r
 replied base w i q answer r step is = record { next = w; asked = subst (λ (a : Answer). Step base w (Ask i q) a w) is step }
 
-pub agree_after : (base : List ℕ) (count : ℕ) (events : List Event) (q : Request) (i j : ℕ) (first after : Kept) (answers : List Answer) (one other : Answer)
-    → Stands first (start count) → first.base ≡ base → Runs first events answers after → Steps after (Ask i q) one after → Steps after (Ask j q) other after
-    → AgreeAfter base count events q i j (one, other)
-agree_after base count events q i j first after answers one other stands base_is runs left right =
+pub agree_after : (base : List ℕ) (count : ℕ) (events : List Event) (q : Request) (i j : ℕ) (first after : Kept) (said : Asked)
+    → Stands first (start count) → first.base ≡ base → Runs first events said.answers.items after → Steps after (Ask i q) said.first after → Steps after (Ask j q) said.second after
+    → AgreeAfter base count events q i j said
+agree_after base count events q i j first after said stands base_is runs left right =
     let led = runs.leads (start count) stands in
     let after_is : after.base ≡ base = runs.base ∙ base_is in
-    let asked_one = question base after led.end i q one after_is led.stands left in
-    let asked_other = question base after led.end j q other after_is led.stands right in
-    let same : (known know : Knowledge) (r s : Reply) → HasTaken led.end i known → HasTaken led.end j know → lat known ≡ lat know → one ≡ Ok (Replied r) → other ≡ Ok (Replied s) → r ≡ s =
+    let asked_one = question base after led.end i q said.first after_is led.stands left in
+    let asked_other = question base after led.end j q said.second after_is led.stands right in
+    let same : (known know : Knowledge) (r s : Reply) → HasTaken led.end i known → HasTaken led.end j know → lat known ≡ lat know → said.first ≡ Ok (Replied r) → said.second ≡ Ok (Replied s) → r ≡ s =
     λ known know r s i_is j_is same one_is other_is.
-    (agreement base led.end i j known know i_is j_is same).replies q r s (replied base led.end i q one r asked_one one_is) (replied base led.end j q other s asked_other other_is) in
+    (agreement base led.end i j known know i_is j_is same).replies q r s (replied base led.end i q said.first r asked_one one_is) (replied base led.end j q said.second s asked_other other_is) in
     record {
-      answers = answers;
       world = led.end;
-      run = subst (λ (b : List ℕ). Run b (start count) events answers led.end) base_is led.run;
+      run = subst (λ (b : List ℕ). Run b (start count) events said.answers.items led.end) base_is led.run;
       first = asked_one;
       second = asked_other;
       same_harvests = λ known know r s i_is j_is members one_is other_is. same known know r s i_is j_is (same_state known know members) one_is other_is;
       same_state = same;
-      redirects = λ known r i_is one_is status. redirects_well base led.end i known i_is q r (replied base led.end i q one r asked_one one_is) status;
+      redirects = λ known r i_is one_is status. redirects_well base led.end i known i_is q r (replied base led.end i q said.first r asked_one one_is) status;
     }

@@ -9,7 +9,16 @@ use std::alloc::Global;
 use timegate::Request;
 use timemap_writer::Service;
 
-/// What two replicas of a new world answer to the same request, once these events have been run.
+/// What was said to events, and then by two replicas to the same request.
+#[derive(Debug, Drop)]
+pub struct Asked {
+    pub answers: Vec<Answer>,
+    pub first: Answer,
+    pub second: Answer,
+}
+
+/// Runs these events in a new world, and then asks two replicas the same. Where both have taken the same harvests,
+/// their replies are the same.
 pub fn asked_after(
     alloc: Global,
     replicas: usize,
@@ -18,13 +27,15 @@ pub fn asked_after(
     request: &Request,
     first: usize,
     second: usize,
-) -> Result<(Answer, Answer), NoMemory>
+) -> Result<Asked, NoMemory>
     requires { (1 ≤ replicas) × (replicas ≤ 16) }
     ensures { IfOk result (AgreeAfter service replicas events.now request.now first second) }
 {
     let mut world = World::new(alloc, replicas, service)?;
-    world.run(events)?;
-    let one = world.ask(first, request);
-    let other = world.ask(second, request);
-    Ok((one, other))
+    let answers = world.run(events)?;
+    Ok(Asked {
+        answers,
+        first: world.ask(first, request),
+        second: world.ask(second, request),
+    })
 }

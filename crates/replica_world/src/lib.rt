@@ -13,6 +13,6 @@ mod tests;
 mod world;
 
 pub use agreement::replicas_agree;
-pub use asked::asked_after;
+pub use asked::{Asked, asked_after};
 pub use event::{Answer, Event, Refused, Said};
 pub use world::World;

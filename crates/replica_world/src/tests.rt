@@ -82,7 +82,7 @@ fn replicas_that_told_each_other(rt: HostRuntime) -> Result<(), Fail> {
         assert_eq!(rt; reply.body.as_slice(), TIMEMAP);
     }
     replicas_agree();
-    let (one, other) = asked_after(
+    let asked = asked_after(
         rt.alloc(),
         2,
         service(&rt)?,
@@ -91,7 +91,8 @@ fn replicas_that_told_each_other(rt: HostRuntime) -> Result<(), Fail> {
         1,
         2,
     )?;
-    for answer in [&one, &other] {
+    assert_eq!(rt; asked.answers.len(), 6);
+    for answer in [&asked.first, &asked.second] {
         assert_eq!(rt;
             reply_of(answer).ok_or("no reply")?.body.as_slice(),
             TIMEMAP
