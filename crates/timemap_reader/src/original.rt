@@ -1,6 +1,7 @@
 //! Originals: the addresses that clients and archives are asked for.
-ghost use Rattle.std.specs.Prelude.{◌≡◌, ◌⊎◌, IfOk, IfErr, Ok, Err};
-ghost use Rattle.timemap_reader.specs.Original.{original_reading};
+ghost use Rattle.std.specs.Prelude.{◌≡◌, ◌⊎◌, ◌<◌, IfOk, IfErr, Ok, Err, length};
+ghost use Rattle.timemap_reader.specs.Address.{clean_text};
+ghost use Rattle.timemap_reader.specs.Original.{original_reading, within_limit};
 
 use crate::address::{cleaned, is_http};
 use memento_time::{CleanFault, Original};
@@ -46,6 +47,26 @@ impl From<AllocError> for OriginalFault {
     }
 }
 
+/// The original that is written so, once it is clean.
+fn clean_original(alloc: Global, written: &[u8]) -> Result<Original, OriginalFault>
+    requires { 0 < length written.now }
+    ensures read { IfOk result (λ original. within_limit (clean_text written.now) ≡ Ok original) }
+    ensures refused { IfErr result (λ fault.
+        (within_limit (clean_text written.now) ≡ Err fault) ⊎ (fault ≡ OriginalFault.NoMemory)) }
+{
+    // Most are clean as they stand.
+    match Original::new(alloc, written) {
+        Ok(original) => return Ok(original),
+        Err(CleanFault::NotClean) => {}
+        Err(CleanFault::NoMemory) => return Err(OriginalFault::NoMemory),
+    }
+    match Original::new(alloc, cleaned(alloc, written)?.as_bytes()) {
+        Ok(original) => Ok(original),
+        Err(CleanFault::NotClean) => Err(OriginalFault::TooLong),
+        Err(CleanFault::NoMemory) => Err(OriginalFault::NoMemory),
+    }
+}
+
 /// Reads the original that a text names: an http or https URL as `url` reads it without a base and
 /// writes it, without its fragment. What is written is made clean: each byte that isn't a visible
 /// ASCII character, and each `<`, `>` and `"`, is written as `%` and two hexadecimal digits.
@@ -70,9 +91,5 @@ pub fn read_original(alloc: Global, text: &str) -> Result<Original, OriginalFaul
         return Err(OriginalFault::NotHttp);
     }
     let written = url.slice(Position::BeforeScheme, Position::AfterQuery);
-    match Original::new(alloc, cleaned(alloc, written.as_bytes())?.as_bytes()) {
-        Ok(original) => Ok(original),
-        Err(CleanFault::NotClean) => Err(OriginalFault::TooLong),
-        Err(CleanFault::NoMemory) => Err(OriginalFault::NoMemory),
-    }
+    clean_original(alloc, written.as_bytes())
 }
