@@ -1,4 +1,4 @@
-use Rattle.std.proofs.Common.{◌≡◌, Ok, inl, refl, sym, ap, subst, ◌∙◌}
+use Rattle.std.proofs.Common.{Ok, inl, refl, sym, ap, subst, ◌∙◌}
 use Rattle.memento_time.specs.Text.{IsOriginal}
 use Rattle.timemap_reader.proofs.Cleans.{its_own_original, no_original}
 use Rattle.timemap_reader.proofs.original.clean_original.Goals as goal

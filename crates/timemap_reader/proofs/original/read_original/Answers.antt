@@ -1,4 +1,4 @@
-use Rattle.std.proofs.Common.{◌<◌, ℕ, length, length-append, arith}
+use Rattle.std.proofs.Common.{◌<◌, length, length-append, arith}
 use Rattle.url.specs.Parts.{Parts, text_between}
 use Rattle.url.specs.declared.slicing.Position.TheVariants.{BeforeScheme, AfterQuery}
 use Rattle.timemap_reader.proofs.original.read_original.Goals as goal
