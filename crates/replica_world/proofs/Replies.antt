@@ -32,6 +32,10 @@ given base world i known q r is gives = given_by gives.next gives.asked
         cc
     given_by next (inr out) = absurd cc
 
+-- and it may give that one
+pub gives_reply : (base : List ℕ) (world : World) (i : ℕ) (known : Knowledge) (q : Request) (r : Reply) → HasTaken world i known → r ≡ reply base known q → Gives base world i q r
+gives_reply base world i known q r is reply_is = record { next = world; asked = inl (rw is (ap (λ (r : Reply). Ok (Replied r)) reply_is, refl)) }
+
 same_shown : (known other : Knowledge) (original : List ℕ) → lat known ≡ lat other → shown known original ≡ shown other original
 same_shown known other original same = shown-lat known original ∙ ap (λ (s : Entries). shown_of s original) same ∙ sym (shown-lat other original)
 

@@ -1,5 +1,8 @@
-use Rattle.replica_world.proofs.Replies.{same_state, agreement, serves_timemaps, redirects_well}
+use Rattle.replica_world.proofs.Replies.{given, gives_reply, same_state, agreement, serves_timemaps, redirects_well}
 use Rattle.replica_world.proofs.agreement.replicas_agree.Goals as goal
+
+pub returns-clause-replies : goal.returns-clause-replies
+returns-clause-replies c base count events answers world run i known is q r = (given base world i known q r is, gives_reply base world i known q r is)
 
 pub returns-clause-same_harvests : goal.returns-clause-same_harvests
 returns-clause-same_harvests c base count events answers world run i j known other i_is j_is same = agreement base world i j known other i_is j_is (same_state known other same)
