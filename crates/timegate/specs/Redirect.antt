@@ -1,4 +1,4 @@
--- Which memento a redirect names (RFC 7089, section 4.1): one of the latest harvests, than which none of these is nearer.
+-- Which memento a redirect names (RFC 7089, section 4.2): one of the latest harvests, than which none of these is nearer.
 use Rattle.std.specs.Prelude.{◌≡◌, ℕ, ◌≤◌, List, Contains, Option, MatchOption}
 use Rattle.memento_time.specs.declared.mementos.Memento.{Memento}
 use Rattle.harvest_lattice.specs.Knowledge.{Harvested, IsShown}

@@ -123,7 +123,11 @@ fn state(alloc: Global, index: &Index, request: &Request) -> Result<Reply, NoMem
     ensures { IfOk result (λ answer. answer
         ≡ answered request.now 200 ((Header.ContentType, codes "text/plain") ∷ []) (state_text index.now)) }
 {
-    let text = write_state(alloc, index.state())?;
+    let text = if is_head(request) {
+        Vec::new(alloc)
+    } else {
+        write_state(alloc, index.state())?
+    };
     let mut headers = Vec::new(alloc);
     headers.push((Header::ContentType, octets(alloc, b"text/plain")?))?;
     Ok(answered(request, 200, headers, text))

@@ -8,9 +8,11 @@ use std::alloc::Global;
 use std::str;
 use timemap_reader::{OriginalFault, read_original};
 
-const TIMEGATES: &[u8] = b"/timegate/";
+/// The bytes of `/timegate/`, behind which an original stands.
+const TIMEGATE_PREFIX: usize = 10;
 
-const TIMEMAPS: &[u8] = b"/timemap/link/";
+/// The bytes of `/timemap/link/`, behind which an original stands.
+const TIMEMAP_PREFIX: usize = 14;
 
 /// What a request asks for, or why it is refused.
 #[derive(Debug, Drop)]
@@ -98,13 +100,13 @@ pub fn route_of(alloc: Global, request: &Request) -> Result<Route, NoMemory>
     }
     let target = request.target.as_slice();
     if is_timegate(request) {
-        return match original_at(alloc, &target[10..])? {
+        return match original_at(alloc, &target[TIMEGATE_PREFIX..])? {
             None => Ok(Route::BadOriginal),
             Some(original) => Ok(timegate_route(request.asked.as_slice(), original)),
         };
     }
     if is_timemap(request) {
-        return match original_at(alloc, &target[14..])? {
+        return match original_at(alloc, &target[TIMEMAP_PREFIX..])? {
             None => Ok(Route::BadOriginal),
             Some(original) => Ok(Route::TimeMap(original)),
         };

@@ -63,8 +63,8 @@ fn reply(
 fn says(rt: &HostRuntime, reply: &Reply, status: u16, lines: &[u8]) -> Result<bool, Fail> {
     let mut text = Vec::new(rt.alloc());
     for (header, value) in reply.headers.as_slice() {
-        text.extend_from_slice(header.name().as_bytes())?;
-        text.extend_from_slice(b": ")?;
+        let name = format!(in rt.alloc(); "{header}: ")?;
+        text.extend_from_slice(name.as_bytes())?;
         text.extend_from_slice(value.as_slice())?;
         text.extend_from_slice(b"\n")?;
     }

@@ -23,6 +23,8 @@ fn bases(rt: HostRuntime) -> Result<(), Fail> {
         let fault = Service::new(rt.alloc(), refused).err();
         assert_eq!(rt; fault, Some(ServiceFault::BadBase));
     }
+    let printed = format!(in rt.alloc(); "{}", ServiceFault::BadBase)?;
+    assert_eq!(rt; printed.as_str(), "bad base");
     Ok(())
 }
 
