@@ -2,3 +2,9 @@ pub mod Places
 pub mod Worlds
 pub mod Replies
 pub mod Questions
+mod Lines
+mod Written
+mod Once
+mod Pages
+mod Progress
+mod Happenings

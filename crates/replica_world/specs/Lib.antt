@@ -4,3 +4,9 @@ pub mod Faults
 pub mod Stands
 pub mod Agreement
 pub mod Asked
+pub mod Fields
+pub mod Script
+pub mod Output
+pub mod Spelled
+pub mod Performing
+pub mod Devices

@@ -2,12 +2,13 @@
 //! what they have taken, restart, and are asked.
 //!
 //! `World` runs lists of events. `replicas_agree` is what they are for: replicas that have taken the same harvests
-//! reply alike.
+//! reply alike. `replay` runs a script of commands over a world, and writes what they say.
 #![tactic(auto)]
 
 mod agreement;
 mod asked;
 mod event;
+mod replaying;
 #[cfg(test)]
 mod tests;
 mod world;
@@ -15,4 +16,7 @@ mod world;
 pub use agreement::replicas_agree;
 pub use asked::{Asked, asked_after};
 pub use event::{Answer, Event, Refused, Said};
+pub use replaying::fault::ReplayFault;
+pub use replaying::laws::one_output;
+pub use replaying::run::replay;
 pub use world::World;

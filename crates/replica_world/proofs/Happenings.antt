@@ -1,0 +1,99 @@
+-- An event that the world answers, and the harvest of a page.
+use Rattle.std.proofs.Common.{◌≡◌, ◌≢◌, ℕ, ◌<◌, ◌≤◌, ◌⊎◌, List, length, Option, Some, None, Result, Ok, Err, inl, inr, refl, sym, ap, ◌∙◌, subst}
+use Rattle.std.specs.Prelude.{MatchOption, IfOk, OnOk, codes}
+use Rattle.std.specs.Option.{SomeIff}
+use Rattle.std.specs.List.Sorted.{IsStrictlySortedBy}
+use Rattle.memento_time.specs.Mementos.{memento_cmp}
+use Rattle.memento_time.specs.Text.{IsArchiveName}
+use Rattle.memento_time.specs.declared.mementos.Memento.{Memento}
+use Rattle.timemap_reader.specs.Answer.{IsAnswer}
+use Rattle.timemap_reader.specs.declared.page.Page.{Page}
+use Rattle.harvest_lattice.specs.Sets as set
+use Rattle.harvest_lattice.specs.Knowledge.{Harvested}
+use Rattle.harvest_lattice.proofs.Ordered.{items_in_order}
+use Rattle.replica_world.specs.declared.event.Event.{Event}
+use Rattle.replica_world.specs.declared.event.Event.TheVariants.{Take, Send, Deliver, Receive, Restart, Ask}
+use Rattle.replica_world.specs.declared.event.Refused.TheVariants.{NoMemory}
+use Rattle.replica_world.specs.World.{World, Answer, Effect, RunsOut}
+use Rattle.replica_world.specs.Stands.{Kept, Stands, Steps}
+use Rattle.replica_world.specs.Fields.{utf8_text}
+use Rattle.replica_world.specs.Script.{Taking}
+use Rattle.replica_world.specs.Output.{Happens, TakesHarvest, IsPage, RefusedAs, answer_text, taken_line, harvest_of, refused}
+use Rattle.replica_world.specs.Performing.{Reaches, IsHappening, IsHarvestTaken}
+
+ran_out : (w : World) (event : Event) (answer : Answer) (next : World) → RunsOut w event answer next → answer ≡ Err NoMemory
+ran_out w (Take i h) answer next out = out.0
+ran_out w (Send i) answer next out = out.0
+ran_out w (Deliver i k) answer next out = out.0
+ran_out w (Receive i bytes) answer next out = out.0
+ran_out w (Restart i) answer next out = absurd out
+ran_out w (Ask i q) answer next out = out.0
+
+took_effect : (base : List ℕ) (w : World) (event : Event) (answer : Answer) (next : World) → answer ≢ Err NoMemory → Effect base w event answer next ⊎ RunsOut w event answer next
+    → Effect base w event answer next
+took_effect base w event answer next memory (inl effect) = effect
+took_effect base w event answer next memory (inr out) = absurd (memory (ran_out w event answer next out))
+
+happened : (old new : Kept) (accepted : List ℕ) (event : Event) (answer : Answer) (text : List ℕ) → Steps old event answer new → answer ≢ Err NoMemory → text ≡ answer_text accepted answer
+    → IsHappening old accepted event text new
+happened old new accepted event answer text steps memory text_is = (
+  steps.base,
+  λ w stands. let leads = steps.leads w stands in record {
+    next = leads.next;
+    written = (answer, took_effect old.base w event answer leads.next memory leads.step, text_is);
+    kept = leads.stands;
+  },
+)
+
+pub happened_if : {V E : Type 0} (items : V → List ℕ) (old new : Kept) (accepted : List ℕ) (event : Event) (answer : Answer) (result : Result V E) → Steps old event answer new
+    → IfOk result (λ text. items text ≡ answer_text accepted answer) → OnOk result (answer ≢ Err NoMemory) → IfOk result (λ text. IsHappening old accepted event (items text) new)
+happened_if items old new accepted event answer (Ok text) steps text_is memory = happened old new accepted event answer (items text) steps memory text_is
+happened_if items old new accepted event answer (Err e) steps text_is memory = tt
+
+set_of_page : (list : List Memento) → IsStrictlySortedBy memento_cmp list → length (set.items (set.from_list {R = memento_cmp} list)) ≡ length list
+set_of_page list sorted = ap (λ (l : List Memento). length l) (items_in_order list sorted)
+
+harvest_taken : (old new : Kept) (t : Taking) (original : List ℕ) (page : Page) (harvest : Harvested) (text : List ℕ) → IsArchiveName t.archive → IsStrictlySortedBy memento_cmp page.mementos
+    → harvest ≡ harvest_of t original page → length (set.items harvest.mementos) ≤ 100000 → IsHappening old (taken_line page) (Take t.replica harvest) text new
+    → IsHarvestTaken old t original page text new
+harvest_taken old new t original page harvest text name sorted harvest_is few happening =
+    let same : length (set.items harvest.mementos) ≡ length page.mementos = ap (λ (h : Harvested). length (set.items h.mementos)) harvest_is ∙ set_of_page page.mementos sorted in
+    let short : length page.mementos ≤ 100000 = subst (λ (n : ℕ). n ≤ 100000) same few in (
+      happening.0,
+      λ w stands. let reached = happening.1 w stands in record {
+        next = reached.next;
+        written = inr (name, inr (short, subst (λ (h : Harvested). Happens old.base w (taken_line page) (Take t.replica h) text reached.next) harvest_is reached.written));
+        kept = reached.kept;
+      },
+    )
+
+pub harvest_taken_if : {V E : Type 0} (items : V → List ℕ) (old new : Kept) (t : Taking) (original : List ℕ) (page : Page) (archive : List ℕ) (mementos : List Memento) (harvest : Harvested) (accepted : List ℕ) (result : Result V E)
+    → SomeIff (Some archive) (IsArchiveName t.archive) t.archive → IsStrictlySortedBy memento_cmp page.mementos
+    → harvest ≡ record { archive = archive; original = original; revision = t.revision; mementos = set.from_list mementos } → mementos ≡ page.mementos
+    → length (set.items harvest.mementos) ≤ 100000 → accepted ≡ taken_line page
+    → IfOk result (λ text. IsHappening old accepted (Take t.replica harvest) (items text) new)
+    → IfOk result (λ text. IsHarvestTaken old t original page (items text) new)
+harvest_taken_if items old new t original page archive mementos harvest accepted (Err e) name sorted harvest_is mementos_are few accepted_is happening = tt
+harvest_taken_if items old new t original page archive mementos harvest accepted (Ok text) name sorted harvest_is mementos_are few accepted_is happening =
+    harvest_taken old new t original page harvest (items text) name.0 sorted
+    (harvest_is ∙ (λ i. record { archive = name.1 i; original = original; revision = t.revision; mementos = set.from_list (mementos_are i) }))
+    few
+    (subst (λ (a : List ℕ). IsHappening old a (Take t.replica harvest) (items text) new) accepted_is happening)
+
+pub harvest_too_large_if : {V E : Type 0} (items : V → List ℕ) (old new : Kept) (t : Taking) (original : List ℕ) (page : Page) (archive : List ℕ) (mementos : List Memento) (result : Result V E)
+    → SomeIff (Some archive) (IsArchiveName t.archive) t.archive → IsStrictlySortedBy memento_cmp page.mementos → mementos ≡ page.mementos
+    → 100000 < length (set.items (set.from_list {R = memento_cmp} mementos)) → IfOk result (λ text. items text ≡ refused (codes "too many")) → new ≡ old
+    → IfOk result (λ text. IsHarvestTaken old t original page (items text) new)
+harvest_too_large_if items old new t original page archive mementos (Err e) name sorted mementos_are many refusal same = tt
+harvest_too_large_if items old new t original page archive mementos (Ok text) name sorted mementos_are many refusal same =
+    let many_in_page : 100000 < length (set.items (set.from_list {R = memento_cmp} page.mementos)) =
+    subst (λ (list : List Memento). 100000 < length (set.items (set.from_list {R = memento_cmp} list))) mementos_are many in
+    let long : 100000 < length page.mementos = subst (λ (n : ℕ). 100000 < n) (set_of_page page.mementos sorted) many_in_page in
+    subst (λ (new : Kept). IsHarvestTaken old t original page (items text) new) (sym same)
+    (refl, λ w stands. record { next = w; written = inr (name.0, inl (long, (refusal, refl))); kept = stands })
+
+pub page_sorted : (address body : List ℕ) (page : Page) → IsPage address body page → IsStrictlySortedBy memento_cmp page.mementos
+page_sorted address body page = sorted (utf8_text address) where
+  sorted : (o : Option (List ℕ)) → MatchOption o ⊥ (λ base. IsAnswer base body (Ok page)) → IsStrictlySortedBy memento_cmp page.mementos
+  sorted None is = absurd is
+  sorted (Some base) (links, url, short, read, at, is) = is.mementos.sorted

@@ -1,0 +1,5 @@
+use Rattle.replica_world.proofs.Once.{output_once}
+use Rattle.replica_world.proofs.replaying.laws.one_output.Goals as goal
+
+pub returns : goal.returns
+returns c = output_once c.one_page.ensures

@@ -1,0 +1,13 @@
+//! A replay reads a script of commands, one a line, and writes what they say.
+
+mod command;
+mod devices;
+pub mod fault;
+mod fields;
+pub mod laws;
+mod perform;
+pub mod run;
+mod start;
+#[cfg(test)]
+mod tests;
+mod texts;

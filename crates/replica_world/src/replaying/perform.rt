@@ -1,0 +1,112 @@
+//! What a command does, and what it writes of that.
+ghost use Rattle.std.specs.Prelude.{◌≡◌, ◌∷◌, IfOk, MatchOption};
+ghost use Rattle.std.specs.Option.{option_and_then};
+ghost use Rattle.std.specs.List.Sorted.{IsStrictlySortedBy};
+ghost use Rattle.memento_time.specs.Mementos.{memento_cmp};
+ghost use Rattle.timemap_reader.specs.Original.{original_of};
+ghost use Rattle.timemap_reader.specs.declared.page.Page.{Page as PageRead};
+ghost use Rattle.replica_world.specs.Fields.{utf8_text};
+ghost use Rattle.replica_world.specs.Output.{IsPage};
+ghost use Rattle.replica_world.specs.Performing.{IsHappening, IsHarvestTaken, IsPageTaken, IsPerformed};
+ghost use Rattle.replica_world.specs.Spelled.{command_view, taking_view};
+
+use crate::event::Event;
+use crate::replaying::command::{Command, Taking};
+use crate::replaying::fields::utf8_text;
+use crate::replaying::texts::{accepted_line, answer_text, refused, taken_line};
+use crate::world::World;
+use harvest_lattice::{Harvest, HarvestFault};
+use memento_time::{ArchiveName, NoMemory, Original};
+use std::alloc::Global;
+use timemap_reader::{OriginalFault, Page, PageFault, read_original, read_page};
+
+/// The original that bytes name.
+fn original(alloc: Global, text: &[u8]) -> Result<Option<Original>, NoMemory>
+    ensures { IfOk result (λ original. original ≡ option_and_then original_of (utf8_text text.now)) }
+{
+    let Some(text) = utf8_text(text) else {
+        return Ok(None);
+    };
+    match read_original(alloc, text) {
+        Ok(original) => Ok(Some(original)),
+        Err(OriginalFault::NoMemory) => Err(NoMemory),
+        Err(OriginalFault::NotUrl | OriginalFault::NotHttp | OriginalFault::TooLong) => Ok(None),
+    }
+}
+
+/// The page that a body is at an address.
+fn page(alloc: Global, address: &[u8], body: &[u8]) -> Result<Option<Page>, NoMemory>
+    ensures { IfOk result (λ page. MatchOption page ((p : PageRead) → ¬ (IsPage address.now body.now p)) (IsPage address.now body.now)) }
+{
+    let Some(address) = utf8_text(address) else {
+        return Ok(None);
+    };
+    match read_page(alloc, address, body) {
+        Ok(page) => Ok(Some(page)),
+        Err(PageFault::TooLong) => Ok(None),
+        Err(PageFault::Links(_)) => Ok(None),
+        Err(PageFault::BadBase) => Ok(None),
+        Err(PageFault::NoMemory) => Err(NoMemory),
+    }
+}
+
+/// An event, and what it writes.
+fn happen(
+    alloc: Global,
+    world: &mut World,
+    accepted: &[u8],
+    event: &Event,
+) -> Result<Vec<u8>, NoMemory>
+    ensures { IfOk result (λ text. IsHappening world.old accepted.now event.now text.items world.new) }
+{
+    let answer = world.step(event);
+    answer_text(alloc, accepted, &answer)
+}
+
+/// Takes the mementos of a page.
+fn take_harvest(
+    alloc: Global,
+    world: &mut World,
+    taking: &Taking<'_>,
+    original: &Original,
+    page: Page,
+) -> Result<Vec<u8>, NoMemory>
+    requires { IsStrictlySortedBy memento_cmp page.mementos }
+    ensures { IfOk result (λ text. IsHarvestTaken world.old (taking_view taking.now) original.now page text.items world.new) }
+{
+    let Some(archive) = ArchiveName::new(taking.archive) else {
+        return refused(alloc, "bad archive");
+    };
+    let accepted = taken_line(alloc, &page)?;
+    match Harvest::new(archive, original, taking.revision, page.mementos.into_vec()) {
+        Ok(harvest) => {
+            let event = Event::Take(taking.replica as usize, harvest);
+            happen(alloc, world, &accepted, &event)
+        }
+        Err(HarvestFault::TooMany) => refused(alloc, "too many"),
+        Err(HarvestFault::NoMemory) => Err(NoMemory),
+    }
+}
+
+/// Reads a page and takes its mementos.
+fn take(alloc: Global, world: &mut World, taking: &Taking<'_>) -> Result<Vec<u8>, NoMemory>
+    ensures { IfOk result (λ text. IsPageTaken world.old (taking_view taking.now) text.items world.new) }
+{
+    let Some(original) = original(alloc, taking.original)? else {
+        return refused(alloc, "bad original");
+    };
+    let Some(page) = page(alloc, taking.address, taking.body)? else {
+        return refused(alloc, "bad page");
+    };
+    take_harvest(alloc, world, taking, &original, page)
+}
+
+/// Does what a command says, and gives the text that it writes.
+pub fn perform(alloc: Global, world: &mut World, command: &Command<'_>) -> Result<Vec<u8>, NoMemory>
+    ensures { IfOk result (λ text. IsPerformed world.old (command_view command.now) text.items world.new) }
+{
+    match command {
+        Command::Take(taking) => take(alloc, world, taking),
+        Command::Step(event) => happen(alloc, world, accepted_line(event), event),
+    }
+}

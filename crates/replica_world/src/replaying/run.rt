@@ -1,0 +1,139 @@
+//! A whole script.
+ghost use Rattle.std.specs.Prelude.{◌≡◌, ◌+◌, ◌-◌, ◌≤◌, ◌==◌, length, take, count_by, None, IfOk, IfSome, MatchOption, ◌<◌};
+ghost use Rattle.replica_world.specs.Script.{command_at, number_of_line};
+ghost use Rattle.replica_world.specs.World.{World as Replicas};
+ghost use Rattle.replica_world.specs.Stands.{Stands};
+ghost use Rattle.replica_world.specs.Output.{Replays, ReplaysFrom};
+ghost use Rattle.replica_world.specs.Performing.{IsFirstPerformed};
+
+use crate::replaying::command::command_at;
+use crate::replaying::devices::{read_all, write_whole};
+use crate::replaying::fault::ReplayFault;
+use crate::replaying::fields::after_empty_lines;
+use crate::replaying::perform::perform;
+use crate::replaying::start::start_at;
+use crate::world::World;
+use memento_time::NoMemory;
+use std::alloc::Global;
+use std::io::{Read, Write};
+use timemap_reader::one_page;
+
+fn ends_of_lines(text: &[u8]) -> u64
+    ensures count { result ≡ count_by (λ b. b == 10) text.now }
+    ensures bound { result ≤ length text.now }
+{
+    text.iter().filter(|byte| **byte == b'\n').count() as u64
+}
+
+/// The number of the line at which the rest of a script begins.
+fn number_of_line(script: &[u8], rest: &[u8]) -> u64
+    requires { length rest.now ≤ length script.now }
+    ensures { result ≡ number_of_line script.now rest.now }
+{
+    let (before, _) = script.split_at(script.len() - rest.len());
+    1 + ends_of_lines(before)
+}
+
+/// Performs the command at the front of a text: what it writes, and the text from the next command on. None where the
+/// line is bad.
+fn perform_first<'a>(
+    alloc: Global,
+    world: &mut World,
+    text: &'a [u8],
+) -> Result<Option<(Vec<u8>, &'a [u8])>, NoMemory>
+    requires { 0 < length text.now }
+    ensures first { IfOk result (λ first. MatchOption first (command_at text.now ≡ None) (λ p. IsFirstPerformed world.old text.now p.0.items p.1.now world.new)) }
+    ensures shorter { IfOk result (λ first. IfSome first (λ p. length p.1.now < length text.now)) }
+{
+    let Some((command, rest)) = command_at(alloc, text)? else {
+        return Ok(None);
+    };
+    let said = perform(alloc, world, &command)?;
+    Ok(Some((said, after_empty_lines(rest))))
+}
+
+/// Performs the commands of a text that ends the script.
+fn replay_commands<W: Write>(
+    alloc: Global,
+    world: &mut World,
+    script: &[u8],
+    text: &[u8],
+    writer: &mut W,
+) -> Result<(), ReplayFault>
+    requires { length text.now ≤ length script.now }
+    ensures { (w : Replicas) → Stands world.old w → ReplaysFrom world.old.base w script.now text.now (W.contents writer.old) (W.contents writer.new) result }
+{
+    // A page is one, so what a failed replay wrote is a beginning of the one output.
+    one_page();
+    let mut rest = after_empty_lines(text);
+    'commands: while !rest.is_empty() {
+        let Some((said, after)) = perform_first(alloc, world, rest)? else {
+            return Err(ReplayFault::BadLine {
+                number: number_of_line(script, rest),
+            });
+        };
+        write_whole(writer, &said)?;
+        rest = after;
+    }
+    Ok(())
+}
+
+fn replay_script<W: Write>(alloc: Global, script: &[u8], writer: &mut W) -> Result<(), ReplayFault>
+    ensures { Replays script.now (W.contents writer.old) (W.contents writer.new) result }
+{
+    let text = after_empty_lines(script);
+    if text.is_empty() {
+        return Ok(());
+    }
+    let Some((start, rest)) = start_at(alloc, text)? else {
+        return Err(ReplayFault::BadLine {
+            number: number_of_line(script, text),
+        });
+    };
+    let mut world = World::new(alloc, start.replicas, start.service)?;
+    replay_commands(alloc, &mut world, script, rest, writer)
+}
+
+/// Reads a script to its end, performs its commands in turn, and writes what each says before it performs the next.
+///
+/// A script is lines ended by LF, which the last may lack; a line has at most 65,536 bytes, and empty lines are passed
+/// over. The first line is `replicas N BASE`: 1 to 16 replicas, numbered from 1, of the service with this base. Each
+/// further line is a command. Its fields are parted by one space, the last is the rest of the line, and numbers are
+/// decimals of 64 bits without needless zeros:
+///
+/// | Command | What it does | What it writes |
+/// |---|---|---|
+/// | `take I ARCHIVE REVISION PAGEURL LENGTH ORIGINAL`, then a block | reads the block as the page at PAGEURL; replica I takes its mementos | `taken MEMENTOS FURTHER DROPPED` |
+/// | `map I ORIGINAL` | asks replica I for the original's TimeMap | the reply |
+/// | `gate I ORIGINAL`, `gate I ORIGINAL ASKED` | asks it as a TimeGate, with an `Accept-Datetime`; ORIGINAL then ends at the first space | the reply |
+/// | `ask I METHOD COUNT TARGET`, then COUNT lines | asks it for a target, with 0 to 16 values of `Accept-Datetime` | the reply |
+/// | `send I` | replica I sends a message, numbered K | `sent K` |
+/// | `deliver J K` | replica J gets message K | `joined` |
+/// | `receive J LENGTH`, then a block | replica J gets the block as bytes from outside | `received` |
+/// | `restart I` | replica I forgets all | `restarted` |
+///
+/// A block is LENGTH bytes, at most 300,000,000, followed by LF or the end of the script. A reply is written as
+/// `reply STATUS`, a line `Name: value` for each header, `body LENGTH`, and the body.
+///
+/// A command that is refused writes a line and changes nothing: `refused bad original`, `refused bad page`,
+/// `refused bad archive`, `refused too many` (over 100,000 mementos), for `take` in this order and before the next;
+/// `refused no replica`, `refused no message`, `refused bad state`.
+///
+/// - `BadLine`: the line of this number is none of these, or its block or lines are cut short. The commands before it
+///   were performed.
+/// - `Read`, `Write`: a device failed in this call; a write that takes no byte is a failure. `Read` also where the
+///   reader was not at its end after 1,000,000,000 reads, which no script of fewer bytes needs.
+/// - `NoMemory`: the allocator refused a growth.
+///
+/// Where reader and writer tell their bytes, what is written is the one output of the script, and after the last three
+/// faults a beginning of it.
+pub fn replay<R: Read, W: Write>(
+    alloc: Global,
+    reader: &mut R,
+    writer: &mut W,
+) -> Result<(), ReplayFault>
+    ensures { IfSome (R.remaining reader.old) (λ script. Replays script (W.contents writer.old) (W.contents writer.new) result) }
+{
+    let script = read_all(alloc, reader)?;
+    replay_script(alloc, &script, writer)
+}

@@ -1,0 +1,232 @@
+use crate::replaying::fault::ReplayFault;
+use crate::replaying::run::replay;
+use std::io;
+use std::io::{Error, ErrorKind, Read, Write};
+use std::test::Fail;
+
+const ONE_PAGE: &[u8] = b"replicas 1 http://agg.example
+take 1 arc.example 7 http://arc.example/list 114 http://a.example/
+<http://arc.example/web/20000101000000/http://a.example/>; rel=\"memento\"; datetime=\"Sat, 01 Jan 2000 00:00:00 GMT\"
+map 1 http://a.example/
+";
+
+const ONE_PAGE_SAYS: &[u8] = b"taken 1 0 0
+reply 200
+Content-Type: application/link-format
+body 402
+<http://a.example/>; rel=\"original\",
+<http://agg.example/timegate/http://a.example/>; rel=\"timegate\",
+<http://agg.example/timemap/link/http://a.example/>; rel=\"self\"; type=\"application/link-format\"; from=\"Sat, 01 Jan 2000 00:00:00 GMT\"; until=\"Sat, 01 Jan 2000 00:00:00 GMT\",
+<http://arc.example/web/20000101000000/http://a.example/>; rel=\"first last memento\"; datetime=\"Sat, 01 Jan 2000 00:00:00 GMT\"
+";
+
+const EXCHANGE: &[u8] = b"replicas 2 http://agg.example
+take 1 a1 5 http://arc.example/list 73 http://a.example/
+<http://m.example/1>;rel=memento;datetime=\"Sat, 01 Jan 2000 00:00:00 GMT\"
+take 2 a1 5 http://arc.example/list 73 http://a.example/
+<http://m.example/2>;rel=memento;datetime=\"Mon, 03 Jan 2000 00:00:00 GMT\"
+send 1
+send 2
+deliver 2 1
+deliver 1 2
+map 1 http://a.example/
+map 2 http://a.example/
+";
+
+const EXCHANGE_SAYS: &[u8] = b"taken 1 0 0
+taken 1 0 0
+sent 1
+sent 2
+joined
+joined
+reply 200
+Content-Type: application/link-format
+body 444
+<http://a.example/>; rel=\"original\",
+<http://agg.example/timegate/http://a.example/>; rel=\"timegate\",
+<http://agg.example/timemap/link/http://a.example/>; rel=\"self\"; type=\"application/link-format\"; from=\"Sat, 01 Jan 2000 00:00:00 GMT\"; until=\"Mon, 03 Jan 2000 00:00:00 GMT\",
+<http://m.example/1>; rel=\"first memento\"; datetime=\"Sat, 01 Jan 2000 00:00:00 GMT\",
+<http://m.example/2>; rel=\"last memento\"; datetime=\"Mon, 03 Jan 2000 00:00:00 GMT\"
+reply 200
+Content-Type: application/link-format
+body 444
+<http://a.example/>; rel=\"original\",
+<http://agg.example/timegate/http://a.example/>; rel=\"timegate\",
+<http://agg.example/timemap/link/http://a.example/>; rel=\"self\"; type=\"application/link-format\"; from=\"Sat, 01 Jan 2000 00:00:00 GMT\"; until=\"Mon, 03 Jan 2000 00:00:00 GMT\",
+<http://m.example/1>; rel=\"first memento\"; datetime=\"Sat, 01 Jan 2000 00:00:00 GMT\",
+<http://m.example/2>; rel=\"last memento\"; datetime=\"Mon, 03 Jan 2000 00:00:00 GMT\"
+";
+
+const EACH_COMMAND: &[u8] = b"
+replicas 2 http://agg.example
+
+receive 1 136
+memento-state 1
+entries 1
+entry arc.example 7 1 http://a.example/
+946684800 http://arc.example/web/20000101000000/http://a.example/
+end
+
+gate 1 http://a.example/ Sun, 02 Jan 2000 00:00:00 GMT
+ask 1 HEAD 1 /timegate/http://a.example/
+
+restart 1
+gate 1 http://a.example/
+ask 1 POST 0 /timegate/nonsense
+take 1 a1 1 http://arc.example/list 0 ftp://a.example/
+
+take 1 a1 1 list 0 http://a.example/
+
+take 1 A1 1 http://arc.example/list 0 http://a.example/
+
+take 3 a1 1 http://arc.example/list 0 http://a.example/
+
+deliver 1 1
+receive 2 3
+end
+restart 3";
+
+const EACH_COMMAND_SAYS: &[u8] = b"received
+reply 302
+Vary: accept-datetime
+Location: http://arc.example/web/20000101000000/http://a.example/
+Link: <http://a.example/>; rel=\"original\", <http://agg.example/timemap/link/http://a.example/>; rel=\"timemap\"; type=\"application/link-format\"; from=\"Sat, 01 Jan 2000 00:00:00 GMT\"; until=\"Sat, 01 Jan 2000 00:00:00 GMT\"
+body 0
+reply 400
+Vary: accept-datetime
+Content-Type: text/plain
+body 0
+restarted
+reply 404
+Vary: accept-datetime
+Content-Type: text/plain
+body 11
+no memento
+reply 405
+Allow: GET, HEAD
+Vary: accept-datetime
+Content-Type: text/plain
+body 11
+bad method
+refused bad original
+refused bad page
+refused bad archive
+refused no replica
+refused no message
+refused bad state
+refused no replica
+";
+
+/// A reader that gives a byte at a time, and fails once it was read so many times.
+#[derive(Drop)]
+struct FailingReader<'a> {
+    rest: &'a [u8],
+    reads: usize,
+}
+
+impl Read for FailingReader<'_> {
+    fn read(&mut self, buf: &mut [u8]) -> io::Result<usize> {
+        if self.reads == 0 {
+            return Err(Error::from(ErrorKind::Other));
+        }
+        self.reads -= 1;
+        let most = buf.len().min(1);
+        let mut one = &self.rest[..self.rest.len().min(1)];
+        let count = one.read(&mut buf[..most])?;
+        self.rest = &self.rest[count.min(self.rest.len())..];
+        Ok(count.min(buf.len()))
+    }
+}
+
+/// A writer that takes a byte at a time, and fails once it was written to so many times.
+#[derive(Drop)]
+struct FailingWriter<'a> {
+    bytes: &'a mut Vec<u8>,
+    writes: usize,
+}
+
+impl Write for FailingWriter<'_> {
+    fn write(&mut self, buf: &[u8]) -> io::Result<usize> {
+        if self.writes == 0 || buf.is_empty() {
+            return Err(Error::from(ErrorKind::Other));
+        }
+        self.writes -= 1;
+        self.bytes.write(&buf[..1])
+    }
+
+    fn flush(&mut self) -> io::Result<()> {
+        Ok(())
+    }
+}
+
+fn says(rt: &HostRuntime, script: &[u8], wanted: &[u8]) -> Result<bool, Fail> {
+    let mut reader = script;
+    let mut output = Vec::new(rt.alloc());
+    replay(rt.alloc(), &mut reader, &mut output)?;
+    Ok(output.as_slice() == wanted)
+}
+
+#[test]
+fn scripts(rt: HostRuntime) -> Result<(), Fail> {
+    assert!(rt; says(&rt, b"", b"")?);
+    assert!(rt; says(&rt, ONE_PAGE, ONE_PAGE_SAYS)?);
+    assert!(rt; says(&rt, EXCHANGE, EXCHANGE_SAYS)?);
+    assert!(rt; says(&rt, EACH_COMMAND, EACH_COMMAND_SAYS)?);
+    Ok(())
+}
+
+// The number of the bad line, where just this was written before.
+fn bad_line(rt: &HostRuntime, script: &[u8], wanted: &[u8]) -> Option<u64> {
+    let mut reader = script;
+    let mut output = Vec::new(rt.alloc());
+    match replay(rt.alloc(), &mut reader, &mut output) {
+        Err(ReplayFault::BadLine { number }) if output.as_slice() == wanted => Some(number),
+        _ => None,
+    }
+}
+
+#[test]
+fn bad_lines(rt: HostRuntime) -> Result<(), Fail> {
+    let bogus = b"replicas 1 http://agg.example\nrestart 1\nbogus\n";
+    assert_eq!(rt; bad_line(&rt, bogus, b"restarted\n"), Some(3));
+    assert_eq!(rt;
+        bad_line(&rt, b"replicas 17 http://agg.example\n", b""),
+        Some(1)
+    );
+    assert_eq!(rt;
+        bad_line(&rt, b"\nreplicas 1 http://agg.example/x\n", b""),
+        Some(2)
+    );
+    let unended = b"replicas 1 http://agg.example\nreceive 1 3\n\n\nend\n";
+    assert_eq!(rt; bad_line(&rt, unended, b""), Some(2));
+    let asked_too_little = b"replicas 1 http://agg.example\nask 1 GET 2 /x\n\n";
+    assert_eq!(rt; bad_line(&rt, asked_too_little, b""), Some(2));
+    Ok(())
+}
+
+#[test]
+fn failing_devices(rt: HostRuntime) -> Result<(), Fail> {
+    for reads in 0..=EXCHANGE.len() {
+        let rest = EXCHANGE;
+        let mut reader = FailingReader { rest, reads };
+        let mut output = Vec::new(rt.alloc());
+        let result = replay(rt.alloc(), &mut reader, &mut output);
+        assert_eq!(rt; result, Err(ReplayFault::Read));
+        assert!(rt; output.is_empty());
+    }
+    for writes in 0..=EXCHANGE_SAYS.len() {
+        let mut reader = EXCHANGE;
+        let mut output = Vec::new(rt.alloc());
+        let bytes = &mut output;
+        let result = replay(
+            rt.alloc(),
+            &mut reader,
+            &mut FailingWriter { bytes, writes },
+        );
+        let ended = writes == EXCHANGE_SAYS.len();
+        assert_eq!(rt; result.is_ok(), ended);
+        assert!(rt; ended || result == Err(ReplayFault::Write));
+        assert_eq!(rt; output.as_slice(), &EXCHANGE_SAYS[..writes]);
+    }
+    Ok(())
+}

@@ -1,0 +1,107 @@
+//! The texts that commands write.
+ghost use Rattle.std.specs.Prelude.{◌≡◌, ◌≢◌, ◌++◌, ◌∷◌, [], IfOk, OnOk, Err, codes, length, string_bytes};
+ghost use Rattle.replica_world.specs.Output.{line, counted, refused, header_name, header_line, reply_text, taken_line, refusal_line, answer_text, accepted_line};
+
+use crate::event::{Event, Refused, Said};
+use memento_time::{NoMemory, Octets};
+use std::alloc::Global;
+use timegate::{Header, Reply};
+use timemap_reader::Page;
+
+/// The line of a refused command.
+pub fn refused(alloc: Global, why: &str) -> Result<Vec<u8>, NoMemory>
+    ensures { IfOk result (λ text. text.items ≡ refused why.now) }
+{
+    let text = format!(in alloc; "refused {why}\n")?;
+    Ok(text.into_bytes())
+}
+
+/// The line of a page that was taken.
+pub fn taken_line(alloc: Global, page: &Page) -> Result<Vec<u8>, NoMemory>
+    ensures { IfOk result (λ text. text.items ≡ taken_line page.now) }
+{
+    let mementos = page.mementos.as_slice().len();
+    let further = page.further.as_slice().len();
+    let dropped = page.dropped;
+    let text = format!(in alloc; "taken {mementos} {further} {dropped}\n")?;
+    Ok(text.into_bytes())
+}
+
+/// A word and a number, on a line.
+fn counted(alloc: Global, word: &str, number: u64) -> Result<Vec<u8>, NoMemory>
+    ensures { IfOk result (λ text. text.items ≡ counted word.now number) }
+{
+    let text = format!(in alloc; "{word} {number}\n")?;
+    Ok(text.into_bytes())
+}
+
+fn header_name(header: Header) -> &'static [u8]
+    ensures { result.now ≡ header_name header }
+{
+    match header {
+        Header::Allow => b"Allow",
+        Header::Vary => b"Vary",
+        Header::Location => b"Location",
+        Header::Link => b"Link",
+        Header::ContentType => b"Content-Type",
+    }
+}
+
+fn write_header(out: &mut Vec<u8>, header: &(Header, Octets)) -> Result<(), NoMemory>
+    ensures { OnOk result (out.new.items ≡ out.old.items ++ header_line header.now) }
+{
+    let (name, value) = header;
+    out.extend_from_slice(header_name(*name))?;
+    out.extend_from_slice(b": ")?;
+    out.extend_from_slice(value.as_slice())?;
+    out.push(b'\n')?;
+    Ok(())
+}
+
+/// A reply: its status, its headers in order, and its body behind its length.
+fn reply_text(alloc: Global, reply: &Reply) -> Result<Vec<u8>, NoMemory>
+    ensures { IfOk result (λ text. text.items ≡ reply_text reply.now) }
+{
+    let mut out = counted(alloc, "reply", u64::from(reply.status))?;
+    for header in reply.headers.as_slice() {
+        write_header(&mut out, header)?;
+    }
+    let body = reply.body.as_slice();
+    let length = counted(alloc, "body", body.len() as u64)?;
+    out.reserve(length.len() + body.len())?;
+    out.extend_from_slice(&length)?;
+    out.extend_from_slice(body)?;
+    Ok(out)
+}
+
+/// The line of an event that says neither a number nor a reply.
+pub fn accepted_line(event: &Event) -> &'static [u8]
+    ensures { result.now ≡ accepted_line event.now }
+{
+    match event {
+        Event::Deliver(..) => b"joined\n",
+        Event::Receive(..) => b"received\n",
+        Event::Restart(_) => b"restarted\n",
+        Event::Take(..) | Event::Send(_) | Event::Ask(..) => b"",
+    }
+}
+
+/// What is written of an answer. Refused for want of memory, it writes nothing.
+pub fn answer_text(
+    alloc: Global,
+    accepted: &[u8],
+    answer: &Result<Said, Refused>,
+) -> Result<Vec<u8>, NoMemory>
+    ensures text { IfOk result (λ text. text.items ≡ answer_text accepted.now answer.now) }
+    ensures memory { OnOk result (answer.now ≢ Err Refused.NoMemory) }
+{
+    match answer {
+        Ok(Said::Taken | Said::Joined | Said::Restarted) => Ok(Vec::from_slice(alloc, accepted)?),
+        Ok(Said::Sent(count)) => counted(alloc, "sent", *count as u64),
+        Ok(Said::Replied(reply)) => reply_text(alloc, reply),
+        Err(Refused::NoReplica) => refused(alloc, "no replica"),
+        Err(Refused::NoMessage) => refused(alloc, "no message"),
+        Err(Refused::BadState) => refused(alloc, "bad state"),
+        Err(Refused::NoMemory) => Err(NoMemory),
+    }
+}
