@@ -5,6 +5,8 @@ mod fault;
 mod fields;
 mod laws;
 mod reading;
+#[cfg(test)]
+mod tests;
 mod writing;
 
 pub use fault::StateFault;

@@ -84,10 +84,10 @@ fn read_entry(alloc: Global, text: &[u8]) -> Result<(Row, &[u8]), StateFault>
 {
     let (head, rest) = read_head(alloc, text)?;
     let (mementos, rest) = read_mementos(alloc, head.count, rest)?;
-    match Row::new(head.archive, head.original, head.revision, mementos) {
-        Some(row) => Ok((row, rest)),
-        None => Err(StateFault::NotState),
-    }
+    let Some(row) = Row::new(head.archive, head.original, head.revision, mementos) else {
+        return Err(StateFault::NotState);
+    };
+    Ok((row, rest))
 }
 
 /// So many entries, and what follows. Nothing is reserved for entries that may not come.

@@ -15,8 +15,8 @@ returns-in_err-mementos-clause-refused c =
     passed_on entry text c.from_residual-in_err-mementos.result c.in_err-mementos.field-0.0 c.from_residual-in_err-mementos.ensures.1
     (refused_with (many c.in_ok-head.head.count memento) entry text _ (entry_leaves_mementos text _ _ c.in_ok-head.ensures.found) c.in_err-mementos.field-0.0 c.in_err-mementos.ensures.refused)
 
-pub returns-in-Some-clause-found : goal.returns-in-Some-clause-found
-returns-in-Some-clause-found c = entry_found c.args.text.now _ _ c.in_ok-head.ensures.found _ _ c.in_ok-mementos.ensures.found _ c.in-Some.ensures
+pub returns-clause-found : goal.returns-clause-found
+returns-clause-found c = entry_found c.args.text.now _ _ c.in_ok-head.ensures.found _ _ c.in_ok-mementos.ensures.found _ c.in-Some.ensures
 
-pub returns-in-None-clause-refused : goal.returns-in-None-clause-refused
-returns-in-None-clause-refused c = entry_unordered c.args.text.now _ _ c.in_ok-head.ensures.found _ _ c.in_ok-mementos.ensures.found c.in-None.ensures
+pub returns-in_default-clause-refused : goal.returns-in_default-clause-refused
+returns-in_default-clause-refused c = entry_unordered c.args.text.now _ _ c.in_ok-head.ensures.found _ _ c.in_ok-mementos.ensures.found c.in_default.ensures
