@@ -1,5 +1,5 @@
 -- Why a text isn't read as a state.
-use Rattle.std.specs.Prelude.{◌≡◌, ℕ, ◌<◌, ◌≤◌, List, length}
+use Rattle.std.specs.Prelude.{◌≡◌, ℕ, ◌<◌, ◌≤◌, List, length, codes}
 use Rattle.memento_time.specs.declared.faults.CleanFault.{CleanFault}
 use Rattle.memento_time.specs.declared.faults.CleanFault.TheVariants.{NotClean, NoMemory as CleanNoMemory}
 use Rattle.harvest_lattice.specs.Lattice.{Entries}
@@ -21,3 +21,9 @@ IsCause NoMemory text = length text ≤ longest_text
 abbrev pub fault_of : CleanFault → StateFault
 fault_of NotClean = NotState
 fault_of CleanNoMemory = NoMemory
+
+-- what a fault is printed as
+abbrev pub words_of : StateFault → List ℕ
+words_of TooLong = codes "longer than 268435456 bytes"
+words_of NotState = codes "not the text of a state"
+words_of NoMemory = codes "no memory"

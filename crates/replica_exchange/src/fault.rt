@@ -1,6 +1,6 @@
-ghost use Rattle.std.specs.Prelude.{◌≡◌};
+ghost use Rattle.std.specs.Prelude.{◌≡◌, Some};
 ghost use Rattle.replica_exchange.specs.declared.fault.StateFault.TheVariants.{NoMemory as OutOfMemory};
-ghost use Rattle.replica_exchange.specs.Faults.{fault_of};
+ghost use Rattle.replica_exchange.specs.Faults.{fault_of, words_of};
 
 use memento_time::{CleanFault, NoMemory};
 use std::alloc::{AllocError, AllocFailed};
@@ -19,6 +19,8 @@ pub enum StateFault {
 }
 
 impl fmt::Display for StateFault {
+    ghost output = { λ fault. Some (words_of fault) };
+
     fn fmt<W: fmt::Write>(&self, f: &mut fmt::Formatter<W>) -> fmt::Result {
         match self {
             StateFault::TooLong => f.write_str("longer than 268435456 bytes"),

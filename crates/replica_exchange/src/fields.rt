@@ -8,6 +8,7 @@ ghost use Rattle.memento_time.specs.Text.{IsOriginal, IsClean};
 ghost use Rattle.replica_exchange.specs.Spelling.{Begins, Refuses, Lacks, field, number};
 
 use crate::fault::StateFault;
+use memchr::memchr;
 use memento_time::{Clean, Original};
 use std::alloc::Global;
 
@@ -17,7 +18,7 @@ pub fn cut(text: &[u8], byte: u8) -> Result<(&[u8], &[u8]), StateFault>
     ensures first { IfOk result (λ cut. Lacks byte cut.0.now) }
     ensures refused { IfErr result (λ fault. (fault ≡ StateFault.NotState) × Lacks byte text.now) }
 {
-    match text.iter().position(|b| *b == byte) {
+    match memchr(byte, text) {
         Some(at) => Ok((&text[..at], &text[at + 1..])),
         None => Err(StateFault::NotState),
     }
