@@ -1,5 +1,5 @@
 -- The lines of a state's text, part by part: what each reader has found or refused, and that it is the only reading.
-use Rattle.std.proofs.Common.{◌≡◌, ℕ, ◌<◌, ◌≤◌, ◌^◌, Bool, true, false, cond, List, [], ◌∷◌, ◌++◌, length, Option, None, Some, refl, sym, ap, subst, ◌∙◌, append_assoc, arith}
+use Rattle.std.proofs.Common.{◌≡◌, ℕ, Bool, true, false, cond, List, [], ◌∷◌, ◌++◌, length, None, Some, refl, sym, ap, subst, ◌∙◌, append_assoc, arith}
 use Rattle.std.specs.Prelude.{T, codes, All}
 use Rattle.std.specs.Option.{option_map}
 use Rattle.std.specs.List.{flat_map}
@@ -16,7 +16,7 @@ use Rattle.harvest_lattice.proofs.Sets.{items_sorted, from_list-items}
 use Rattle.memento_time.proofs.MementoLemmas.{memento_cmp_total, memento_cmp_exact}
 use Rattle.harvest_lattice.proofs.Ordered.{sorted_marked, items_in_order}
 use Rattle.harvest_lattice.proofs.Rising.{rise_in_order}
-use Rattle.replica_exchange.specs.StateText.{memento_line, entry_line, entry_text, IsMemento, IsEntryLine, IsEntry}
+use Rattle.replica_exchange.specs.StateText.{memento_line, entry_line, IsMemento}
 use Rattle.replica_exchange.specs.Spelling.{Spelling, Begins, field, number}
 use Rattle.replica_exchange.specs.Parts.{memento, head, entry, many}
 use Rattle.replica_exchange.proofs.SpellingLemmas.{Once, number_once, archive_once, original_once, uri_once}
@@ -175,7 +175,8 @@ made_by true key revision mementos e rises is =
     subst (IsMade key revision mementos) same (record { key_is = refl; revision_is = refl; mementos_are = items_in_order mementos (rise_in_order mementos rises) })
 made_by false key revision mementos e rises is = absurd cc
 
-is_true : (b : Bool) → T b → b ≡ true
+-- a test that holds
+pub is_true : (b : Bool) → T b → b ≡ true
 is_true true h = refl
 is_true false h = absurd h
 

@@ -1,6 +1,6 @@
 -- What is read from `entries` to `end`, and the one text of a state.
-use Rattle.std.proofs.Common.{◌≡◌, ℕ, ◌<◌, ◌≤◌, ◌^◌, Bool, true, false, cond, List, [], ◌∷◌, ◌++◌, length, map, Option, None, Some, Result, Ok, Err, IfOk, IfErr, refl, sym, ap, subst, ◌∙◌, append_assoc, arith}
-use Rattle.std.specs.Prelude.{T, codes, All}
+use Rattle.std.proofs.Common.{◌≡◌, ℕ, ◌<◌, ◌≤◌, ◌^◌, Bool, true, false, cond, List, [], ◌∷◌, ◌++◌, length, Option, None, Some, Result, Ok, Err, IfErr, refl, sym, ap, subst, ◌∙◌, append_assoc, arith}
+use Rattle.std.specs.Prelude.{T, codes}
 use Rattle.std.specs.Result.{IsErrAnd}
 use Rattle.std.specs.List.{flat_map}
 use Rattle.std.specs.Fmt.{decimal}
@@ -11,13 +11,13 @@ use Rattle.harvest_lattice.specs.Rows.{keys_rise, map_with}
 use Rattle.harvest_lattice.proofs.RowLemmas.{entries_made}
 use Rattle.replica_exchange.specs.declared.fault.StateFault.{StateFault}
 use Rattle.replica_exchange.specs.declared.fault.StateFault.TheVariants.{TooLong, NotState, NoMemory}
-use Rattle.replica_exchange.specs.StateText.{entry_text, entries_text, state_text, IsEntry, AreEntries, IsState}
+use Rattle.replica_exchange.specs.StateText.{entry_text, entries_text, state_text, AreEntries, IsState}
 use Rattle.replica_exchange.specs.Faults.{IsCause, longest_text}
 use Rattle.replica_exchange.specs.Spelling.{Begins, RefusesWhole, number}
 use Rattle.replica_exchange.specs.Parts.{entry, many, listing}
 use Rattle.replica_exchange.proofs.SpellingLemmas.{number_once}
 use Rattle.replica_exchange.proofs.Sequences.{LeavesWhole, many_once}
-use Rattle.replica_exchange.proofs.PartLemmas.{entry_once}
+use Rattle.replica_exchange.proofs.PartLemmas.{entry_once, is_true}
 
 abbrev end_line : List ℕ
 end_line = codes "end\n"
@@ -102,10 +102,6 @@ made_state true es state rises is =
     let same : fmap.from_entries es ≡ state = cc in
     ap (λ (m : Entries). fmap.entries m) (sym same) ∙ entries_made es (subst T (sym rises) tt)
 made_state false es state rises is = absurd cc
-
-is_true : (b : Bool) → T b → b ≡ true
-is_true true h = refl
-is_true false h = absurd h
 
 unmade_state : (rise : Bool) (es : List (Key × Kept)) → rise ≡ true → ¬ (None ≡ cond {A = Option Entries} rise (Some (fmap.from_entries es)) None)
 unmade_state true es rises none = absurd cc

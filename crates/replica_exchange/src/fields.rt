@@ -1,5 +1,6 @@
 //! The fields of a line, read from the front of a text.
-ghost use Rattle.std.specs.Prelude.{◌≡◌, ℕ, List, ◌+◌, ◌-◌, ◌*◌, ◌^◌, ◌<◌, ◌++◌, ◌∷◌, ◌↔◌, length, slice_index, IsTrue, IfSome, IfNone, IfOk, IfErr};
+ghost use Rattle.std.specs.Prelude.{◌≡◌, ◌↔◌, ℕ, ◌+◌, ◌-◌, ◌*◌, ◌^◌, ◌<◌, List, ◌++◌, ◌∷◌, length};
+ghost use Rattle.std.specs.Prelude.{slice_index, IsTrue, IfSome, IfNone, IfOk, IfErr};
 ghost use Rattle.std.specs.Option.{SomeIff};
 ghost use Rattle.std.specs.Int.{IsInRange};
 ghost use Rattle.std.specs.Fmt.{decimal};
@@ -27,7 +28,8 @@ pub fn cut(text: &[u8], byte: u8) -> Result<(&[u8], &[u8]), StateFault>
 /// What follows these bytes.
 pub fn skip<'a>(text: &'a [u8], front: &[u8]) -> Result<&'a [u8], StateFault>
     ensures found { IfOk result (λ rest. text.now ≡ front.now ++ rest.now) }
-    ensures refused { IfErr result (λ fault. (fault ≡ StateFault.NotState) × ((rest : List ℕ) → ¬ (text.now ≡ front.now ++ rest))) }
+    ensures refused { IfErr result (λ fault. (fault ≡ StateFault.NotState)
+        × ((rest : List ℕ) → ¬ (text.now ≡ front.now ++ rest))) }
 {
     match text.strip_prefix(front) {
         Some(rest) => Ok(rest),
@@ -37,7 +39,8 @@ pub fn skip<'a>(text: &'a [u8], front: &[u8]) -> Result<&'a [u8], StateFault>
 
 /// The number with one more digit behind it.
 fn appended(number: u64, digit: u8) -> Option<u64>
-    ensures { SomeIff result (IsInRange 48 57 digit × (number * 10 + (digit - 48) < 2 ^ 64)) (number * 10 + (digit - 48)) }
+    ensures { let next = number * 10 + (digit - 48) in
+        SomeIff result (IsInRange 48 57 digit × (next < 2 ^ 64)) next }
 {
     if !digit.is_ascii_digit() {
         return None;
@@ -47,7 +50,8 @@ fn appended(number: u64, digit: u8) -> Option<u64>
 
 /// The number that digits write, with any zeros in front.
 fn read_digits(digits: &[u8]) -> Option<u64>
-    ensures { SomeIff result (AllDigits 10 digits.now × (digits_value 10 digits.now < 2 ^ 64)) (digits_value 10 digits.now) }
+    ensures { let value = digits_value 10 digits.now in
+        SomeIff result (AllDigits 10 digits.now × (value < 2 ^ 64)) value }
 {
     let mut number = 0;
     for digit in digits {
@@ -58,7 +62,8 @@ fn read_digits(digits: &[u8]) -> Option<u64>
 
 /// Whether there are digits, and no zero in front of another.
 fn has_decimal_front(digits: &[u8]) -> bool
-    ensures { IsTrue result ↔ (0 < length digits.now) × (slice_index digits.now 0 ≡ 48 → length digits.now ≡ 1) }
+    ensures { IsTrue result
+        ↔ (0 < length digits.now) × (slice_index digits.now 0 ≡ 48 → length digits.now ≡ 1) }
 {
     match digits {
         [] => false,

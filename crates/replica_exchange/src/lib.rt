@@ -1,4 +1,19 @@
-//! A replica's knowledge as one exact text: each state has one text, and no other text is read.
+//! A replica's knowledge as one exact text, which it hands to its peers: each state has one text, and no other text is
+//! read.
+//!
+//! Format 1 has these lines, each ended by LF, with nothing behind the last one and one space between fields:
+//!
+//! ```text
+//! memento-state 1
+//! entries N
+//! entry ARCHIVE REVISION COUNT ORIGINAL
+//! SECONDS URI
+//! end
+//! ```
+//!
+//! There are N entries, by ARCHIVE and then by ORIGINAL, and none twice. An entry is one `entry` line and then COUNT lines
+//! of mementos, by SECONDS and then by URI, none twice. Texts are compared by their bytes. N, REVISION, COUNT and SECONDS
+//! are decimals of 64 bits with no zero in front; SECONDS count from the start of 1970 and lie before the year 10000.
 #![tactic(auto)]
 
 mod fault;

@@ -34,7 +34,8 @@ fn read_mementos(
     count: u64,
     text: &[u8],
 ) -> Result<(Vec<Memento>, &[u8]), StateFault>
-    ensures found { IfOk result (λ read. Begins (many count memento) text.now read.0.items read.1.now) }
+    ensures found { IfOk result (λ read.
+        Begins (many count memento) text.now read.0.items read.1.now) }
     ensures refused { IfErr result (λ fault. Refuses (many count memento) text.now fault) }
 {
     let mut mementos = Vec::new(alloc);
@@ -57,7 +58,8 @@ struct Head {
 }
 
 fn read_head(alloc: Global, text: &[u8]) -> Result<(Head, &[u8]), StateFault>
-    ensures found { IfOk result (λ read. Begins head text.now ((read.0.archive, read.0.original), (read.0.revision, read.0.count)) read.1.now) }
+    ensures found { IfOk result (λ read. let h = read.0 in
+        Begins head text.now ((h.archive, h.original), (h.revision, h.count)) read.1.now) }
     ensures refused { IfErr result (λ fault. Refuses head text.now fault) }
 {
     let rest = skip(text, b"entry ")?;
@@ -92,7 +94,8 @@ fn read_entry(alloc: Global, text: &[u8]) -> Result<(Row, &[u8]), StateFault>
 
 /// So many entries, and what follows. Nothing is reserved for entries that may not come.
 fn read_entries(alloc: Global, count: u64, text: &[u8]) -> Result<(Vec<Row>, &[u8]), StateFault>
-    ensures found { IfOk result (λ read. Begins (many count entry) text.now (map_list row_entry read.0.items) read.1.now) }
+    ensures found { IfOk result (λ read.
+        Begins (many count entry) text.now (map_list row_entry read.0.items) read.1.now) }
     ensures refused { IfErr result (λ fault. Refuses (many count entry) text.now fault) }
 {
     let mut rows = Vec::new(alloc);
@@ -113,7 +116,8 @@ fn is_end(text: &[u8]) -> bool
 
 /// The entries from `entries N` to `end`, after which nothing comes.
 fn read_listing(alloc: Global, text: &[u8]) -> Result<Vec<Row>, StateFault>
-    ensures found { IfOk result (λ rows. Begins listing text.now (map_list row_entry rows.items) []) }
+    ensures found { IfOk result (λ rows.
+        Begins listing text.now (map_list row_entry rows.items) []) }
     ensures refused { IfErr result (λ fault. RefusesWhole listing text.now fault) }
 {
     let rest = skip(text, b"entries ")?;
@@ -125,7 +129,7 @@ fn read_listing(alloc: Global, text: &[u8]) -> Result<Vec<Row>, StateFault>
     Ok(rows)
 }
 
-/// Reads the state whose text this is. Takes time linear in the text.
+/// The state whose text this is. Takes time linear in the text; N and COUNT reserve nothing.
 pub fn read_state(alloc: Global, text: &[u8]) -> Result<State, StateFault>
     ensures found { IfOk result (λ state. IsState state × (text.now ≡ state_text state)) }
     ensures within { IfOk result (λ _. length text.now ≤ longest_text) }

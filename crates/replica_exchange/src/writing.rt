@@ -3,7 +3,8 @@ ghost use Rattle.std.specs.Prelude.{◌≡◌, ◌^◌, ◌<◌, ◌++◌, ◌�
 ghost use Rattle.std.specs.List.{flat_map};
 ghost use Rattle.std.specs.Fmt.{decimal};
 ghost use Rattle.std.specs.FinMap as map;
-ghost use Rattle.replica_exchange.specs.StateText.{memento_line, entry_text, entry_line, state_text, IsMemento, IsEntryLine, IsEntry, IsState};
+ghost use Rattle.replica_exchange.specs.StateText.{memento_line, entry_line, entry_text, state_text};
+ghost use Rattle.replica_exchange.specs.StateText.{IsMemento, IsEntryLine, IsEntry, IsState};
 ghost use Rattle.harvest_lattice.specs.Sets as set;
 
 use harvest_lattice::{Entry, State};
@@ -45,7 +46,8 @@ fn write_entry_line(
 ) -> Result<(), AllocError>
     ensures written { OnOk result (out.new.items ≡ out.old.items
         ++ entry_line (archive, original.now) entry.now.revision (length (set.items entry.now.mementos))) }
-    ensures fits { OnOk result (IsEntryLine (archive, original.now) entry.now.revision (length (set.items entry.now.mementos))) }
+    ensures fits { OnOk result (IsEntryLine (archive, original.now) entry.now.revision
+        (length (set.items entry.now.mementos))) }
 {
     out.extend_from_slice(b"entry ")?;
     write_field(out, archive.as_bytes(), b' ')?;
@@ -71,7 +73,8 @@ fn write_entry(
     original: &Original,
     entry: &Entry,
 ) -> Result<(), AllocError>
-    ensures written { OnOk result (out.new.items ≡ out.old.items ++ entry_text ((archive, original.now), entry.now)) }
+    ensures written { OnOk result (out.new.items ≡ out.old.items
+        ++ entry_text ((archive, original.now), entry.now)) }
     ensures fits { OnOk result (IsEntry ((archive, original.now), entry.now)) }
 {
     write_entry_line(out, archive, original, entry)?;
@@ -80,7 +83,8 @@ fn write_entry(
 
 /// The entries by archive, then by original.
 fn write_entries(out: &mut Vec<u8>, state: &State) -> Result<(), AllocError>
-    ensures written { OnOk result (out.new.items ≡ out.old.items ++ flat_map entry_text (map.entries state.now)) }
+    ensures written { OnOk result (out.new.items ≡ out.old.items
+        ++ flat_map entry_text (map.entries state.now)) }
     ensures fits { OnOk result (All IsEntry (map.entries state.now)) }
 {
     for ((archive, original), entry) in state.rows() {
@@ -89,7 +93,7 @@ fn write_entries(out: &mut Vec<u8>, state: &State) -> Result<(), AllocError>
     Ok(())
 }
 
-/// Writes the one text of a state. Takes time linear in the text.
+/// The one text of a state. Takes time linear in the text.
 pub fn write_state(alloc: Global, state: &State) -> Result<Vec<u8>, NoMemory>
     ensures written { IfOk result (λ text. text.items ≡ state_text state.now) }
     ensures fits { IfOk result (λ _. IsState state.now) }

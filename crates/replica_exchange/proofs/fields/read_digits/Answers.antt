@@ -1,4 +1,4 @@
-use Rattle.std.proofs.Common.{◌≡◌, ℕ, None, Option, ◌<◌, ◌^◌, sym, subst}
+use Rattle.std.proofs.Common.{ℕ, Option, ◌<◌, ◌^◌, sym, subst}
 use Rattle.std.specs.Option.{SomeIff}
 use Rattle.std.specs.Str.Parse.{AllDigits, digits_value}
 use Rattle.replica_exchange.proofs.DecimalLemmas.{reads_more, reads_no_more, reads_all}

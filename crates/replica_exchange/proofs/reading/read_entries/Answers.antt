@@ -2,7 +2,7 @@ use Rattle.std.proofs.Common.{◌≡◌, ◌++◌, ◌∷◌, [], map, ap, ◌�
 use Rattle.std.proofs.lemmas.List.{map_push}
 use Rattle.harvest_lattice.specs.Rows.{row_entry}
 use Rattle.replica_exchange.specs.Parts.{entry, many}
-use Rattle.replica_exchange.proofs.Sequences.{passed_on, refused_with, many_more, many_leaves, many_done}
+use Rattle.replica_exchange.proofs.Sequences.{passed_on, refused_with, many_more, many_leaves}
 use Rattle.replica_exchange.proofs.PartLemmas.{entry_once}
 use Rattle.replica_exchange.proofs.reading.read_entries.Goals as goal
 

@@ -1,5 +1,5 @@
 use Rattle.replica_exchange.specs.Parts.{memento, many}
-use Rattle.replica_exchange.proofs.Sequences.{passed_on, refused_with, many_more, many_leaves, many_done}
+use Rattle.replica_exchange.proofs.Sequences.{passed_on, refused_with, many_more, many_leaves}
 use Rattle.replica_exchange.proofs.PartLemmas.{memento_once}
 use Rattle.replica_exchange.proofs.reading.read_mementos.Goals as goal
 

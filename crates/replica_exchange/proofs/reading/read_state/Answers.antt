@@ -1,4 +1,4 @@
-use Rattle.std.proofs.Common.{◌≡◌, ◌∙◌, map, sym, subst}
+use Rattle.std.proofs.Common.{◌∙◌, map, sym, subst}
 use Rattle.harvest_lattice.specs.Rows.{row_entry}
 use Rattle.replica_exchange.specs.Faults.{IsCause}
 use Rattle.replica_exchange.proofs.StateLemmas.{cause_passed, state_has_front, state_refused, state_found, state_unordered}

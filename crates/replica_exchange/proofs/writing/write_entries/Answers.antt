@@ -1,12 +1,11 @@
-use Rattle.std.proofs.Common.{◌≡◌, ◌++◌, ◌∷◌, [], map, sym, ap, subst, ◌∙◌}
+use Rattle.std.proofs.Common.{◌++◌, map, ap, subst, ◌∙◌}
 use Rattle.std.specs.Prelude.{All}
 use Rattle.std.specs.List.{flat_map}
-use Rattle.std.specs.FinMap as fmap
 use Rattle.std.proofs.lemmas.List.{map_push}
 use Rattle.std.proofs.lemmas.Map.Iter.{iter_end}
 use Rattle.harvest_lattice.specs.Rows.{lent_entry}
 use Rattle.replica_exchange.specs.StateText.{entry_text, IsEntry}
-use Rattle.replica_exchange.proofs.WritingLemmas.{HasWritten, more}
+use Rattle.replica_exchange.proofs.WritingLemmas.{more}
 use Rattle.replica_exchange.proofs.writing.write_entries.Goals as goal
 
 pub loop-archive-preserved : goal.loop-archive-preserved
