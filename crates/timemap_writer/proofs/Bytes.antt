@@ -1,13 +1,13 @@
 -- The bytes of what is written: of addresses they may stand in a target, and of datetimes in a quoted value as they are.
-use Rattle.std.proofs.Common.{◌≡◌, ℕ, zero, suc, ◌+◌, ◌-◌, ◌*◌, ◌/◌, ◌%◌, ◌<◌, ◌≤◌, Bool, true, false, ◌&&◌, List, [], ◌∷◌, ◌++◌, length, codes, refl, sym, ap, ◌∙◌, subst, arith, inl, inr}
-use Rattle.std.specs.Prelude.{IsTrue, All, slice_index_or}
+use Rattle.std.proofs.Common.{◌≡◌, ℕ, zero, suc, ◌+◌, ◌-◌, ◌/◌, ◌%◌, ◌<◌, ◌≤◌, Bool, true, List, [], ◌∷◌, ◌++◌, codes, refl, ◌∙◌, arith}
+use Rattle.std.specs.Prelude.{All, slice_index_or}
 use Rattle.std.specs.List.{list_all}
-use Rattle.std.proofs.lemmas.Bool.{and_parts, cases_Bool}
+use Rattle.std.proofs.lemmas.Bool.{and_parts}
 use Rattle.std.proofs.lemmas.Bool.Decides.{nat_tests}
 use Rattle.std.proofs.lemmas.List.Elements.{All-head, All-tail}
 use Rattle.std.proofs.lemmas.List.Folds.{list_all-append}
 use Rattle.httpdate.specs.declared.parts.Parts.{Parts}
-use Rattle.httpdate.specs.Calendar.{days_in_month, is_leap_year}
+use Rattle.httpdate.specs.Calendar.{days_in_month}
 use Rattle.httpdate.specs.Valid.{IsValid}
 use Rattle.httpdate.specs.Text.{day_name, month_name, two_digits, four_digits, time_of_day, imf_fixdate}
 use Rattle.memento_time.specs.Civil.{civil_time}
@@ -15,7 +15,7 @@ use Rattle.memento_time.specs.Names.{day_names, month_names}
 use Rattle.memento_time.specs.Second.{IsSecond, imf}
 use Rattle.memento_time.specs.Text.{IsCleanByte}
 use Rattle.memento_time.proofs.CivilLemmas.{civil_time-valid}
-use Rattle.link_format.specs.Bytes.{is_target_byte, is_quotable, is_plain}
+use Rattle.link_format.specs.Bytes.{is_target_byte, is_plain}
 use Rattle.link_format.specs.Grammar.{Each}
 use Rattle.timemap_writer.specs.Service.{is_clean_byte}
 

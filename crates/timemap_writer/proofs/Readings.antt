@@ -1,19 +1,19 @@
 -- What is written has the reading that was meant.
-use Rattle.std.proofs.Common.{◌≡◌, ℕ, ◌-◌, ◌<◌, ◌==◌, ◌&&◌, nat_lt, Bool, true, false, List, [], ◌∷◌, ◌++◌, map, Option, Some, None, length, codes, refl, sym, ap, subst, ◌∙◌, append_assoc, lit<, inl, inr}
+use Rattle.std.proofs.Common.{◌≡◌, ℕ, ◌-◌, ◌<◌, ◌==◌, ◌&&◌, nat_lt, Bool, true, false, List, [], ◌∷◌, ◌++◌, map, Option, Some, None, length, codes, refl, sym, subst, append_assoc, lit<, inl, inr}
 use Rattle.std.specs.Prelude.{All, IfSome, nat_le, slice_get}
 use Rattle.std.specs.List.{AllByRecursion, list_all}
 use Rattle.std.proofs.lemmas.Bool.{and_parts}
 use Rattle.std.proofs.lemmas.List.{append-nil}
 use Rattle.std.proofs.lemmas.List.Elements.{All-head, All-tail}
 use Rattle.std.proofs.lemmas.Option.{slice_get_cases}
-use Rattle.link_format.specs.Bytes.{is_blank, is_name_byte, is_target_byte, is_plain}
+use Rattle.link_format.specs.Bytes.{is_name_byte, is_target_byte, is_plain}
 use Rattle.link_format.specs.Grammar as grammar
 use Rattle.link_format.specs.Grammar.{Param, Link, Each, IsBlank, IsName, IsTarget, QuotedText, ParamText, ParamsText, ElementText, ElementsText, Reading}
 use Rattle.memento_time.specs.declared.mementos.Memento.{Memento}
 use Rattle.memento_time.specs.Second.{imf}
 use Rattle.memento_time.specs.Text.{IsOriginal}
 use Rattle.timemap_writer.specs.Service.{is_clean_byte, IsBase}
-use Rattle.timemap_writer.specs.TimeMap.{IsMemento, Attribute, Statement, attribute_text, attributes_text, statement_text, link_of, rel, datetime_of, period, original_statement, timegate_statement, timemap_statement, memento_relations, memento_statement, memento_statements, timemap_statements, gate_statements, followed, joined, timemap_text, gate_links, timemap_links, redirect_links}
+use Rattle.timemap_writer.specs.TimeMap.{IsMemento, Attribute, Statement, attributes_text, statement_text, link_of, rel, datetime_of, period, original_statement, timegate_statement, timemap_statement, memento_relations, memento_statement, memento_statements, timemap_statements, gate_statements, followed, joined, timemap_text, gate_links, timemap_links, redirect_links}
 use Rattle.timemap_writer.proofs.Bytes.{Each-from_list_all, all_append, clean_target, base_target, imf_plain}
 
 -- the name may be one of a parameter, and the value stands as it is between quotes
