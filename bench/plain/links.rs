@@ -1,10 +1,11 @@
 //! The link-format scanner that a Rust programmer would write with std alone: the measure for the crate link_format.
 //!
-//!     plain PAGE TIMES
+//!     links TIMES < PAGE
 //!
 //! reads the page that many times, and prints for each how many links it has, the bytes of their targets, their
 //! parameters, and the bytes of the first values of `rel` and `datetime`.
 use std::borrow::Cow;
+use std::io::Read;
 
 struct Param<'a> {
     name: &'a [u8],
@@ -216,13 +217,10 @@ fn unescaped(text: &[u8]) -> Vec<u8> {
 }
 
 fn main() -> std::io::Result<()> {
-    let mut args = std::env::args().skip(1);
-    let (Some(path), Some(times)) = (args.next(), args.next()) else {
-        eprintln!("usage: plain PAGE TIMES");
-        return Ok(());
-    };
-    let page = std::fs::read(path)?;
-    for _ in 0..times.parse().unwrap_or(1) {
+    let times = std::env::args().nth(1).and_then(|word| word.parse().ok());
+    let mut page = Vec::new();
+    std::io::stdin().read_to_end(&mut page)?;
+    for _ in 0..times.unwrap_or(1) {
         match read_links(&page) {
             Ok(links) => {
                 let targets: usize = links.iter().map(|link| link.target.len()).sum();

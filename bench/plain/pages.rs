@@ -1,8 +1,10 @@
 //! Reads a page of a TimeMap as a plain Rust program does: the yardstick for `read_page`.
 //!
-//! `rustc -O plain.rs && ./plain BASE < page` prints how many mementos and further TimeMaps the page
-//! names, and how many links were left out. It does the same job as `read_page`, with the standard
-//! library alone: relative targets are joined for the forms that archives use.
+//!     pages TIMES < PAGE
+//!
+//! reads the page that many times, and prints for each how many mementos and further TimeMaps it names, and how many
+//! links were left out. It does the same job as `read_page`, with the standard library alone: relative targets are
+//! joined for the forms that archives use.
 
 use std::collections::HashSet;
 use std::io::Read;
@@ -12,6 +14,7 @@ const MAX_LINKS: usize = 200_000;
 const MAX_PARAMS: usize = 32;
 const MAX_ADDRESS: usize = 8_192;
 
+#[derive(Debug)]
 enum Fault {
     TooLong,
     NotLinkFormat(usize),
@@ -384,25 +387,15 @@ fn read_page(base: &str, body: &[u8]) -> Result<Page, Fault> {
     Ok(page)
 }
 
-fn main() {
-    let base = std::env::args()
-        .nth(1)
-        .unwrap_or("http://arc.example/list".to_string());
+fn main() -> std::io::Result<()> {
+    let times = std::env::args().nth(1).and_then(|word| word.parse().ok());
     let mut body = Vec::new();
-    std::io::stdin()
-        .read_to_end(&mut body)
-        .expect("standard input");
-    match read_page(&base, &body) {
-        Ok(page) => println!(
-            "{} {} {}",
-            page.mementos.len(),
-            page.further.len(),
-            page.dropped
-        ),
-        Err(Fault::TooLong) => println!("too long"),
-        Err(Fault::NotLinkFormat(at)) => println!("not link-format at {at}"),
-        Err(Fault::TooManyLinks) => println!("too many links"),
-        Err(Fault::TooManyParams) => println!("too many parameters"),
-        Err(Fault::TargetTooLong) => println!("a target that is too long"),
+    std::io::stdin().read_to_end(&mut body)?;
+    for _ in 0..times.unwrap_or(1) {
+        match read_page("http://arc.example/list", &body) {
+            Ok(page) => println!("{} {} {}", page.mementos.len(), page.further.len(), page.dropped),
+            Err(fault) => println!("refused: {fault:?}"),
+        }
     }
+    Ok(())
 }

@@ -1,0 +1,100 @@
+#!/usr/bin/env python3
+"""Writes the inputs of the benchmarks to standard output, always the same ones.
+
+generate.py page N     an archive's page of N mementos
+generate.py take N     a script that takes that page and asks for its TimeMap
+generate.py keys N     a script that takes one memento for each of N originals, one by one
+generate.py world N    a script of N events over 16 replicas
+generate.py state N    a state's text with N mementos, 100 in each entry
+"""
+import sys
+from email.utils import formatdate
+
+ORIGINAL = "http://a.example/"
+FIRST = 946684800
+
+
+def date(second):
+    return formatdate(second, usegmt=True)
+
+
+def page(count):
+    lines = [f'<{ORIGINAL}>; rel="original",']
+    for k in range(count):
+        lines.append(
+            f'<http://m.example/{k}>; rel="memento"; datetime="{date(FIRST + 61 * k)}",'
+        )
+    return "\n".join(lines) + "\n"
+
+
+def take(replica, archive, revision, original, body):
+    return f"take {replica} {archive} {revision} http://arc.example/list {len(body)} {original}\n{body}\n"
+
+
+def small_page(second, name):
+    return f'<http://m.example/{name}>; rel="memento"; datetime="{date(second)}"'
+
+
+class Random:
+    """A linear congruential generator, so that the inputs never change."""
+
+    def __init__(self):
+        self.state = 1
+
+    def below(self, bound):
+        self.state = (self.state * 6364136223846793005 + 1442695040888963407) % 2**64
+        return (self.state >> 33) % bound
+
+
+def world(count, write):
+    random = Random()
+    sent = 0
+    write("replicas 16 http://agg.example\n")
+    for k in range(count):
+        replica = 1 + random.below(16)
+        kind = random.below(10)
+        original = f"http://a.example/{random.below(20)}"
+        if kind < 3:
+            body = small_page(FIRST + random.below(10**8), f"{random.below(50)}")
+            write(take(replica, f"arc{random.below(3)}", random.below(10), original, body))
+        elif kind == 3 or sent == 0:
+            write(f"send {replica}\n")
+            sent += 1
+        elif kind < 6:
+            write(f"deliver {replica} {1 + random.below(sent)}\n")
+        elif kind == 6 and random.below(50) == 0:
+            write(f"restart {replica}\n")
+        elif kind < 8:
+            write(f"map {replica} {original}\n")
+        else:
+            write(f"gate {replica} {original} {date(FIRST + random.below(10**8))}\n")
+
+
+def main():
+    kind, count = sys.argv[1], int(sys.argv[2])
+    write = sys.stdout.write
+    if kind == "page":
+        write(page(count))
+    elif kind == "take":
+        write("replicas 1 http://agg.example\n")
+        write(take(1, "arc.example", 1, ORIGINAL, page(count)))
+        write(f"map 1 {ORIGINAL}\n")
+    elif kind == "keys":
+        write("replicas 1 http://agg.example\n")
+        for k in range(count):
+            write(take(1, "arc.example", 1, f"http://a.example/{k:07d}", small_page(FIRST, k)))
+    elif kind == "world":
+        world(count, write)
+    elif kind == "state":
+        entries = count // 100
+        write(f"memento-state 1\nentries {entries}\n")
+        for e in range(entries):
+            write(f"entry arc.example 1 100 http://a.example/{e:07d}\n")
+            for k in range(100):
+                write(f"{FIRST + k} http://m.example/{e:07d}/{k:03d}\n")
+        write("end\n")
+    else:
+        sys.exit(__doc__)
+
+
+main()

@@ -1,0 +1,72 @@
+//! How the program fails: its one line on standard error, and its exit status.
+ghost use Rattle.std.specs.Prelude.{◌≡◌, Some};
+ghost use Rattle.std.specs.Process.{exit_status};
+ghost use Rattle.aggregator.specs.Ending.{message_of, status_of};
+
+use replica_world::ReplayFault;
+use std::fmt;
+use std::io;
+use std::process::ExitCode;
+
+/// The input, or the words of the command line, were wrong.
+const BAD_INPUT: u8 = 2;
+
+/// A device failed, or memory was refused.
+const BAD_MACHINE: u8 = 3;
+
+#[derive(Clone, Copy, Debug, PartialEq, Eq)]
+pub enum Failure {
+    /// The words of the command line ask for nothing that there is.
+    Usage,
+    /// The line of this number is no command.
+    BadLine { number: u64 },
+    /// Reading or writing failed.
+    Device,
+    /// The allocator refused a growth.
+    NoMemory,
+}
+
+impl Failure {
+    /// The exit status: 2 for wrong input, 3 for a device or memory.
+    pub fn status(self) -> ExitCode
+        ensures { exit_status result ≡ status_of self }
+    {
+        match self {
+            Failure::Usage | Failure::BadLine { .. } => ExitCode::from(BAD_INPUT),
+            Failure::Device | Failure::NoMemory => ExitCode::from(BAD_MACHINE),
+        }
+    }
+}
+
+impl fmt::Display for Failure {
+    ghost output = { λ failure. Some (message_of failure) };
+
+    fn fmt<W: fmt::Write>(&self, f: &mut fmt::Formatter<W>) -> fmt::Result {
+        match self {
+            Failure::Usage => f.write_str("usage: aggregator [replay | serve FILE | check FILE]"),
+            Failure::BadLine { number } => write!(f, "bad line {number}"),
+            Failure::Device => f.write_str("device fault"),
+            Failure::NoMemory => f.write_str("no memory"),
+        }
+    }
+}
+
+impl From<ReplayFault> for Failure {
+    fn from(fault: ReplayFault) -> Failure {
+        match fault {
+            ReplayFault::BadLine { number } => Failure::BadLine { number },
+            ReplayFault::Read | ReplayFault::Write => Failure::Device,
+            ReplayFault::NoMemory => Failure::NoMemory,
+        }
+    }
+}
+
+/// Why the words of the command line couldn't be had: want of memory, or one that isn't UTF-8.
+impl From<io::Error> for Failure {
+    fn from(error: io::Error) -> Failure {
+        match error.kind() {
+            io::ErrorKind::OutOfMemory => Failure::NoMemory,
+            _ => Failure::Usage,
+        }
+    }
+}

@@ -1,0 +1,49 @@
+//! The program: what its words ask for, and what it says and answers when it ends.
+//!
+//! Standard output has what the command writes and nothing else. A failure is one line on standard error.
+#![tactic(auto)]
+
+mod failure;
+
+use crate::failure::Failure;
+use replica_world::replay;
+use std::env::{self, Env};
+use std::process::ExitCode;
+
+/// What the words of the command line ask for.
+enum Command {
+    Replay,
+}
+
+fn command_of(rt: &(impl Env + Alloc)) -> Result<Command, Failure> {
+    let mut words = env::args(rt)?.skip(1);
+    let Some(word) = words.next() else {
+        return Ok(Command::Replay);
+    };
+    if words.next().is_some() {
+        return Err(Failure::Usage);
+    }
+    match word.as_str() {
+        "replay" => Ok(Command::Replay),
+        _ => Err(Failure::Usage),
+    }
+}
+
+fn run(rt: &HostRuntime) -> Result<(), Failure> {
+    match command_of(rt)? {
+        Command::Replay => {
+            replay(rt.alloc(), &mut rt.stdin(), &mut rt.stdout())?;
+            Ok(())
+        }
+    }
+}
+
+fn main(rt: HostRuntime) -> ExitCode {
+    match run(&rt) {
+        Ok(()) => ExitCode::SUCCESS,
+        Err(failure) => {
+            let _ = eprintln!(rt; "{failure}");
+            failure.status()
+        }
+    }
+}

@@ -1,0 +1,37 @@
+//! Merging many keys, one by one.
+use anyhow::{Context, Result, bail};
+use harvest_lattice::{Harvest, State};
+use memento_time::{ArchiveName, Clean, Memento, Moment, Original};
+use std::alloc::Global;
+
+/// The harvest of one memento of the original of this number.
+fn harvest(alloc: Global, archive: ArchiveName, number: u32) -> Result<Harvest> {
+    let text = format!(in alloc; "http://a.example/{number}")?;
+    let original = match Original::new(alloc, text.as_bytes()) {
+        Ok(original) => original,
+        Err(fault) => bail!("{fault}"),
+    };
+    let uri = match Clean::new(alloc, text.as_bytes()) {
+        Ok(uri) => uri,
+        Err(fault) => bail!("{fault}"),
+    };
+    let at = Moment::from_secs(u64::from(number)).context("too late")?;
+    let mementos = vec![in alloc; Memento { at, uri }]?;
+    match Harvest::new(archive, &original, 1, mementos) {
+        Ok(harvest) => Ok(harvest),
+        Err(fault) => bail!("{fault}"),
+    }
+}
+
+/// Merges one memento for each of so many originals into a state, and prints how many keys it has then.
+pub fn merge<R: Print + AllocGlobal>(rt: &R, count: u32) -> Result<()> {
+    let alloc: Global = rt.alloc();
+    let archive = ArchiveName::new(b"arc.example").context("no name")?;
+    let mut state = State::new(alloc);
+    for number in 0..count {
+        state.merge(&harvest(alloc, archive, number)?)?;
+    }
+    let keys = state.len();
+    println!(rt; "{keys}")?;
+    Ok(())
+}

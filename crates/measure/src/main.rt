@@ -1,0 +1,44 @@
+//! Does one layer's job by itself and many times, so that `bench/run` can measure it beside a plain Rust program.
+//!
+//! - `measure links COUNT < PAGE`: reads the links of a page so many times.
+//! - `measure pages COUNT < PAGE`: reads what the page says so many times.
+//! - `measure keys COUNT`: merges one memento for each of so many originals into a state, one by one.
+//! - `measure states COUNT < TEXT`: reads the text of a state and writes it again, so many times.
+//!
+//! Each time it prints some counts, which must be those of the plain program. With no words it does nothing.
+#![tactic(auto)]
+
+mod keys;
+mod links;
+mod pages;
+mod states;
+
+use anyhow::{Context, Result, bail};
+use std::env;
+use std::io::Read;
+
+/// All of standard input.
+fn input(rt: &HostRuntime) -> Result<Vec<u8>> {
+    let mut bytes = Vec::new(rt.alloc());
+    rt.stdin().read_to_end(&mut bytes)?;
+    Ok(bytes)
+}
+
+fn measure(rt: &HostRuntime, kind: &str, count: u32) -> Result<()> {
+    match kind {
+        "links" => links::read(rt, &input(rt)?, count),
+        "pages" => pages::read(rt, &input(rt)?, count),
+        "keys" => keys::merge(rt, count),
+        "states" => states::read_and_write(rt, &input(rt)?, count),
+        _ => bail!("nothing of that name is measured"),
+    }
+}
+
+fn main(rt: HostRuntime) -> Result<()> {
+    let mut words = env::args(&rt)?.skip(1);
+    let Some(kind) = words.next() else {
+        return Ok(());
+    };
+    let count = words.next().context("how often?")?;
+    measure(&rt, &kind, count.parse::<u32>().context("how often?")?)
+}
