@@ -1,18 +1,18 @@
 -- What a script's commands write.
 use Rattle.std.specs.Prelude.{◌≡◌, ℕ, ◌<◌, ◌≤◌, ◌⊎◌, List, [], ◌∷◌, ◌++◌, length, Option, None, Some, MatchOption, Result, Ok, Err, codes}
-use Rattle.std.specs.Option.{option_map, option_and_then}
+use Rattle.std.specs.Option.{option_map}
 use Rattle.std.specs.List.{flat_map}
 use Rattle.std.specs.Fmt.{decimal}
 use Rattle.std.specs.Io.KnownBytes.{Appends}
 use Rattle.memento_time.specs.Text.{IsArchiveName}
-use Rattle.timemap_reader.specs.Original.{original_of}
 use Rattle.timemap_reader.specs.Answer.{IsAnswer}
 use Rattle.timemap_reader.specs.declared.page.Page.{Page}
 use Rattle.harvest_lattice.specs.Sets as set
 use Rattle.harvest_lattice.specs.Knowledge.{Harvested}
 use Rattle.timegate.specs.declared.reply.Reply.{Reply}
 use Rattle.timegate.specs.declared.reply.Header.{Header}
-use Rattle.timegate.specs.declared.reply.Header.TheVariants as header
+use Rattle.timegate.specs.Reply.{header_name}
+use Rattle.timegate.specs.Route.{original_at}
 use Rattle.replica_world.specs.declared.event.Event.{Event}
 use Rattle.replica_world.specs.declared.event.Event.TheVariants as event
 use Rattle.replica_world.specs.declared.event.Said.TheVariants.{Taken, Sent, Joined, Restarted, Replied}
@@ -36,14 +36,6 @@ counted word number = line (word ++ codes " " ++ decimal number)
 
 abbrev pub refused : List ℕ → List ℕ
 refused why = line (codes "refused " ++ why)
-
--- the name of a header field (RFC 9110, section 10; RFC 8288; RFC 7089, section 2.1)
-abbrev pub header_name : Header → List ℕ
-header_name header.Allow = codes "Allow"
-header_name header.Vary = codes "Vary"
-header_name header.Location = codes "Location"
-header_name header.Link = codes "Link"
-header_name header.ContentType = codes "Content-Type"
 
 abbrev pub header_line : Header × List ℕ → List ℕ
 header_line h = line (header_name h.0 ++ codes ": " ++ h.1)
@@ -108,7 +100,7 @@ TakesHarvest base world t original page text next =
 -- the mementos of a page are taken, under the original that its text names
 abbrev pub TakesPage : List ℕ → World → Taking → List ℕ → World → Type 0
 TakesPage base world t text next =
-    MatchOption (option_and_then original_of (utf8_text t.original)) (RefusedAs (codes "bad original") world text next) (λ original.
+    MatchOption (original_at t.original) (RefusedAs (codes "bad original") world text next) (λ original.
     (((page : Page) → ¬ (IsPage t.address t.body page)) × RefusedAs (codes "bad page") world text next)
     ⊎ ((page : Page) × IsPage t.address t.body page × TakesHarvest base world t original page text next))
 

@@ -2,7 +2,7 @@
 use Rattle.std.specs.Prelude.{◌≡◌, ℕ, zero, suc, ◌+◌, ◌-◌, ◌&&◌, List, [], ◌∷◌, ◌++◌, length, take, Option, None, Some, nat_lt, nat_le, ◌==◌, if◌then◌else◌, count_by, codes, bytes_eq}
 use Rattle.std.specs.Option.{option_map, option_and_then}
 use Rattle.std.specs.List.{list_all}
-use Rattle.timegate.specs.declared.reply.Request.{Request}
+use Rattle.timegate.specs.declared.request.Request.{Request}
 use Rattle.timemap_writer.specs.Service.{base_of}
 use Rattle.replica_world.specs.declared.event.Event.{Event}
 use Rattle.replica_world.specs.declared.event.Event.TheVariants.{Send, Deliver, Receive, Restart, Ask}

@@ -1,11 +1,9 @@
 //! What a command does, and what it writes of that.
 ghost use Rattle.std.specs.Prelude.{◌≡◌, ◌∷◌, IfOk, MatchOption};
-ghost use Rattle.std.specs.Option.{option_and_then};
 ghost use Rattle.std.specs.List.Sorted.{IsStrictlySortedBy};
 ghost use Rattle.memento_time.specs.Mementos.{memento_cmp};
-ghost use Rattle.timemap_reader.specs.Original.{original_of};
+ghost use Rattle.timegate.specs.Route.{original_at};
 ghost use Rattle.timemap_reader.specs.declared.page.Page.{Page as PageRead};
-ghost use Rattle.replica_world.specs.Fields.{utf8_text};
 ghost use Rattle.replica_world.specs.Output.{IsPage};
 ghost use Rattle.replica_world.specs.Performing.{IsHappening, IsHarvestTaken, IsPageTaken, IsPerformed};
 ghost use Rattle.replica_world.specs.Spelled.{command_view, taking_view};
@@ -21,8 +19,9 @@ use std::alloc::Global;
 use timemap_reader::{OriginalFault, Page, PageFault, read_original, read_page};
 
 /// The original that bytes name.
+#[tactic(auto, unfolding(crate::specs::Fields::utf8_text))]
 fn original(alloc: Global, text: &[u8]) -> Result<Option<Original>, NoMemory>
-    ensures { IfOk result (λ original. original ≡ option_and_then original_of (utf8_text text.now)) }
+    ensures { IfOk result (λ original. original ≡ original_at text.now) }
 {
     let Some(text) = utf8_text(text) else {
         return Ok(None);

@@ -1,6 +1,6 @@
 //! The texts that commands write.
 ghost use Rattle.std.specs.Prelude.{◌≡◌, ◌≢◌, ◌++◌, ◌∷◌, [], IfOk, OnOk, Err, codes, length, string_bytes};
-ghost use Rattle.replica_world.specs.Output.{line, counted, refused, header_name, header_line, reply_text, taken_line, refusal_line, answer_text, accepted_line};
+ghost use Rattle.replica_world.specs.Output.{line, counted, refused, header_line, reply_text, taken_line, refusal_line, answer_text, accepted_line};
 
 use crate::event::{Event, Refused, Said};
 use memento_time::{NoMemory, Octets};
@@ -35,23 +35,11 @@ fn counted(alloc: Global, word: &str, number: u64) -> Result<Vec<u8>, NoMemory>
     Ok(text.into_bytes())
 }
 
-fn header_name(header: Header) -> &'static [u8]
-    ensures { result.now ≡ header_name header }
-{
-    match header {
-        Header::Allow => b"Allow",
-        Header::Vary => b"Vary",
-        Header::Location => b"Location",
-        Header::Link => b"Link",
-        Header::ContentType => b"Content-Type",
-    }
-}
-
 fn write_header(out: &mut Vec<u8>, header: &(Header, Octets)) -> Result<(), NoMemory>
     ensures { OnOk result (out.new.items ≡ out.old.items ++ header_line header.now) }
 {
     let (name, value) = header;
-    out.extend_from_slice(header_name(*name))?;
+    out.extend_from_slice(name.name().as_bytes())?;
     out.extend_from_slice(b": ")?;
     out.extend_from_slice(value.as_slice())?;
     out.push(b'\n')?;
