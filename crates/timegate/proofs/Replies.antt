@@ -1,5 +1,5 @@
 -- What a reply depends on, and which memento a redirect names.
-use Rattle.std.proofs.Common.{◌≡◌, ℕ, ◌<◌, ◌≤◌, ◌⊎◌, ◌↔◌, ◌==◌, Bool, true, false, length, Result, List, [], ◌∷◌, ◌++◌, Option, Some, None, refl, ap, sym, subst, ◌∙◌, inl, inr, arith}
+use Rattle.std.proofs.Common.{◌≡◌, ℕ, ◌<◌, ◌≤◌, ◌⊎◌, ◌↔◌, ◌==◌, Bool, true, false, length, Result, List, [], ◌∷◌, Option, Some, None, refl, ap, sym, subst, ◌∙◌, inl, inr, arith}
 use Rattle.std.specs.Prelude.{MatchOption, Contains, IfOk, if◌then◌else◌}
 use Rattle.memento_time.specs.declared.faults.NoMemory.{NoMemory}
 use Rattle.std.proofs.lemmas.List.Elements.{Contains-append_right}

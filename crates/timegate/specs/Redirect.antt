@@ -1,5 +1,5 @@
 -- Which memento a redirect names (RFC 7089, section 4.2): one of the latest harvests, than which none of these is nearer.
-use Rattle.std.specs.Prelude.{◌≡◌, ℕ, ◌≤◌, List, Contains, Option, MatchOption}
+use Rattle.std.specs.Prelude.{ℕ, ◌≤◌, List, Contains, Option, MatchOption}
 use Rattle.memento_time.specs.declared.mementos.Memento.{Memento}
 use Rattle.harvest_lattice.specs.Knowledge.{Harvested, IsShown}
 use Rattle.harvest_lattice.specs.Choice.{distance}

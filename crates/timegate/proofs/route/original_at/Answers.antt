@@ -1,9 +1,9 @@
-use Rattle.std.proofs.Common.{◌≡◌, ℕ, List, Bool, true, false, refl, sym, ap, ◌∙◌, Ok, Some, None, inl, inr}
+use Rattle.std.proofs.Common.{◌≡◌, ℕ, List, true, refl, Ok, Some, None, inl, inr}
 use Rattle.std.specs.Prelude.{IsUtf8}
 use Rattle.std.specs.Str.{is_utf8}
 use Rattle.std.proofs.lemmas.Bool.{cases_Bool}
 use Rattle.std.proofs.lemmas.Str.{IsUtf8-from_is_utf8, is_utf8-from_IsUtf8}
-use Rattle.timemap_reader.specs.Original.{original_reading, original_of}
+use Rattle.timemap_reader.specs.Original.{original_reading}
 use Rattle.timegate.specs.Route.{original_at}
 use Rattle.timegate.proofs.route.original_at.Goals as goal
 
