@@ -1,5 +1,6 @@
 -- The nearest and the last memento of a set: there is one, and only one.
-use Rattle.std.proofs.Common.{◌≡◌, ◌≢◌, ℕ, ◌<◌, ◌⊎◌, inl, inr, true, false, cond, ◌||◌, List, [], ◌∷◌, Some, None, refl, sym, ap, ◌∙◌, arith}
+use Rattle.std.proofs.Common.{◌≡◌, ◌≢◌, ℕ, ◌+◌, ◌<◌, ◌⊎◌, inl, inr, true, false, cond, ◌||◌, ◌++◌, List, [], ◌∷◌, length, get_or, take, Option, Some, None, refl, sym, ap, ◌∙◌, arith}
+use Rattle.std.proofs.lemmas.List.{take_more}
 use Rattle.std.specs.declared.cmp.Ordering.{Ordering}
 use Rattle.std.specs.declared.cmp.Ordering.TheVariants.{Less, Equal, Greater}
 use Rattle.std.specs.List.{list_any}
@@ -81,10 +82,10 @@ module _ (cmp : Memento → Memento → Ordering) (o : IsTotalOrder cmp) where
         | Some y ↦ λ least. least_more x y xs least
       ] (least_is xs)
 
-nearness_total : (t : ℕ) → IsTotalOrder (nearness_cmp t)
+pub nearness_total : (t : ℕ) → IsTotalOrder (nearness_cmp t)
 nearness_total t = then_total (on_total (distance t) nat_cmp_total) memento_cmp_total
 
-recency_total : IsTotalOrder recency_cmp
+pub recency_total : IsTotalOrder recency_cmp
 recency_total = then_total (back_total (on_total (λ m. m.at) nat_cmp_total)) (on_total (λ m. m.uri) nat_list_cmp_total)
 
 -- what two comparisons one after the other say, where the result is not `Greater`
@@ -159,3 +160,50 @@ last_once ms m n a b =
             λ i. record { at = sym same.0 i; uri = uris i }
       ]
     ]
+
+-- ---- one memento after another
+
+greater_twice : (cmp : Memento → Memento → Ordering) (o : IsTotalOrder cmp) (a b c : Memento) → is_gt (cmp a b) ≡ true → is_gt (cmp b c) ≡ true → is_gt (cmp a c) ≡ true
+greater_twice cmp o a b c ab bc = ap is_gt (o.antisymm a c ∙ ap ordering_reverse (o.trans c b a (below b c bc) (below a b ab)))
+  where
+    gt : (r : Ordering) → is_gt r ≡ true → r ≡ Greater
+    gt Less h = absurd (true≢false (sym h))
+    gt Equal h = absurd (true≢false (sym h))
+    gt Greater h = refl
+
+    below : (x y : Memento) → is_gt (cmp x y) ≡ true → cmp y x ≡ Less
+    below x y h = o.antisymm y x ∙ ap ordering_reverse (gt (cmp x y) h)
+
+module _ (cmp : Memento → Memento → Ordering) (o : IsTotalOrder cmp) where
+  abbrev pick : Memento → Memento → Memento
+  pick a b = cond (is_gt (cmp a b)) b a
+
+  pick_assoc : (a b c : Memento) → pick a (pick b c) ≡ pick (pick a b) c
+  pick_assoc a b c =
+      elim (is_gt (cmp a b)) as (λ t. is_gt (cmp a b) ≡ t → pick a (pick b c) ≡ pick (cond t b a) c) [
+        | true ↦ λ ab. elim (is_gt (cmp b c)) as (λ t. is_gt (cmp b c) ≡ t → pick a (cond t c b) ≡ cond t c b) [
+          | true ↦ λ bc. ap (λ t. cond t c a) (greater_twice cmp o a b c ab bc)
+          | false ↦ λ _. ap (λ t. cond t b a) ab
+        ] refl
+        | false ↦ λ ab. elim (is_gt (cmp b c)) as (λ t. is_gt (cmp b c) ≡ t → pick a (cond t c b) ≡ pick a c) [
+          | true ↦ λ _. refl
+          | false ↦ λ bc. ap (λ t. cond t b a) ab ∙ sym (ap (λ t. cond t c a) (upto o a b c ab bc))
+        ] refl
+      ] refl
+
+  picked : (a : Memento) (r : Option Memento) (c : Memento) → join_values pick (Some a) (join_values pick r (Some c)) ≡ join_values pick (join_values pick (Some a) r) (Some c)
+  picked a None c = refl
+  picked a (Some b) c = ap Some (pick_assoc a b c)
+
+  -- the least of one more
+  pub least_more_is : (xs : List Memento) (m : Memento) → least_by cmp (xs ++ m ∷ []) ≡ join_values pick (least_by cmp xs) (Some m)
+  least_more_is [] m = refl
+  least_more_is (x ∷ xs) m = ap (join_values pick (Some x)) (least_more_is xs m) ∙ picked x (least_by cmp xs) m
+
+  -- as a loop over a list goes
+  pub least_turn : (xs : List Memento) (i : ℕ) (m : Memento) → i < length xs → m ≡ get_or xs i m → least_by cmp (take (i + 1) xs) ≡ join_values pick (least_by cmp (take i xs)) (Some m)
+  least_turn xs i m lt read = ap (least_by cmp) (take_more xs i m lt ∙ ap (λ y. take i xs ++ y ∷ []) (sym read)) ∙ least_more_is (take i xs) m
+
+  -- one more of the rest, after the first
+  pub rest_turn : (first best : Memento) (xs : List Memento) (i : ℕ) (m : Memento) → i < length xs → m ≡ get_or xs i m → join_values pick (Some first) (least_by cmp (take i xs)) ≡ Some best → join_values pick (Some first) (least_by cmp (take (i + 1) xs)) ≡ Some (cond (is_gt (cmp best m)) m best)
+  rest_turn first best xs i m lt read so_far = ap (join_values pick (Some first)) (least_turn xs i m lt read) ∙ (picked first (least_by cmp (take i xs)) m ∙ ap (λ r. join_values pick r (Some m)) so_far)

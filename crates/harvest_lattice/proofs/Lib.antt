@@ -7,5 +7,10 @@ pub mod Ordered
 pub mod RowLemmas
 pub mod Shown
 pub mod Choice
-pub mod Lists
+pub mod Places
+pub mod ListLemmas
+pub mod StagedLemmas
+pub mod Walked
+pub mod Searched
+pub mod ShelfLemmas
 pub mod Rising

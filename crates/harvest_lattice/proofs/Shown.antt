@@ -1,72 +1,92 @@
--- The mementos of an original, row by row.
-use Rattle.std.proofs.Common.{◌≡◌, ℕ, ◌+◌, ◌<◌, Bool, true, false, ◌&&◌, ◌||◌, ◌++◌, map, length, get_or, take, List, [], ◌∷◌, refl, sym, ap, ◌∙◌}
+-- The mementos of an original, archive by archive.
+use Rattle.std.proofs.Common.{◌≡◌, ℕ, Bool, true, false, cond, ◌&&◌, ◌||◌, ◌++◌, List, [], ◌∷◌, Option, Some, None, refl, sym, ap, subst, ◌∙◌}
+use Rattle.std.specs.Prelude.{T}
 use Rattle.std.specs.List.{list_any}
 use Rattle.std.specs.List.Sorted.{IsStrictlySortedBy}
-use Rattle.std.specs.Ordering.{eq_by_cmp}
+use Rattle.std.specs.Ordering.{eq_by_cmp, is_lt}
+use Rattle.std.specs.BTreeMap as tree
 use Rattle.std.specs.FinMap as fmap
-use Rattle.std.specs.Prelude.{nat_eq}
-use Rattle.std.specs.Cmp.{eq_by_cmp_equiv}
-use Rattle.std.specs.Cmp.Lexicographic.{pointwise, nat_list_cmp_total}
-use Rattle.memento_time.specs.contracts.texts.OriginalOrd.TheImpl.Laws.{matches_eq-law}
-use Rattle.std.proofs.lemmas.List.Folds.{list_any-append, list_any_more}
+use Rattle.std.specs.FinMap.Entries.{below_all}
+use Rattle.std.proofs.lemmas.List.Folds.{list_any-append}
 use Rattle.memento_time.specs.Mementos.{text_cmp, memento_cmp}
 use Rattle.memento_time.proofs.MementoLemmas.{memento_cmp_total, memento_cmp_exact}
 use Rattle.memento_time.specs.declared.mementos.Memento.{Memento}
-use Rattle.harvest_lattice.specs.declared.row.Row.{Row}
 use Rattle.harvest_lattice.specs.Sets as set
 use Rattle.harvest_lattice.specs.Lattice.{Key, Kept, Entries, Mementos}
 use Rattle.harvest_lattice.specs.Knowledge.{shown_of}
-use Rattle.harvest_lattice.specs.Rows.{row_entry, entries_of, RowsRise}
+use Rattle.harvest_lattice.specs.Shelves.{Slots, Shelves, filled, slot_rows, shelf_rows, all_rows, entries_of}
 use Rattle.harvest_lattice.proofs.Sets.{contains-from_list}
 use Rattle.harvest_lattice.proofs.Entries.{same_mementos}
 use Rattle.harvest_lattice.proofs.Knowledge.{contains-shown_of}
 use Rattle.harvest_lattice.proofs.Ordered.{items_in_order}
+use Rattle.std.specs.Map.{keys_of}
 use Rattle.harvest_lattice.proofs.RowLemmas.{entries_made}
+use Rattle.harvest_lattice.proofs.ShelfLemmas.{all_sorted, none_above, same_text}
 
--- a row of the original has the memento
-abbrev pub shows : List ℕ → Memento → Row → Bool
-shows original m row = eq_by_cmp text_cmp original row.original && set.contains row.latest.mementos m
+-- whether what is kept has the memento
+abbrev pub holds : Memento → Option Kept → Bool
+holds m None = false
+holds m (Some kept) = set.contains kept.mementos m
 
--- the list has just the mementos of the original in these rows
-abbrev pub ShowsRows : List ℕ → List Row → List Memento → Type 0
-ShowsRows original rows list = (m : Memento) → list_any (eq_by_cmp memento_cmp m) list ≡ list_any (shows original m) rows
+-- whether an archive has the memento of an original
+abbrev pub shelf_shows : List ℕ → Memento → List ℕ × Slots → Bool
+shelf_shows original m s = holds m (filled (fmap.get s.1 original))
 
-pub shows_none : (original : List ℕ) (rows : List Row) → ShowsRows original (take 0 rows) []
-shows_none original rows m = refl
+abbrev row_shows : List ℕ → Memento → Key × Kept → Bool
+row_shows original m e = eq_by_cmp text_cmp original e.0.1 && set.contains e.1.mementos m
 
-or_false : (a b : Bool) → b ≡ false → a ≡ (a || b)
-or_false true b e = refl
-or_false false b e = sym e
+or_false : (a : Bool) → (a || false) ≡ a
+or_false true = refl
+or_false false = refl
 
-pub shows_more : (original : List ℕ) (rows : List Row) (i : ℕ) (row : Row) (list more : List Memento) → i < length rows → row ≡ get_or rows i row → eq_by_cmp text_cmp original row.original ≡ true → more ≡ set.items row.latest.mementos → ShowsRows original (take i rows) list → ShowsRows original (take (i + 1) rows) (list ++ more)
-shows_more original rows i row list more lt read same is so_far m =
-    let this : list_any (eq_by_cmp memento_cmp m) more ≡ shows original m (get_or rows i row) =
-    ap (list_any (eq_by_cmp memento_cmp m)) is
-    ∙ (sym (fmap.contains_key-keys row.latest.mementos m)
-    ∙ (ap (λ b. b && set.contains row.latest.mementos m) (sym same) ∙ ap (shows original m) read)) in
-    list_any-append (eq_by_cmp memento_cmp m) list more
-    ∙ ((λ i. so_far m i || this i) ∙ sym (list_any_more (shows original m) rows i row lt))
+shelf_any : (o a : List ℕ) (m : Memento) (es : List (List ℕ × Option Kept)) → T (fmap.is_sorted text_cmp es) → list_any (row_shows o m) (shelf_rows a es) ≡ holds m (filled (fmap.find text_cmp o es))
+shelf_any o a m [] h = refl
+shelf_any o a m (e ∷ es) h =
+    let p = parts (below_all text_cmp e.0 es) (fmap.is_sorted text_cmp es) h in
+    let rest = shelf_any o a m es p.1 in
+    let none : eq_by_cmp text_cmp o e.0 ≡ true → fmap.find text_cmp o es ≡ None = λ t. none_above o es (subst (λ q. T (below_all text_cmp q es)) (sym (same_text o e.0 t)) p.0) in
+    elim (e.1) as (λ v. list_any (row_shows o m) (slot_rows a e.0 v ++ shelf_rows a es) ≡ holds m (filled (cond (eq_by_cmp text_cmp o e.0) (Some v) (fmap.find text_cmp o es)))) [
+      | None ↦ rest ∙ elim (eq_by_cmp text_cmp o e.0) as (λ b. eq_by_cmp text_cmp o e.0 ≡ b → holds m (filled (fmap.find text_cmp o es)) ≡ holds m (filled (cond b (Some None) (fmap.find text_cmp o es)))) [
+        | true ↦ λ t. ap (λ v. holds m (filled v)) (none t)
+        | false ↦ λ _. refl
+      ] refl
+      | Some v ↦ elim (eq_by_cmp text_cmp o e.0) as (λ b. eq_by_cmp text_cmp o e.0 ≡ b → ((b && set.contains v.mementos m) || list_any (row_shows o m) (shelf_rows a es)) ≡ holds m (filled (cond b (Some (Some v)) (fmap.find text_cmp o es)))) [
+        | true ↦ λ t. ap (λ b. set.contains v.mementos m || b) (rest ∙ ap (λ v. holds m (filled v)) (none t)) ∙ or_false (set.contains v.mementos m)
+        | false ↦ λ _. rest
+      ] refl
+    ]
+  where
+    parts : (a b : Bool) → T (a && b) → T a × T b
+    parts true b h = (tt, h)
+    parts false b h = absurd h
 
-pub shows_other : (original : List ℕ) (rows : List Row) (i : ℕ) (row : Row) (list : List Memento) → i < length rows → row ≡ get_or rows i row → eq_by_cmp text_cmp original row.original ≡ false → ShowsRows original (take i rows) list → ShowsRows original (take (i + 1) rows) list
-shows_other original rows i row list lt read other so_far m =
-    let this : shows original m (get_or rows i row) ≡ false = ap (shows original m) (sym read) ∙ ap (λ b. b && set.contains row.latest.mementos m) other in
-    so_far m ∙ (or_false _ _ this ∙ sym (list_any_more (shows original m) rows i row lt))
+all_any : (o : List ℕ) (m : Memento) (ss : List (List ℕ × Slots)) → list_any (row_shows o m) (all_rows ss) ≡ list_any (shelf_shows o m) ss
+all_any o m [] = refl
+all_any o m (s ∷ ss) =
+    list_any-append (row_shows o m) (shelf_rows s.0 (fmap.entries s.1)) (all_rows ss)
+    ∙ (λ i. (shelf_any o s.0 m (fmap.entries s.1) (fmap.entries_sorted s.1) ∙ ap (λ v. holds m (filled v)) (sym (fmap.get-entries s.1 o))) i || all_any o m ss i)
 
-any_map : {A B : Type 0} (p : B → Bool) (f : A → B) (xs : List A) → list_any p (map f xs) ≡ list_any (λ x. p (f x)) xs
-any_map p f [] = refl
-any_map p f (x ∷ xs) = ap (λ b. p (f x) || b) (any_map p f xs)
+-- what is shown is what some archive has
+pub shown_any : (ss : List (List ℕ × Slots)) → IsStrictlySortedBy text_cmp (keys_of ss) → (o : List ℕ) (m : Memento) → set.contains (shown_of (fmap.from_entries (all_rows ss)) o) m ≡ list_any (shelf_shows o m) ss
+shown_any ss h o m = contains-shown_of (fmap.from_entries (all_rows ss)) o m ∙ (ap (list_any (row_shows o m)) (entries_made (all_rows ss) (all_sorted ss h)) ∙ all_any o m ss)
 
--- such a list in order is that of the state
-pub shown_in_order : (original : List ℕ) (rows : List Row) (list sorted : List Memento) (now : Entries) → RowsRise rows → entries_of rows ≡ now → ShowsRows original rows list → IsStrictlySortedBy memento_cmp sorted → set.from_list {R = memento_cmp} sorted ≡ set.from_list list → sorted ≡ set.items (shown_of now original)
-shown_in_order original rows list sorted now rise view shows_rows in_order same =
-    let whole : set.from_list {R = memento_cmp} list ≡ shown_of (entries_of rows) original = same_mementos _ _ (λ m.
-    contains-from_list memento_cmp_total memento_cmp_exact list m
-    ∙ (shows_rows m
-    ∙ (sym (any_map (λ e. eq_by_cmp text_cmp original e.0.1 && set.contains e.1.mementos m) row_entry rows)
-    ∙ (ap (list_any (λ (e : Key × Kept). eq_by_cmp text_cmp original e.0.1 && set.contains e.1.mementos m)) (sym (entries_made (map row_entry rows) rise))
-    ∙ sym (contains-shown_of (entries_of rows) original m))))) in
-    sym (items_in_order sorted in_order) ∙ ap (λ (s : Mementos). set.items s) (same ∙ (whole ∙ ap (λ (x : Entries). shown_of x original) view))
+-- a list with just the mementos of a set, in order, is that of the set
+pub in_order_is : (list sorted : List Memento) (s : Mementos) → ((m : Memento) → list_any (eq_by_cmp memento_cmp m) list ≡ set.contains s m) → IsStrictlySortedBy memento_cmp sorted → set.from_list {R = memento_cmp} sorted ≡ set.from_list list → sorted ≡ set.items s
+in_order_is list sorted s has in_order same =
+    sym (items_in_order sorted in_order) ∙ ap (λ (t : Mementos). set.items t) (same ∙ same_mementos _ _ (λ m. contains-from_list memento_cmp_total memento_cmp_exact list m ∙ has m))
 
--- `==` of texts, as the order has it
-pub same_text : (o p : List ℕ) (b : Bool) → pointwise nat_eq p o ≡ b → eq_by_cmp text_cmp o p ≡ b
-same_text o p b e = (eq_by_cmp_equiv nat_list_cmp_total).symm o p ∙ (sym (matches_eq-law p o) ∙ e)
+or_assoc : (a b c : Bool) → ((a || b) || c) ≡ (a || (b || c))
+or_assoc true b c = refl
+or_assoc false b c = refl
+
+-- an archive's mementos, after those of the archives before
+pub shown_turn : (shows : List ℕ × Slots → Bool) (list more : List Memento) (rest new : List (List ℕ × Slots)) (e : List ℕ × Slots) (kept : Kept) (m : Memento) → rest ≡ e ∷ new → shows e ≡ set.contains kept.mementos m → more ≡ set.items kept.mementos → (list_any (eq_by_cmp memento_cmp m) (list ++ more) || list_any shows new) ≡ (list_any (eq_by_cmp memento_cmp m) list || list_any shows rest)
+shown_turn shows list more rest new e kept m is held items =
+    let this : list_any (eq_by_cmp memento_cmp m) more ≡ shows e = ap (list_any (eq_by_cmp memento_cmp m)) items ∙ (sym (fmap.contains_key-keys kept.mementos m) ∙ sym held) in
+    (λ i. list_any-append (eq_by_cmp memento_cmp m) list more i || list_any shows new)
+    ∙ (or_assoc (list_any (eq_by_cmp memento_cmp m) list) (list_any (eq_by_cmp memento_cmp m) more) (list_any shows new)
+    ∙ ((λ i. list_any (eq_by_cmp memento_cmp m) list || (this i || list_any shows new)) ∙ ap (λ r. list_any (eq_by_cmp memento_cmp m) list || list_any shows r) (sym is)))
+
+-- when no archive is left
+pub shown_whole : (shows : List ℕ × Slots → Bool) (list : List Memento) (rest all : List (List ℕ × Slots)) (m : Memento) → rest ≡ [] → (list_any (eq_by_cmp memento_cmp m) list || list_any shows rest) ≡ list_any shows all → list_any (eq_by_cmp memento_cmp m) list ≡ list_any shows all
+shown_whole shows list rest all m none so_far = sym (or_false (list_any (eq_by_cmp memento_cmp m) list)) ∙ (ap (λ r. list_any (eq_by_cmp memento_cmp m) list || list_any shows r) (sym none) ∙ so_far)

@@ -6,3 +6,4 @@ pub mod Rows
 pub mod Choice
 pub mod Lists
 pub mod Merges
+pub mod Shelves

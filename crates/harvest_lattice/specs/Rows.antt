@@ -1,5 +1,5 @@
--- The rows of a state as the entries of a map, and places among them.
-use Rattle.std.specs.Prelude.{◌≡◌, ℕ, ◌<◌, ◌≤◌, Bool, cond, T, List, map, length, slice_index_or, Option, Some, None}
+-- Rows as the entries of a state.
+use Rattle.std.specs.Prelude.{◌≡◌, ℕ, ◌<◌, ◌≤◌, Bool, cond, T, List, [], ◌∷◌, map, length, slice_index_or, Option, Some, None}
 use Rattle.std.specs.declared.cmp.Ordering.TheVariants.{Less}
 use Rattle.std.specs.Option.{option_map}
 use Rattle.std.specs.Borrow.{Bor}
@@ -16,23 +16,14 @@ row_key row = (row.archive, row.original)
 abbrev pub row_entry : Row → Key × Kept
 row_entry row = (row_key row, row.latest)
 
-abbrev pub entries_of : List Row → Entries
-entries_of rows = fmap.from_entries (map row_entry rows)
-
--- the keys rise
+-- the rows' keys rise
 abbrev pub RowsRise : List Row → Type 0
 RowsRise rows = T (fmap.is_sorted key_cmp (map row_entry rows))
 
--- the row at a place has the key
-pub record IsPlaceOf (rows : List Row) (key : Key) (at : ℕ) : Type 0 where
-  pub in_range : at < length rows
-  pub here : (row : Row) → row_key (slice_index_or rows at row) ≡ key
-
--- the key goes at a place: lesser keys before it, and greater keys from it on
-pub record IsGapFor (rows : List Row) (key : Key) (at : ℕ) : Type 0 where
-  pub in_range : at ≤ length rows
-  pub before : (k : ℕ) (row : Row) → k < at → key_cmp (row_key (slice_index_or rows k row)) key ≡ Less
-  pub after : (k : ℕ) (row : Row) → at ≤ k → k < length rows → key_cmp key (row_key (slice_index_or rows k row)) ≡ Less
+-- a state with these entries put over its own
+abbrev pub put_all : List (Key × Kept) → Entries → Entries
+put_all [] x = x
+put_all (e ∷ es) x = fmap.insert (put_all es x) e.0 e.1
 
 -- mementos that stand in their order, none twice
 abbrev pub mementos_rise : List Memento → Bool
@@ -56,3 +47,19 @@ lent_entry e = ((e.0.0, e.0.1.now), e.1)
 -- the map of these entries, where they stand in order
 abbrev pub map_with : List (Key × Kept) → Option Entries
 map_with es = cond (keys_rise es) (Some (fmap.from_entries es)) None
+
+-- the row at a place has the key
+pub record IsPlaceOf (rows : List Row) (key : Key) (at : ℕ) : Type 0 where
+  pub in_range : at < length rows
+  pub here : (row : Row) → row_key (slice_index_or rows at row) ≡ key
+
+-- the key goes at a place: lesser keys before it, and greater keys from it on
+pub record IsGapFor (rows : List Row) (key : Key) (at : ℕ) : Type 0 where
+  pub in_range : at ≤ length rows
+  pub before : (k : ℕ) (row : Row) → k < at → key_cmp (row_key (slice_index_or rows k row)) key ≡ Less
+  pub after : (k : ℕ) (row : Row) → at ≤ k → k < length rows → key_cmp key (row_key (slice_index_or rows k row)) ≡ Less
+
+-- what is put at a key, or else what was there
+abbrev pub or_else : Option Kept → Option Kept → Option Kept
+or_else None was = was
+or_else (Some put) was = Some put

@@ -72,7 +72,7 @@ impl Harvest {
     {
         let original = original.try_clone()?;
         let latest = Latest::of(revision, mementos)?;
-        if latest.mementos().len() > Harvest::MAX_MEMENTOS {
+        if latest.len() > Harvest::MAX_MEMENTOS {
             return Err(HarvestFault::TooMany);
         }
         Ok(Harvest {

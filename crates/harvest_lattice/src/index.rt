@@ -4,13 +4,15 @@ ghost use Rattle.harvest_lattice.specs.Sets as set;
 ghost use Rattle.harvest_lattice.specs.Lattice.{join};
 ghost use Rattle.harvest_lattice.specs.Knowledge.{Harvested, lat, shown, shown_of};
 ghost use Rattle.harvest_lattice.specs.Choice.{nearest, last};
-ghost use Rattle.harvest_lattice.specs.Lists.{list_of, AllListed};
+ghost use Rattle.harvest_lattice.specs.Lists.{AllListed};
 
 use crate::harvest::Harvest;
+use crate::lists::{Lists, make_lists, put_lists};
 use crate::nearest::{last_of, nearest_of};
 use crate::state::State;
 use memento_time::{Memento, Moment, NoMemory, Original};
 use std::alloc::Global;
+use std::collections::BTreeMap;
 use std::marker::Model;
 
 /// What an index takes in.
@@ -37,19 +39,12 @@ impl Merge {
     }
 }
 
-/// The list of an original.
-#[derive(Debug, Drop)]
-pub struct Listed {
-    pub original: Original,
-    pub mementos: Vec<Memento>,
-}
-
 /// A state, and for each of its originals the mementos that it shows.
 #[derive(Debug, Drop)]
 pub struct Index {
     alloc: Global,
     state: State,
-    lists: Vec<Listed>,
+    lists: Lists,
 }
 
 impl Model for Index {
@@ -64,7 +59,7 @@ impl Model for Index {
 
     ghost view = { λ i. i.state };
 
-    ghost invariant = { λ i. AllListed i.state i.lists.items };
+    ghost invariant = { λ i. AllListed i.state i.lists };
 }
 
 impl Index {
@@ -77,7 +72,7 @@ impl Index {
         Index {
             alloc,
             state: State::new(alloc),
-            lists: Vec::new(alloc),
+            lists: BTreeMap::new(alloc),
         }
     }
 
@@ -87,17 +82,13 @@ impl Index {
         ensures stands { (hs : List Harvested) → self.old ≡ lat hs → OnOk result (self.new ≡ lat (hs ++ adds_of merge.now)) }
         ensures err { OnErr result (self.new ≡ self.old) }
     {
-        let mut state = self.state.try_clone()?;
-        match merge {
-            Merge::Harvest(harvest) => state.merge(harvest)?,
-            Merge::State(other) => state.join(other)?,
-        }
-        let lists = lists_of(self.alloc, &state)?;
-        *self = Index {
-            alloc: self.alloc,
-            state,
-            lists,
+        let rows = match merge {
+            Merge::Harvest(harvest) => self.state.merged_rows(harvest)?,
+            Merge::State(other) => self.state.joined_rows(other)?,
         };
+        make_lists(&mut self.lists, self.alloc, &rows)?;
+        let renewed = self.state.put_listed(rows)?;
+        put_lists(&mut self.lists, renewed);
         Ok(())
     }
 
@@ -106,7 +97,16 @@ impl Index {
         ensures list { result.now ≡ set.items (shown_of self.now original.now) }
         ensures stands { (hs : List Harvested) → self.now ≡ lat hs → result.now ≡ set.items (shown hs original.now) }
     {
-        find(&self.lists, original)
+        self.listed(original)
+    }
+
+    fn listed(&self, original: &Original) -> &[Memento]
+        ensures { result.now ≡ set.items (shown_of self.now original.now) }
+    {
+        match self.lists.get(original) {
+            Some(list) => list.as_slice(),
+            None => &[],
+        }
     }
 
     /// The memento at the least distance in seconds; of two as far the earlier, and at one
@@ -132,30 +132,4 @@ impl Index {
     {
         &self.state
     }
-}
-
-// The list of an original, or none.
-fn find<'a>(lists: &'a [Listed], original: &Original) -> &'a [Memento]
-    ensures { result.now ≡ list_of lists.now original.now }
-{
-    for listed in lists {
-        if listed.original == *original {
-            return &listed.mementos;
-        }
-    }
-    &[]
-}
-
-// The lists of a state's originals.
-fn lists_of(alloc: Global, state: &State) -> Result<Vec<Listed>, NoMemory>
-    ensures { IfOk result (λ lists. AllListed state.now lists.items) }
-{
-    let mut lists = Vec::new(alloc);
-    for k in 0..state.len() {
-        let (_, original) = state.key(k);
-        let mementos = state.shown(original)?;
-        let original = original.try_clone()?;
-        lists.push(Listed { original, mementos })?;
-    }
-    Ok(lists)
 }

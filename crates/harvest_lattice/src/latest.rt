@@ -1,4 +1,4 @@
-ghost use Rattle.std.specs.Prelude.{◌≡◌, ◌↔◌, IsTrue, IfOk};
+ghost use Rattle.std.specs.Prelude.{◌≡◌, ◌↔◌, IsTrue, IfOk, length};
 ghost use Rattle.harvest_lattice.specs.Sets as set;
 ghost use Rattle.harvest_lattice.specs.Lattice.{join_kept, KeptAtMost};
 ghost use Rattle.harvest_lattice.specs.Rows.{kept_with};
@@ -52,6 +52,12 @@ impl Latest {
         ensures { result.now ≡ set.items self.now.mementos }
     {
         &self.mementos
+    }
+
+    pub fn len(&self) -> usize
+        ensures { result ≡ length (set.items self.now.mementos) }
+    {
+        self.mementos().len()
     }
 
     // Takes mementos in any order, each as often as it comes.

@@ -5,11 +5,16 @@ mod harvest;
 mod index;
 mod latest;
 mod laws;
+mod lists;
 mod mementos;
 mod nearest;
 mod place;
 mod row;
+mod shelf;
+mod shelves;
+mod staged;
 mod state;
+mod walk;
 
 pub use harvest::{Harvest, HarvestFault};
 pub use index::{Index, Merge};
@@ -18,5 +23,6 @@ pub use laws::{
     one_list_of_a_set, state_of_a_set, state_of_a_state, state_of_a_union, state_shows_the_same,
     states_are_ordered, the_latest_are_shown,
 };
-pub use row::{Entry, Row, Rows};
+pub use row::{Entry, Row};
 pub use state::State;
+pub use walk::Rows;

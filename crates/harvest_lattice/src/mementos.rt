@@ -1,9 +1,9 @@
 // Lists of mementos in order, each once.
-ghost use Rattle.std.specs.Prelude.{◌≡◌, ◌++◌, ◌↔◌, IsTrue, IfOk, OnOk};
+ghost use Rattle.std.specs.Prelude.{◌≡◌, ◌++◌, IfOk, OnOk};
+ghost use Rattle.std.specs.List.{list_all};
 ghost use Rattle.std.specs.List.Sorted.{IsStrictlySortedBy};
 ghost use Rattle.harvest_lattice.specs.Sets as set;
 ghost use Rattle.memento_time.specs.Mementos.{memento_cmp};
-ghost use Rattle.harvest_lattice.specs.Lattice.{IsSubset};
 ghost use Rattle.harvest_lattice.specs.Rows.{mementos_rise};
 
 use memento_time::{Memento, NoMemory};
@@ -62,7 +62,7 @@ pub fn mementos_rise(list: &[Memento]) -> bool
 // Whether the other list, in order, has each of these mementos.
 pub fn is_subset(list: &[Memento], other: &[Memento]) -> bool
     requires { IsStrictlySortedBy memento_cmp other.now }
-    ensures { IsTrue result ↔ IsSubset (set.from_list list.now) (set.from_list other.now) }
+    ensures { result ≡ list_all (λ m. set.contains (set.from_list {R = memento_cmp} other.now) m) list.now }
 {
     list.iter().all(|memento| has(other, memento))
 }

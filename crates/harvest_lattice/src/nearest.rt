@@ -30,26 +30,26 @@ fn by_recency(left: &Memento, right: &Memento) -> Ordering
 pub fn nearest_of(list: &[Memento], moment: Moment) -> Option<&Memento>
     ensures { option_copied result ≡ least_by (nearness_cmp moment) list.now }
 {
-    let mut nearest = None;
-    for memento in list.iter().rev() {
-        nearest = match nearest {
-            Some(other) if by_nearness(moment, memento, other).is_gt() => nearest,
-            _ => Some(memento),
-        };
+    let (first, rest) = list.split_first()?;
+    let mut nearest = first;
+    for memento in rest {
+        if by_nearness(moment, nearest, memento).is_gt() {
+            nearest = memento;
+        }
     }
-    nearest
+    Some(nearest)
 }
 
 // The one of the greatest datetime, there that with the least URI.
 pub fn last_of(list: &[Memento]) -> Option<&Memento>
     ensures { option_copied result ≡ least_by recency_cmp list.now }
 {
-    let mut last = None;
-    for memento in list.iter().rev() {
-        last = match last {
-            Some(other) if by_recency(memento, other).is_gt() => last,
-            _ => Some(memento),
-        };
+    let (first, rest) = list.split_first()?;
+    let mut last = first;
+    for memento in rest {
+        if by_recency(last, memento).is_gt() {
+            last = memento;
+        }
     }
-    last
+    Some(last)
 }

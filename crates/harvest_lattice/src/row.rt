@@ -1,13 +1,12 @@
-ghost use Rattle.std.specs.Prelude.{◌≡◌, ◌↔◌, IsTrue, IfOk, length, map as map_list};
+ghost use Rattle.std.specs.Prelude.{◌≡◌, IfOk, map as map_list};
 ghost use Rattle.std.specs.Option.{option_map};
-ghost use Rattle.std.specs.Iterator.{at_most};
-ghost use Rattle.std.specs.Map.Iter.{TakesFirst};
 ghost use Rattle.harvest_lattice.specs.Sets as set;
-ghost use Rattle.harvest_lattice.specs.Lattice.{KeptAtMost};
-ghost use Rattle.harvest_lattice.specs.Rows.{row_entry, entry_with, lent_entry};
+ghost use Rattle.harvest_lattice.specs.Lattice.{key_cmp};
+ghost use Rattle.harvest_lattice.specs.Rows.{keys_rise, row_entry, row_key, entry_with};
 
 use crate::latest::Latest;
 use memento_time::{ArchiveName, Memento, NoMemory, Original};
+use std::cmp::Ordering;
 use std::marker::Model;
 
 /// What `State::of_rows` takes of one archive and original.
@@ -85,51 +84,28 @@ impl<'a> Entry<'a> {
         self.latest.mementos()
     }
 
-    // Of a lesser revision, or of the same with a subset of the mementos.
-    pub fn is_at_least(&self, latest: &Latest) -> bool
-        ensures { IsTrue result ↔ KeptAtMost latest.now self.now }
+    pub fn latest(&self) -> &'a Latest
+        ensures { result.now ≡ self.now }
     {
-        latest.le(self.latest)
+        self.latest
     }
 }
 
-/// The rows of a state by archive, then original. A contract sees the entries that are left.
-#[derive(Drop)]
-pub struct Rows<'a> {
-    rest: &'a [Row],
+fn by_key(left: &Row, right: &Row) -> Ordering
+    ensures { result ≡ key_cmp (row_key left.now) (row_key right.now) }
+{
+    let archives = left.archive.cmp(&right.archive);
+    archives.then(left.original.cmp(&right.original))
 }
 
-impl<'a> Model for Rows<'a> {
-    ghost use Rattle.std.specs.Prelude.{List, map};
-    ghost use Rattle.std.specs.Coded.{coded_list, coded×};
-    ghost use Rattle.harvest_lattice.specs.Lattice.{Key, Kept, coded_key, coded_kept};
-    ghost use Rattle.harvest_lattice.specs.Rows.{row_entry};
-
-    ghost Value = { List (Key × Kept) };
-
-    ghost coded = { coded_list (coded× coded_key coded_kept) };
-
-    ghost view = { λ rows. map row_entry rows.rest.now };
-}
-
-impl<'a> Rows<'a> {
-    pub fn of(rows: &'a [Row]) -> Rows<'a>
-        ensures { result ≡ map_list row_entry rows.now }
-    {
-        Rows { rest: rows }
+// Whether each row's key is below the next one's.
+pub fn rows_rise(rows: &[Row]) -> bool
+    ensures { result ≡ keys_rise (map_list row_entry rows.now) }
+{
+    for k in 1..rows.len() {
+        if !by_key(&rows[k - 1], &rows[k]).is_lt() {
+            return false;
+        }
     }
-}
-
-impl<'a> Iterator for Rows<'a> {
-    type Item = ((ArchiveName, &'a Original), Entry<'a>);
-
-    ghost next_gives = { TakesFirst lent_entry };
-
-    ghost remaining = { λ rows. at_most (length rows) };
-
-    fn next(&mut self) -> Option<((ArchiveName, &'a Original), Entry<'a>)> {
-        let (row, rest) = self.rest.split_first()?;
-        self.rest = rest;
-        Some(((row.archive, &row.original), Entry::new(&row.latest)))
-    }
+    true
 }

@@ -1,39 +1,49 @@
-ghost use Rattle.std.specs.Prelude.{◌≡◌, ◌<◌, ◌∷◌, [], ◌↔◌, IsTrue, OnOk, OnErr, IfOk, Some, slice_get, map as map_list};
+ghost use Rattle.std.specs.Prelude.{◌≡◌, ◌<◌, ◌∷◌, [], ◌↔◌, IsTrue, IsSome, OnOk, OnErr, IfOk, Some, slice_get, map as map_list};
 ghost use Rattle.std.specs.FinMap as map;
 ghost use Rattle.harvest_lattice.specs.Sets as set;
+ghost use Rattle.std.specs.BTreeMap as tree;
+ghost use Rattle.std.specs.List.{All};
+ghost use Rattle.memento_time.specs.Mementos.{text_cmp};
+ghost use Rattle.harvest_lattice.specs.Lists.{AreLists};
 ghost use Rattle.harvest_lattice.specs.Lattice.{AtMost, IsAtMostAt, join, joined_kept, joined_with};
 ghost use Rattle.harvest_lattice.specs.Knowledge.{lat, shown_of};
-ghost use Rattle.harvest_lattice.specs.Rows.{row_entry, map_with};
+ghost use Rattle.harvest_lattice.specs.Rows.{row_entry, map_with, put_all, RowsRise};
 
 use crate::harvest::Harvest;
 use crate::latest::Latest;
-use crate::mementos::{append_copies, in_order};
-use crate::place::{place, put, rows_rise};
-use crate::row::{Entry, Row, Rows};
+use crate::lists::Lists;
+use crate::row::{Entry, Row, rows_rise};
+use crate::shelves::{Shelves, fill_all, held, make_rooms};
+use crate::staged::{lists_with, shown_with};
+use crate::walk::Rows;
 use memento_time::{ArchiveName, Memento, NoMemory, Original};
 use std::alloc::Global;
+use std::collections::BTreeMap;
 use std::marker::Model;
 
 /// For each archive and original the latest revision, with its mementos.
 #[derive(Debug, Drop)]
 pub struct State {
     alloc: Global,
-    rows: Vec<Row>,
+    shelves: Shelves,
+    len: usize,
 }
 
 impl Model for State {
+    ghost use Rattle.std.specs.Prelude.{◌≡◌};
+    ghost use Rattle.std.specs.BTreeMap.{IsOrdered};
     ghost use Rattle.std.specs.FinMap as map;
+    ghost use Rattle.memento_time.specs.Mementos.{text_cmp};
     ghost use Rattle.harvest_lattice.specs.Lattice.{Entries, coded_key, coded_kept};
+    ghost use Rattle.harvest_lattice.specs.Shelves.{entries_of};
 
     ghost Value = { Entries };
 
     ghost coded = { map.code coded_key coded_kept };
 
-    ghost use Rattle.harvest_lattice.specs.Rows.{entries_of, RowsRise};
+    ghost view = { λ s. entries_of s.shelves };
 
-    ghost view = { λ s. entries_of s.rows.items };
-
-    ghost invariant = { λ s. RowsRise s.rows.items };
+    ghost invariant = { λ s. IsOrdered text_cmp s.shelves × (s.len ≡ map.len (entries_of s.shelves)) };
 }
 
 impl State {
@@ -42,7 +52,8 @@ impl State {
     {
         State {
             alloc,
-            rows: Vec::new(alloc),
+            shelves: BTreeMap::new(alloc),
+            len: 0,
         }
     }
 
@@ -53,79 +64,100 @@ impl State {
         if !rows_rise(&rows) {
             return Ok(None);
         }
-        Ok(Some(State { alloc, rows }))
+        let mut state = State::new(alloc);
+        state.put_rows(rows)?;
+        Ok(Some(state))
     }
 
-    /// Takes a harvest: of its archive and original only the greater revision stays, and
+    /// Takes a harvest: of its archive and original only the greatest revision stays, and
     /// harvests of one revision are united.
+    ///
+    /// Takes time in the size of the harvest and of the entry that it changes, and logarithmic
+    /// in the number of keys.
     pub fn merge(&mut self, harvest: &Harvest) -> Result<(), NoMemory>
         ensures ok { OnOk result (self.new ≡ join self.old (lat (harvest.now ∷ []))) }
         ensures err { OnErr result (self.new ≡ self.old) }
     {
-        let latest = harvest.latest();
-        match place(&self.rows, harvest.archive(), harvest.original()) {
-            Ok(at) => {
-                let row = &mut self.rows[at];
-                row.latest = row.latest.joined(self.alloc, latest)?;
-            }
-            Err(at) => {
-                let original = harvest.original().try_clone()?;
-                let latest = latest.try_clone()?;
-                let row = Row {
-                    archive: harvest.archive(),
-                    original,
-                    latest,
-                };
-                self.rows.insert(at, row)?;
-            }
-        }
-        Ok(())
+        let rows = self.merged_rows(harvest)?;
+        self.put_rows(rows)
     }
 
-    /// Takes all that another state has.
+    // The row of a harvest as it stands in the join.
+    pub fn merged_rows(&self, harvest: &Harvest) -> Result<Vec<Row>, NoMemory>
+        ensures put { IfOk result (λ rows. put_all (map_list row_entry rows.items) self.now ≡ join self.now (lat (harvest.now ∷ []))) }
+        ensures rise { IfOk result (λ rows. RowsRise rows.items) }
+    {
+        let row = self.joined_row(harvest.archive(), harvest.original(), harvest.latest())?;
+        let mut rows = Vec::with_capacity(self.alloc, 1)?;
+        rows.push(row)?;
+        Ok(rows)
+    }
+
+    /// Takes all that another state has. What stands here alone isn't touched.
     pub fn join(&mut self, other: &State) -> Result<(), NoMemory>
         ensures ok { OnOk result (self.new ≡ join self.old other.now) }
         ensures err { OnErr result (self.new ≡ self.old) }
     {
-        let mut staged = self.joined_rows(other)?;
-        self.rows.reserve(staged.len())?;
-        while let Some(row) = staged.pop() {
-            put(&mut self.rows, row);
-        }
-        Ok(())
+        let rows = self.joined_rows(other)?;
+        self.put_rows(rows)
     }
 
     // The rows of another state as they stand in the join.
-    fn joined_rows(&self, other: &State) -> Result<Vec<Row>, NoMemory>
-        ensures { IfOk result (λ staged. map_list row_entry staged.items ≡ map_list (joined_with self.now) (map.entries other.now)) }
+    pub fn joined_rows(&self, other: &State) -> Result<Vec<Row>, NoMemory>
+        ensures { IfOk result (λ rows. map_list row_entry rows.items ≡ map_list (joined_with self.now) (map.entries other.now)) }
     {
-        let mut staged = Vec::with_capacity(self.alloc, other.rows.len())?;
-        for row in &other.rows {
-            let latest = self.joined_latest(row)?;
-            let original = row.original.try_clone()?;
-            staged.push(Row {
-                archive: row.archive,
-                original,
-                latest,
-            })?;
+        let mut rows = Vec::with_capacity(self.alloc, other.len)?;
+        for row in other.rows() {
+            let ((archive, original), entry) = row;
+            rows.push(self.joined_row(archive, original, entry.latest())?)?;
         }
-        Ok(staged)
+        Ok(rows)
     }
 
-    // What stands in the join with a row.
-    fn joined_latest(&self, row: &Row) -> Result<Latest, NoMemory>
-        ensures { IfOk result (λ l. l ≡ joined_kept self.now (row_entry row.now)) }
+    // What stands in the join with an entry.
+    fn joined_row(
+        &self,
+        archive: ArchiveName,
+        original: &Original,
+        latest: &Latest,
+    ) -> Result<Row, NoMemory>
+        ensures { IfOk result (λ row. row_entry row ≡ joined_with self.now ((archive, original.now), latest.now)) }
     {
-        match place(&self.rows, row.archive, &row.original) {
-            Ok(at) => {
-                let joined = self.rows[at].latest.joined(self.alloc, &row.latest)?;
-                Ok(joined)
-            }
-            Err(_) => {
-                let copy = row.latest.try_clone()?;
-                Ok(copy)
-            }
+        let latest = self.joined_latest(archive, original, latest)?;
+        let original = original.try_clone()?;
+        Ok(Row {
+            archive,
+            original,
+            latest,
+        })
+    }
+
+    fn joined_latest(
+        &self,
+        archive: ArchiveName,
+        original: &Original,
+        latest: &Latest,
+    ) -> Result<Latest, NoMemory>
+        ensures { IfOk result (λ l. l ≡ joined_kept self.now ((archive, original.now), latest.now)) }
+    {
+        match held(&self.shelves, archive, original) {
+            Some(mine) => mine.joined(self.alloc, latest),
+            None => latest.try_clone(),
         }
+    }
+
+    // Puts the rows over what stands at their keys. The room is made before the first change.
+    fn put_rows(&mut self, rows: Vec<Row>) -> Result<(), NoMemory>
+        ensures ok { OnOk result (self.new ≡ put_all (map_list row_entry rows.items) self.old) }
+        ensures err { OnErr result (self.new ≡ self.old) }
+    {
+        make_rooms(&mut self.shelves, self.alloc, &rows)?;
+        // No memory has room for more keys than a usize counts.
+        if self.len.checked_add(rows.len()).is_none() {
+            return Err(NoMemory);
+        }
+        self.len += fill_all(&mut self.shelves, rows);
+        Ok(())
     }
 
     /// Whether each entry here is at most the other's of its archive and original: of a lesser
@@ -133,29 +165,39 @@ impl State {
     pub fn le(&self, other: &State) -> bool
         ensures { IsTrue result ↔ AtMost self.now other.now }
     {
-        self.rows.iter().all(|row| is_at_most(row, other))
+        for row in self.rows() {
+            let ((archive, original), entry) = row;
+            if !other.has_at_least(archive, original, entry.latest()) {
+                return false;
+            }
+        }
+        true
+    }
+
+    fn has_at_least(&self, archive: ArchiveName, original: &Original, latest: &Latest) -> bool
+        ensures { IsTrue result ↔ IsAtMostAt self.now ((archive, original.now), latest.now) }
+    {
+        match self.entry(archive, original) {
+            Some(entry) => latest.le(entry.latest()),
+            None => false,
+        }
     }
 
     pub fn try_clone(&self) -> Result<State, NoMemory>
         ensures { IfOk result (λ copy. copy ≡ self.now) }
     {
-        let mut rows = Vec::with_capacity(self.alloc, self.rows.len())?;
-        for row in &self.rows {
-            rows.push(row.try_clone()?)?;
-        }
-        Ok(State {
-            alloc: self.alloc,
-            rows,
-        })
+        let mut copy = State::new(self.alloc);
+        copy.join(self)?;
+        Ok(copy)
     }
 
     /// Takes time logarithmic in the number of keys.
     pub fn entry(&self, archive: ArchiveName, original: &Original) -> Option<Entry<'_>>
         ensures { result ≡ map.get self.now (archive, original.now) }
     {
-        match place(&self.rows, archive, original) {
-            Ok(at) => Some(Entry::new(&self.rows[at].latest)),
-            Err(_) => None,
+        match held(&self.shelves, archive, original) {
+            Some(latest) => Some(Entry::new(latest)),
+            None => None,
         }
     }
 
@@ -163,7 +205,7 @@ impl State {
     pub fn len(&self) -> usize
         ensures { result ≡ map.len self.now }
     {
-        self.rows.len()
+        self.len
     }
 
     pub fn is_empty(&self) -> bool
@@ -172,42 +214,47 @@ impl State {
         self.len() == 0
     }
 
-    /// The keys by archive, then original. To walk over all of them, use `rows`.
+    /// The keys by archive, then original. Walks to the key: to see all of them, use `rows`.
     pub fn key(&self, k: usize) -> (ArchiveName, &Original)
         requires { k < map.len self.now }
         ensures { slice_get (map.keys self.now) k ≡ Some (result.0, result.1.now) }
     {
-        let row = &self.rows[k];
-        (row.archive, &row.original)
+        let (key, _) = self.rows().nth(k).unwrap();
+        key
     }
 
     /// The entries by archive, then original.
     pub fn rows(&self) -> Rows<'_>
         ensures { result ≡ map.entries self.now }
     {
-        Rows::of(&self.rows)
+        Rows::of(&self.shelves)
     }
 
     /// The mementos of an original in every archive, each once, by datetime, then by URI.
+    ///
+    /// Takes time in their number, and for each archive logarithmic in its number of originals.
     pub fn shown(&self, original: &Original) -> Result<Vec<Memento>, NoMemory>
         ensures { IfOk result (λ list. list.items ≡ set.items (shown_of self.now original.now)) }
     {
-        let mut all = Vec::new(self.alloc);
-        for row in &self.rows {
-            if row.original == *original {
-                append_copies(&mut all, row.latest.mementos())?;
-            }
-        }
-        let list = in_order(all)?;
+        let list = shown_with(&self.shelves, self.alloc, &[], original)?;
         Ok(list)
     }
-}
 
-fn is_at_most(row: &Row, other: &State) -> bool
-    ensures { IsTrue result ↔ IsAtMostAt other.now (row_entry row.now) }
-{
-    match other.entry(row.archive, &row.original) {
-        Some(entry) => entry.is_at_least(&row.latest),
-        None => false,
+    // Puts the rows, and gives the lists of their originals as they are then.
+    pub fn put_listed(&mut self, rows: Vec<Row>) -> Result<Lists, NoMemory>
+        requires { RowsRise rows.items }
+        ensures ok { OnOk result (self.new ≡ put_all (map_list row_entry rows.items) self.old) }
+        ensures lists { IfOk result (λ lists. AreLists (put_all (map_list row_entry rows.items) self.old) lists) }
+        ensures whole { IfOk result (λ lists. All (λ row. IsSome (tree.get text_cmp lists row.original)) rows.items) }
+        ensures err { OnErr result (self.new ≡ self.old) }
+    {
+        make_rooms(&mut self.shelves, self.alloc, &rows)?;
+        let lists = lists_with(&self.shelves, self.alloc, &rows)?;
+        // No memory has room for more keys than a usize counts.
+        if self.len.checked_add(rows.len()).is_none() {
+            return Err(NoMemory);
+        }
+        self.len += fill_all(&mut self.shelves, rows);
+        Ok(lists)
     }
 }

@@ -8,5 +8,6 @@ use Rattle.harvest_lattice.proofs.mementos.united.Goals as goal
 
 pub returns-clause-members : goal.returns-clause-members
 returns-clause-members c =
-    let whole : c.both-3-1.items ≡ c.args.left.now ++ c.args.right.now = ? in
+    let whole : c.append_copies-2.new.list.items ≡ c.args.left.now ++ c.args.right.now =
+    c.in_ok-append_copies-2.ensures ∙ ap (λ (xs : List Memento). xs ++ c.args.right.now) (c.in_ok-append_copies.ensures ∙ ap (λ (xs : List Memento). xs ++ c.args.left.now) c.in_ok-both.ensures.items) in
     subst (λ (s : Mementos). IfOk c.in_order.result (λ list. set.from_list {R = memento_cmp} list.items ≡ s)) (ap (λ (xs : List Memento). set.from_list {R = memento_cmp} xs) whole ∙ set-append c.args.left.now c.args.right.now) c.in_order.ensures.members

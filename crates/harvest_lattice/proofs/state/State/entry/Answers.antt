@@ -1,22 +1,18 @@
-use Rattle.std.proofs.Common.{Some, List, sym, ap, subst, ◌∙◌}
-use Rattle.std.specs.FinMap as map
-use Rattle.harvest_lattice.specs.declared.row.Row.{Row}
-use Rattle.harvest_lattice.specs.Lattice.{Key, Entries}
-use Rattle.harvest_lattice.specs.Rows.{IsPlaceOf, IsGapFor}
-use Rattle.harvest_lattice.proofs.RowLemmas.{find_place, find_gap, get-entries_of}
+use Rattle.std.proofs.Common.{◌≡◌, Option, Some, None, sym, ap, ◌∙◌}
+use Rattle.std.specs.Option.{option_copied}
+use Rattle.std.specs.FinMap as fmap
+use Rattle.harvest_lattice.specs.Lattice.{Key, Kept, Entries}
+use Rattle.harvest_lattice.proofs.ShelfLemmas.{get-entries_of}
 use Rattle.harvest_lattice.proofs.state.State.entry.Goals as goal
 
-pub returns-in-Ok : goal.returns-in-Ok
-returns-in-Ok c =
-    let q : Key = (c.args.archive.now, c.args.original.now) in
-    let rows = c.self.inside.rows.items in
-    let row : Row = c.index.result.now in
-    let p : IsPlaceOf rows q c.in-Ok.at = subst (λ (rs : List Row). IsPlaceOf rs q c.in-Ok.at) c.deref.ensures.value c.in-Ok.ensures.found in
-    sym (ap (λ (m : Entries). map.get m q) (sym c.self.view_is) ∙ (get-entries_of rows q ∙ (find_place rows q c.in-Ok.at row c.self.invariant p ∙ ap (λ (r : Row). Some r.latest) (sym c.index.ensures))))
+pub returns-in-Some : goal.returns-in-Some
+returns-in-Some c =
+    let k : Key = (c.args.archive, c.args.original.now) in
+    let there : fmap.get c.args.self.now k ≡ Some c.in-Some.latest.now = ap (λ (x : Entries). fmap.get x k) (sym c.self.view_is) ∙ (get-entries_of c.self.inside.shelves c.self.invariant.0 k ∙ (sym c.held.ensures ∙ ap option_copied c.in-Some.is)) in
+    ap (λ (kept : Kept). Some kept) c.new.ensures ∙ sym there
 
-pub returns-in-Err : goal.returns-in-Err
-returns-in-Err c =
-    let q : Key = (c.args.archive.now, c.args.original.now) in
-    let rows = c.self.inside.rows.items in
-    let g : IsGapFor rows q c.in-Err.field-0 = subst (λ (rs : List Row). IsGapFor rs q c.in-Err.field-0) c.deref.ensures.value c.in-Err.ensures.absent in
-    sym (ap (λ (m : Entries). map.get m q) (sym c.self.view_is) ∙ (get-entries_of rows q ∙ find_gap rows q c.in-Err.field-0 g))
+pub returns-in-None : goal.returns-in-None
+returns-in-None c =
+    let k : Key = (c.args.archive, c.args.original.now) in
+    let none : fmap.get c.args.self.now k ≡ None = ap (λ (x : Entries). fmap.get x k) (sym c.self.view_is) ∙ (get-entries_of c.self.inside.shelves c.self.invariant.0 k ∙ (sym c.held.ensures ∙ ap option_copied c.in-None.is)) in
+    sym none

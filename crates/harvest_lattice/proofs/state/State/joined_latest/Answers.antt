@@ -1,29 +1,19 @@
-use Rattle.std.proofs.Common.{◌≡◌, Option, Some, None, sym, ap, ◌∙◌}
-use Rattle.std.specs.Option.{unwrap_or}
-use Rattle.std.specs.FinMap as map
-use Rattle.harvest_lattice.specs.declared.row.Row.{Row}
-use Rattle.harvest_lattice.specs.Maps.{join_values}
-use Rattle.harvest_lattice.specs.Lattice.{Kept, Entries, join_kept}
-use Rattle.harvest_lattice.specs.Rows.{row_key}
-use Rattle.harvest_lattice.proofs.RowLemmas.{find_place, find_gap, get-entries_of, place_at, gap_at}
+use Rattle.std.proofs.Common.{◌≡◌, IfOk, Option, Some, None, sym, ap, subst, ◌∙◌}
+use Rattle.std.specs.Option.{option_copied}
+use Rattle.std.specs.FinMap as fmap
+use Rattle.harvest_lattice.specs.Lattice.{Key, Kept, Entries}
+use Rattle.harvest_lattice.proofs.ShelfLemmas.{get-entries_of}
+use Rattle.harvest_lattice.proofs.RowLemmas.{joined_there, joined_alone}
 use Rattle.harvest_lattice.proofs.state.State.joined_latest.Goals as goal
-use Rattle.std.proofs.Common.{refl}
 
-pub returns-in_ok-joined-in-Ok : goal.returns-in_ok-joined-in-Ok
-returns-in_ok-joined-in-Ok c =
-    let q = row_key c.args.row.now in
-    let rows = c.self.inside.rows.items in
-    let row : Row = c.index.result.now in
-    let mine = c.args.row.now.latest in
-    let there : map.get c.args.self.now q ≡ Some row.latest =
-    ap (λ (m : Entries). map.get m q) (sym c.self.view_is) ∙ (get-entries_of rows q ∙ (find_place rows q c.in-Ok.at row c.self.invariant (place_at c.deref.ensures.value refl c.in-Ok.ensures.found) ∙ ap (λ (r : Row). Some r.latest) (sym c.index.ensures))) in
-    c.in_ok-joined-in-Ok.ensures ∙ sym (ap (λ (o : Option Kept). unwrap_or (join_values join_kept o (Some mine)) mine) there)
+pub returns-in-Some : goal.returns-in-Some
+returns-in-Some c =
+    let k : Key = (c.args.archive, c.args.original.now) in
+    let there : fmap.get c.args.self.now k ≡ Some c.in-Some.mine.now = ap (λ (x : Entries). fmap.get x k) (sym c.self.view_is) ∙ (get-entries_of c.self.inside.shelves c.self.invariant.0 k ∙ (sym c.held.ensures ∙ ap option_copied c.in-Some.is)) in
+    subst (λ (kept : Kept). IfOk c.joined.result (λ l. l ≡ kept)) (sym (joined_there c.args.self.now (k, c.args.latest.now) c.in-Some.mine.now there)) c.joined.ensures
 
-pub returns-in_ok-copy-in-Err : goal.returns-in_ok-copy-in-Err
-returns-in_ok-copy-in-Err c =
-    let q = row_key c.args.row.now in
-    let rows = c.self.inside.rows.items in
-    let mine = c.args.row.now.latest in
-    let there : map.get c.args.self.now q ≡ None =
-    ap (λ (m : Entries). map.get m q) (sym c.self.view_is) ∙ (get-entries_of rows q ∙ find_gap rows q c.in-Err.field-0 (gap_at c.deref.ensures.value refl c.in-Err.ensures.absent)) in
-    c.in_ok-copy-in-Err.ensures ∙ sym (ap (λ (o : Option Kept). unwrap_or (join_values join_kept o (Some mine)) mine) there)
+pub returns-in-None : goal.returns-in-None
+returns-in-None c =
+    let k : Key = (c.args.archive, c.args.original.now) in
+    let none : fmap.get c.args.self.now k ≡ None = ap (λ (x : Entries). fmap.get x k) (sym c.self.view_is) ∙ (get-entries_of c.self.inside.shelves c.self.invariant.0 k ∙ (sym c.held.ensures ∙ ap option_copied c.in-None.is)) in
+    subst (λ (kept : Kept). IfOk c.try_clone.result (λ l. l ≡ kept)) (sym (joined_alone c.args.self.now (k, c.args.latest.now) none)) c.try_clone.ensures

@@ -1,0 +1,19 @@
+use Rattle.std.proofs.Common.{◌≡◌, Option, None, Some, sym, ap, ◌∙◌}
+use Rattle.std.specs.Option.{option_copied}
+use Rattle.std.specs.FinMap as map
+use Rattle.harvest_lattice.specs.Lattice.{Kept}
+use Rattle.harvest_lattice.specs.Shelves.{Slots, filled}
+use Rattle.harvest_lattice.proofs.ShelfLemmas.{get-slots}
+use Rattle.harvest_lattice.proofs.shelf.Shelf.held.Goals as goal
+
+pub returns-in_err-get : goal.returns-in_err-get
+returns-in_err-get c =
+    let o = c.args.original.now in
+    let read : option_copied c.get.result ≡ map.get c.args.self.now o = c.get.ensures.value ∙ (sym (get-slots c.self.inside.slots.entries o) ∙ ap (λ (s : Slots). map.get s o) c.self.view_is) in
+    ap option_copied c.from_residual.ensures ∙ ap filled (ap option_copied (sym c.in_err-get.was) ∙ read)
+
+pub returns : goal.returns
+returns c =
+    let o = c.args.original.now in
+    let read : option_copied c.get.result ≡ map.get c.args.self.now o = c.get.ensures.value ∙ (sym (get-slots c.self.inside.slots.entries o) ∙ ap (λ (s : Slots). map.get s o) c.self.view_is) in
+    c.as_ref.ensures.value ∙ ap filled (ap option_copied (sym c.in_ok-get.was) ∙ read)
