@@ -23,6 +23,7 @@ header_name Location = codes "Location"
 header_name Link = codes "Link"
 header_name ContentType = codes "Content-Type"
 
+-- header fields, in order
 abbrev pub Headers : Type 0
 Headers = List (Header × List ℕ)
 
@@ -30,14 +31,15 @@ Headers = List (Header × List ℕ)
 abbrev pub answered : Request → ℕ → Headers → List ℕ → Reply
 answered q status headers body = record { status = status; headers = headers; body = if is_head q then [] else body }
 
--- whatever a TimeGate says depends on the datetime that is asked for
+-- whatever a TimeGate says depends on the datetime that is asked for (RFC 7089, section 2.1.2)
 abbrev pub vary : Request → Headers
 vary q = if is_timegate q then (Vary, codes "accept-datetime") ∷ [] else []
 
--- a short text
+-- a short text, behind these headers
 abbrev pub told : Request → ℕ → Headers → List ℕ → Reply
 told q status headers text = answered q status (headers ++ vary q ++ (ContentType, codes "text/plain") ∷ []) text
 
+-- the methods that are allowed
 abbrev pub bad_method : Request → Reply
 bad_method q = told q 405 ((Allow, codes "GET, HEAD") ∷ []) (codes "bad method\n")
 
@@ -46,11 +48,13 @@ abbrev pub chosen : Mementos → Option ℕ → Option Memento
 chosen mementos None = last mementos
 chosen mementos (Some second) = nearest mementos second
 
+-- to the chosen memento, with links to the original and its TimeMap (RFC 7089, section 4.2)
 abbrev pub redirect : List ℕ → Request → List ℕ → Mementos → Option Memento → Reply
 redirect base q original mementos None = told q 404 [] (codes "no memento\n")
 redirect base q original mementos (Some m) =
     answered q 302 (vary q ++ (Location, m.uri) ∷ (Link, gate_links base original (set.items mementos)) ∷ []) []
 
+-- the TimeMap, where any memento is shown (RFC 7089, section 5)
 abbrev pub timemap : List ℕ → Request → List ℕ → List Memento → Reply
 timemap base q original mementos =
     if length mementos == 0 then told q 404 [] (codes "no memento\n")

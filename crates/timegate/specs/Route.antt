@@ -8,9 +8,11 @@ use Rattle.timegate.specs.declared.request.Request.{Request}
 use Rattle.timegate.specs.declared.route.Route.{Route}
 use Rattle.timegate.specs.declared.route.Route.TheVariants.{BadMethod, State, NoRoute, BadOriginal, BadDatetime, TimeGate, TimeMap}
 
+-- GET, with regard to case
 abbrev pub is_get : Request → Bool
 is_get q = bytes_eq q.method (codes "GET")
 
+-- HEAD, with regard to case
 abbrev pub is_head : Request → Bool
 is_head q = bytes_eq q.method (codes "HEAD")
 
@@ -26,13 +28,15 @@ timegates = codes "/timegate/"
 abbrev pub timemaps : List ℕ
 timemaps = codes "/timemap/link/"
 
+-- the target is a TimeGate's
 abbrev pub is_timegate : Request → Bool
 is_timegate q = starts_with nat_eq q.target timegates
 
+-- the target is a TimeMap's
 abbrev pub is_timemap : Request → Bool
 is_timemap q = starts_with nat_eq q.target timemaps
 
--- the original that bytes name
+-- the original that bytes name: they are text, and it is one
 abbrev pub original_at : List ℕ → Option (List ℕ)
 original_at bytes = if is_utf8 bytes then original_of bytes else None
 
@@ -41,7 +45,7 @@ abbrev pub datetime_route : List ℕ → Option ℕ → Route
 datetime_route original None = BadDatetime
 datetime_route original (Some second) = TimeGate original (Some second)
 
--- by the values of Accept-Datetime
+-- by the values of Accept-Datetime (RFC 7089, sections 2.1.1 and 4.5.3)
 abbrev pub timegate_route : List (List ℕ) → List ℕ → Route
 timegate_route [] original = TimeGate original None
 timegate_route (value ∷ []) original = datetime_route original (asked_of value)
@@ -52,6 +56,7 @@ abbrev pub original_route : (List ℕ → Route) → Option (List ℕ) → Route
 original_route route None = BadOriginal
 original_route route (Some original) = route original
 
+-- the first of these that fits
 unfoldable pub route_of : Request → Route
 route_of q =
     if not (is_get q) && not (is_head q) then BadMethod

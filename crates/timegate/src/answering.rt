@@ -94,6 +94,7 @@ fn redirect(
     Ok(answered(request, 302, headers, Vec::new(alloc)))
 }
 
+// The TimeMap, if any memento is shown.
 fn timemap(
     alloc: Global,
     service: &Service,
@@ -119,6 +120,7 @@ fn timemap(
     Ok(answered(request, 200, headers, text))
 }
 
+// The state bytes, which peers fetch.
 fn state(alloc: Global, index: &Index, request: &Request) -> Result<Reply, NoMemory>
     ensures { IfOk result (λ answer. answer
         ≡ answered request.now 200 ((Header.ContentType, codes "text/plain") ∷ []) (state_text index.now)) }

@@ -7,6 +7,6 @@ pub struct Request {
     pub method: Octets,
     /// The path and the query.
     pub target: Octets,
-    /// The values of `Accept-Datetime`.
+    /// The values of the header fields `Accept-Datetime` (RFC 7089, section 2.1.1).
     pub asked: Items<Octets>,
 }

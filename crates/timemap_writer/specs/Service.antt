@@ -14,6 +14,7 @@ is_clean_byte b = nat_le 0x21 b && nat_le b 0x7E && not (b == 0x22) && not (b ==
 abbrev pub is_base : List ℕ → Bool
 is_base text = nat_lt 0 (length text) && nat_le (length text) 256 && list_all is_clean_byte text
 
+-- a text that is kept as a base
 abbrev pub IsBase : List ℕ → Type 0
 IsBase text = IsTrue (is_base text)
 

@@ -5,7 +5,7 @@ use Rattle.memento_time.specs.declared.mementos.Memento.{Memento}
 use Rattle.memento_time.specs.Second.{IsSecond, imf}
 use Rattle.memento_time.specs.Text.{IsClean}
 
--- A memento of a moment that a clock shows, at a clean address.
+-- A memento at a second from 1970 to 9999, with a clean address.
 pub record IsMemento (m : Memento) : Type 0 where
   pub at : IsSecond m.at
   pub uri : IsClean m.uri
@@ -24,6 +24,7 @@ pub record Statement : Type 0 where
 abbrev pub attribute_text : Attribute → List ℕ
 attribute_text a = codes "; " ++ a.name ++ codes "=\"" ++ a.value ++ codes "\""
 
+-- the parameters one after the other
 abbrev pub attributes_text : List Attribute → List ℕ
 attributes_text [] = []
 attributes_text (a ∷ rest) = attribute_text a ++ attributes_text rest
@@ -39,6 +40,7 @@ link_of s = record {
   params = map (λ a. record { name = a.name; value = Some a.value }) s.attributes;
 }
 
+-- the relation types of a link, parted by spaces
 abbrev pub rel : List ℕ → Attribute
 rel types = record { name = codes "rel"; value = types }
 
@@ -53,22 +55,26 @@ period mementos =
     datetime_of (codes "from") (slice_get mementos 0)
     ++ datetime_of (codes "until") (slice_get mementos (length mementos - 1))
 
+-- where the TimeGate of an original stands
 abbrev pub timegate_address : List ℕ → List ℕ → List ℕ
 timegate_address base original = base ++ codes "/timegate/" ++ original
 
+-- where the TimeMap of an original stands
 abbrev pub timemap_address : List ℕ → List ℕ → List ℕ
 timemap_address base original = base ++ codes "/timemap/link/" ++ original
 
+-- the link to the original resource (RFC 7089, section 2.2.1)
 abbrev pub original_statement : List ℕ → Statement
 original_statement original = record { target = original; attributes = rel (codes "original") ∷ [] }
 
+-- the link to its TimeGate (section 2.2.2)
 abbrev pub timegate_statement : List ℕ → List ℕ → Statement
 timegate_statement base original = record {
   target = timegate_address base original;
   attributes = rel (codes "timegate") ∷ [];
 }
 
--- the link to the TimeMap, with the period that it covers; its relation is `self` in the TimeMap, and `timemap` elsewhere
+-- the link to its TimeMap, with the period that this covers (section 2.2.3); the relation is `self` in the TimeMap, and `timemap` elsewhere
 abbrev pub timemap_statement : List ℕ → List ℕ → List ℕ → List Memento → Statement
 timemap_statement relation base original mementos = record {
   target = timemap_address base original;
@@ -85,6 +91,7 @@ memento_relations true false = codes "first memento"
 memento_relations false true = codes "last memento"
 memento_relations false false = codes "memento"
 
+-- the link to a memento, with its datetime (section 2.2.4)
 abbrev pub memento_statement : Bool → Bool → Memento → Statement
 memento_statement first last m = record {
   target = m.uri;
@@ -130,9 +137,10 @@ timemap_text base original mementos =
 unfoldable pub gate_links : List ℕ → List ℕ → List Memento → List ℕ
 gate_links base original mementos = joined (codes ", ") (gate_statements base original mementos)
 
--- the links that a reader of either finds
+-- the links that a reader of the TimeMap finds
 abbrev pub timemap_links : List ℕ → List ℕ → List Memento → List Link
 timemap_links base original mementos = map link_of (timemap_statements base original mementos)
 
+-- the links that a reader of the Link header finds
 abbrev pub redirect_links : List ℕ → List ℕ → List Memento → List Link
 redirect_links base original mementos = map link_of (gate_statements base original mementos)
