@@ -1,5 +1,5 @@
 use super::*;
-use harvest_lattice::{Row, State};
+use harvest_lattice::{Harvest, State};
 use memento_time::{ArchiveName, Clean, Memento, Moment, Original};
 use std::test::*;
 
@@ -19,9 +19,9 @@ fn first_state_both_ways(rt: HostRuntime) -> Result<(), Fail> {
     })?;
     let archive = ArchiveName::new(b"arc.example").ok_or("a name")?;
     let original = Original::new(rt.alloc(), b"http://a.example/")?;
-    let mut rows = Vec::new(rt.alloc());
-    rows.push(Row::new(archive, original, 7, mementos).ok_or("a row")?)?;
-    let state = State::of_rows(rt.alloc(), rows)?.ok_or("a state")?;
+    let harvest = Harvest::new(archive, &original, 7, mementos)?;
+    let mut state = State::new(rt.alloc());
+    state.merge(&harvest)?;
     let text = write_state(rt.alloc(), &state)?;
     assert_eq!(rt; text.as_slice(), FIRST.as_slice());
     let read = read_state(rt.alloc(), &FIRST)?;
