@@ -14,6 +14,8 @@ mod shelf;
 mod shelves;
 mod staged;
 mod state;
+#[cfg(test)]
+mod tests;
 mod walk;
 
 pub use harvest::{Harvest, HarvestFault};
