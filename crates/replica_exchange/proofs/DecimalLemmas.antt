@@ -13,6 +13,7 @@ use Rattle.std.proofs.lemmas.Fmt.{decimal-digits_value, digits_decimal, digits_v
 own : IsNumeralModel (AllDigits 10) (digits_value 10)
 own = numerals_by_value (AllDigits 10) tells_digits
 
+-- a decimal has digits alone
 pub decimal_digits : (n : ℕ) → n < 2 ^ 64 → AllDigits 10 (decimal n)
 decimal_digits n small = digits_decimal own n small
 
@@ -22,12 +23,14 @@ pub record ReadsTo (digits : List ℕ) (i number : ℕ) : Type 0 where
   pub value : number ≡ digits_value 10 (take i digits)
   pub small : number < 2 ^ 64
 
+-- one more digit counts ones, and those before it ten times as much
 value_at : (digits : List ℕ) (i : ℕ) → i < length digits → IsInRange 48 57 (get_or digits i 0) → digits_value 10 (take (i + 1) digits) ≡ digits_value 10 (take i digits) * 10 + (get_or digits i 0 - 48)
 value_at digits i lt range =
     let value = digit_value_digit (get_or digits i 0) range in
     let same : digit_value (get_or digits i 0) ≡ get_or digits i 0 - 48 = omega arith in
     digits_value_more 10 digits i lt ∙ ap (λ (d : ℕ). digits_value 10 (take i digits) * 10 + d) same
 
+-- one more digit is read
 pub reads_more : (digits : List ℕ) (i number next : ℕ) → i < length digits → ReadsTo digits i number → IsInRange 48 57 (get_or digits i 0) → number * 10 + (get_or digits i 0 - 48) ≡ next → next < 2 ^ 64 → ReadsTo digits (i + 1) next
 reads_more digits i number next lt so_far range step below =
     let value = digit_value_digit (get_or digits i 0) range in
@@ -47,25 +50,30 @@ reads_no_more digits i number lt so_far refused whole =
     let at : number ≡ digits_value 10 (take i digits) = so_far.value in
     refused (range, omega (arith, value, part, at, whole.1))
 
+-- only the decimal of zero begins with a zero
 front : (n : ℕ) → n < 2 ^ 64 → get_or (decimal n) 0 0 ≡ 48 → length (decimal n) ≡ 1
 front zero small first = ap length (decimal_digit 0 (omega arith))
 front (suc n) small first = let above = first_decimal (suc n) (omega arith) small in absurd (omega arith)
 
+-- digits without a zero in front are the decimal of their value
 pub decimal_found : (digits : List ℕ) (r : Option ℕ) → 0 < length digits → (get_or digits 0 0 ≡ 48 → length digits ≡ 1)
     → SomeIff r (AllDigits 10 digits × (digits_value 10 digits < 2 ^ 64)) (digits_value 10 digits) → IfSome r (λ n. (n < 2 ^ 64) × (digits ≡ decimal n))
 decimal_found digits None some one read = tt
 decimal_found digits (Some n) some one read =
     (subst (λ v. v < 2 ^ 64) (sym read.1) read.0.1, sym (ap decimal read.1 ∙ decimal-digits_value own digits read.0.0 some one read.0.1))
 
+-- what isn't read as digits is no decimal
 pub decimal_none : (digits : List ℕ) (r : Option ℕ) → SomeIff r (AllDigits 10 digits × (digits_value 10 digits < 2 ^ 64)) (digits_value 10 digits) → IfNone r ((n : ℕ) → n < 2 ^ 64 → ¬ (digits ≡ decimal n))
 decimal_none digits (Some n) read = tt
 decimal_none digits None read = λ n small is.
     read (subst (AllDigits 10) (sym is) (decimal_digits n small), subst (λ v. v < 2 ^ 64) (sym (ap (digits_value 10) is ∙ digits_value-decimal own n small)) small)
 
+-- what begins otherwise is no decimal
 pub no_decimal : (digits : List ℕ) → ¬ ((0 < length digits) × (get_or digits 0 0 ≡ 48 → length digits ≡ 1)) → (n : ℕ) → n < 2 ^ 64 → ¬ (digits ≡ decimal n)
 no_decimal digits refused n small is =
     refused (subst (λ ds. 0 < length ds) (sym is) (decimal_nonempty n small), subst (λ ds. get_or ds 0 0 ≡ 48 → length ds ≡ 1) (sym is) (front n small))
 
+-- at the end all digits are read
 pub reads_all : (digits : List ℕ) (i number : ℕ) → length digits ≤ i → ReadsTo digits i number → (AllDigits 10 digits × (digits_value 10 digits < 2 ^ 64)) × (number ≡ digits_value 10 digits)
 reads_all digits i number le so_far =
     let whole = take_all i digits le in

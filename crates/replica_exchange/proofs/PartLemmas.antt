@@ -37,6 +37,7 @@ memento_parts text rest m begins = record {
   whole = begins.whole ∙ ap (λ (u : List ℕ). u ++ rest) (parted (decimal m.at) 32 (m.uri ++ 10 ∷ []));
 }
 
+-- a text that begins with a memento begins with its second
 pub memento_leaves_second : (text : List ℕ) → Leaves (number 32) memento text text
 memento_leaves_second text m rest begins = (m.at, (m.uri ++ 10 ∷ []) ++ rest, seq_first (number 32) (field IsClean 10) text rest m.at m.uri (memento_parts text rest m begins))
 
@@ -44,9 +45,11 @@ second_is : (text mid rest : List ℕ) (second : ℕ) (m : Memento) → Begins (
 second_is text mid rest second m first begins =
     seq_then (number 32) (field IsClean 10) (number_once 32 (omega arith)) text mid rest m.at second m.uri first (memento_parts text rest m begins)
 
+-- and what follows the second begins with its URI
 pub memento_leaves_uri : (text mid : List ℕ) (second : ℕ) → Begins (number 32) text second mid → Leaves (field IsClean 10) memento text mid
 memento_leaves_uri text mid second first m rest begins = (m.uri, rest, (second_is text mid rest second m first begins).1)
 
+-- no memento has a second after the year 9999
 pub memento_too_late : (text mid : List ℕ) (second : ℕ) → Begins (number 32) text second mid → ¬ IsSecond second → (m : Memento) (rest : List ℕ) → ¬ Begins memento text m rest
 memento_too_late text mid second first late m rest begins = late (subst IsSecond (second_is text mid rest second m first begins).0 begins.is.at)
 
@@ -91,6 +94,7 @@ line_parts h =
 head_whole : (text rest : List ℕ) (h : Head) → Begins head text h rest → text ≡ codes "entry " ++ (archive_on.spelled (fields_of h) ++ rest)
 head_whole text rest h begins = begins.whole ∙ (ap (λ (u : List ℕ). u ++ rest) (line_parts h) ∙ append_assoc (codes "entry ") (archive_on.spelled (fields_of h)) rest)
 
+-- an entry's line begins with its word
 pub head_has_front : (text : List ℕ) → ((rest : List ℕ) → ¬ (text ≡ codes "entry " ++ rest)) → (h : Head) (rest : List ℕ) → ¬ Begins head text h rest
 head_has_front text none h rest begins = none (archive_on.spelled (fields_of h) ++ rest) (head_whole text rest h begins)
 
@@ -101,6 +105,7 @@ module _ (text left : List ℕ) (front : text ≡ codes "entry " ++ left) where
     whole = append_cancel_left (codes "entry ") left (archive_on.spelled (fields_of h) ++ rest) (sym front ∙ head_whole text rest h begins);
   }
 
+  -- and goes on with the name of an archive
   pub head_without_archive : ((name rest : List ℕ) → ¬ Begins (field IsArchiveName 32) left name rest) → (h : Head) (rest : List ℕ) → ¬ Begins head text h rest
   head_without_archive none h rest begins =
       none h.0.0 (revision_on.spelled (fields_of h).1 ++ rest) (seq_first (field IsArchiveName 32) revision_on left rest h.0.0 (fields_of h).1 (from_archive h rest begins))
@@ -159,6 +164,7 @@ entry_head text rest e begins = record {
   whole = begins.whole ∙ append_assoc (entry_line e.0 e.1.revision (length (set.items e.1.mementos))) (flat_map memento_line (set.items e.1.mementos)) rest;
 }
 
+-- an entry begins with its line
 pub entry_leaves_head : (text : List ℕ) → Leaves head entry text text
 entry_leaves_head text e rest begins = (head_of e, flat_map memento_line (set.items e.1.mementos) ++ rest, entry_head text rest e begins)
 
@@ -167,6 +173,7 @@ record IsMade (key : Key) (revision : ℕ) (mementos : List Memento) (e : Key ×
   revision_is : e.1.revision ≡ revision
   mementos_are : set.items e.1.mementos ≡ mementos
 
+-- what stands in order is kept as it stands
 made_by : (rises : Bool) (key : Key) (revision : ℕ) (mementos : List Memento) (e : Key × Kept) → mementos_rise mementos ≡ rises
     → option_map (λ (kept : Kept). (key, kept)) (cond rises (Some (record { revision = revision; mementos = set.from_list mementos })) None) ≡ Some e → IsMade key revision mementos e
 made_by true key revision mementos e rises is =
@@ -180,6 +187,7 @@ pub is_true : (b : Bool) → T b → b ≡ true
 is_true true h = refl
 is_true false h = absurd h
 
+-- the mementos of an entry stand in order
 items_rise : (e : Key × Kept) → mementos_rise (set.items e.1.mementos) ≡ true
 items_rise e = is_true (mementos_rise (set.items e.1.mementos)) (sorted_marked (set.items e.1.mementos) (items_sorted memento_cmp e.1.mementos))
 
@@ -193,10 +201,12 @@ module _ (text left : List ℕ) (h : Head) (begun : Begins head text h left) whe
       let same = head_once text (head_of e) h (flat_map memento_line (set.items e.1.mementos) ++ rest) left (entry_head text rest e begins) begun in
       record { is = ((λ i. (same.0 i).1.1), begins.is.mementos); whole = sym same.1 }
 
+  -- and goes on with as many mementos as the line says
   pub entry_leaves_mementos : Leaves (many h.1.1 memento) entry text left
   entry_leaves_mementos e rest begins = (set.items e.1.mementos, rest, entry_mementos e rest begins)
 
   module _ (mementos : List Memento) (rest : List ℕ) (listed : Begins (many h.1.1 memento) left mementos rest) where
+    -- mementos out of order stand in no entry
     pub entry_unordered : None ≡ entry_with h.0 h.1.0 mementos → (e : Key × Kept) (r : List ℕ) → ¬ Begins entry text e r
     entry_unordered none e r begins =
         let same = many_once memento h.1.1 memento_once left (set.items e.1.mementos) mementos r rest (entry_mementos e r begins) listed in
@@ -215,6 +225,7 @@ module _ (text left : List ℕ) (h : Head) (begun : Begins head text h left) whe
               ∙ sym (append_assoc (head.spelled (head_of e)) (flat_map memento_line (set.items e.1.mementos)) rest));
         }
 
+-- sets with the same items are one
 same_items : (x y : Mementos) → set.items x ≡ set.items y → x ≡ y
 same_items x y same =
     sym (from_list-items memento_cmp_total memento_cmp_exact x) ∙ (ap (λ (ms : List Memento). set.from_list ms) same ∙ from_list-items memento_cmp_total memento_cmp_exact y)

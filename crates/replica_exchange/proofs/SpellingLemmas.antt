@@ -23,6 +23,7 @@ Once {A} s = (text : List ℕ) (x y : A) (r t : List ℕ) → Begins s text x r 
 
 -- ---- the first of a byte
 
+-- a text has one front without the byte before it
 pub cut_once : (byte : ℕ) (a b x y : List ℕ) → Lacks byte a → Lacks byte b → a ++ byte ∷ x ≡ b ++ byte ∷ y → (a ≡ b) × (x ≡ y)
 cut_once byte [] [] x y la lb e = (refl, cc)
 cut_once byte [] (c ∷ b) x y la lb e = absurd (All-head (λ d. d ≢ byte) c b lb (cc))
@@ -33,6 +34,7 @@ cut_once byte (c ∷ a) (d ∷ b) x y la lb e =
     let rest = cut_once byte a b x y (All-tail (λ d. d ≢ byte) c a la) (All-tail (λ d. d ≢ byte) d b lb) tails in
     ((λ i. heads i ∷ rest.0 i), rest.1)
 
+-- a text with the byte in it doesn't lack it
 pub cut_none : (byte : ℕ) (a x : List ℕ) → ¬ Lacks byte (a ++ byte ∷ x)
 cut_none byte [] x lacks = All-head (λ d. d ≢ byte) byte x lacks refl
 cut_none byte (c ∷ a) x lacks = cut_none byte a x (All-tail (λ d. d ≢ byte) c (a ++ byte ∷ x) lacks)
@@ -56,16 +58,19 @@ module _ {A : Type 0} (Is : A → Type 0) (written : A → List ℕ) (byte : ℕ
   regrouped : (text : List ℕ) (v : A) (rest : List ℕ) → Begins (ended Is written byte) text v rest → text ≡ written v ++ byte ∷ rest
   regrouped text v rest begins = begins.whole ∙ append_assoc (written v) (byte ∷ []) rest
 
+  -- a field that was cut off is read
   pub ended_found : (text front rest : List ℕ) (v : A) → text ≡ front ++ byte ∷ rest → front ≡ written v → Is v → Begins (ended Is written byte) text v rest
   ended_found text front rest v whole same is = record {
     is = is;
     whole = whole ∙ (ap (λ (f : List ℕ). f ++ byte ∷ rest) same ∙ sym (append_assoc (written v) (byte ∷ []) rest));
   }
 
+  -- a text that lacks the byte begins with no field that it ends
   pub ended_none : (text : List ℕ) → Lacks byte text → (v : A) (rest : List ℕ) → ¬ Begins (ended Is written byte) text v rest
   ended_none text lacks v rest begins = cut_none byte (written v) rest (subst (Lacks byte) (regrouped text v rest begins) lacks)
 
   module _ (lack : (v : A) → Is v → Lacks byte (written v)) where
+    -- a field that is no written value is refused
     pub ended_refused : (text front rest : List ℕ) → text ≡ front ++ byte ∷ rest → Lacks byte front → ((v : A) → Is v → ¬ (front ≡ written v)) → (v : A) (r : List ℕ) → ¬ Begins (ended Is written byte) text v r
     ended_refused text front rest whole lacks other v r begins =
         let once = cut_once byte front (written v) rest r lacks (lack v begins.is) (sym whole ∙ regrouped text v r begins) in
@@ -81,6 +86,7 @@ pub field_refused : (Is : List ℕ → Type 0) (byte : ℕ) → ((t : List ℕ) 
     → (v r : List ℕ) → ¬ Begins (field Is byte) text v r
 field_refused Is byte lack text front rest whole lacks other = ended_refused Is (λ t. t) byte lack text front rest whole lacks (λ v is same. other (subst Is (sym same) is))
 
+-- a field that isn't clean is refused as malformed
 pub clean_refused : (Is : List ℕ → Type 0) (byte : ℕ) → ((t : List ℕ) → Is t → Lacks byte t) → (text front rest : List ℕ) → text ≡ front ++ byte ∷ rest → Lacks byte front
     → (fault : CleanFault) → (fault ≡ NotClean → ¬ Is front) → Refuses (field Is byte) text (fault_of fault)
 clean_refused Is byte lack text front rest whole lacks NotClean other = field_refused Is byte lack text front rest whole lacks (other refl)

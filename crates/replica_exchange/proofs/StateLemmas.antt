@@ -30,6 +30,7 @@ listing_parts es = append_assoc (codes "entries ") (decimal (length es) ++ 10 �
 listing_whole : (text : List ℕ) (es : List (Key × Kept)) → Begins listing text es [] → text ≡ codes "entries " ++ ((decimal (length es) ++ 10 ∷ []) ++ (flat_map entry_text es ++ end_line))
 listing_whole text es begins = begins.whole ∙ (append-nil (entries_text es) ∙ listing_parts es)
 
+-- the entries begin with their word
 pub listing_has_front : (text : List ℕ) → ((rest : List ℕ) → ¬ (text ≡ codes "entries " ++ rest)) → (es : List (Key × Kept)) → ¬ Begins listing text es []
 listing_has_front text none es begins = none ((decimal (length es) ++ 10 ∷ []) ++ (flat_map entry_text es ++ end_line)) (listing_whole text es begins)
 
@@ -40,6 +41,7 @@ module _ (text left : List ℕ) (front : text ≡ codes "entries " ++ left) wher
     whole = append_cancel_left (codes "entries ") left ((decimal (length es) ++ 10 ∷ []) ++ (flat_map entry_text es ++ end_line)) (sym front ∙ listing_whole text es begins);
   }
 
+  -- and go on with their number
   pub listing_leaves_count : LeavesWhole (number 10) listing text left
   listing_leaves_count es begins = (length es, flat_map entry_text es ++ end_line, from_count es begins)
 
@@ -49,6 +51,7 @@ module _ (text left : List ℕ) (front : text ≡ codes "entries " ++ left) wher
         let same = number_once 10 (omega arith) left (length es) count (flat_map entry_text es ++ end_line) left_1 (from_count es begins) counted in
         record { is = (same.0, begins.is.each); whole = sym same.1 }
 
+    -- and then with so many entries
     pub listing_leaves_entries : LeavesWhole (many count entry) listing text left_1
     listing_leaves_entries es begins = (es, end_line, from_entries es begins)
 
@@ -56,6 +59,7 @@ module _ (text left : List ℕ) (front : text ≡ codes "entries " ++ left) wher
       same_listing : (es : List (Key × Kept)) → Begins listing text es [] → (es ≡ entries) × (end_line ≡ left_2)
       same_listing es begins = many_once entry count entry_once left_1 es entries end_line left_2 (from_entries es begins) listed
 
+      -- and end with the word for it and nothing else
       pub listing_unended : ¬ (left_2 ≡ end_line) → (es : List (Key × Kept)) → ¬ Begins listing text es []
       listing_unended other es begins = other (sym (same_listing es begins).1)
 
@@ -71,6 +75,7 @@ module _ (text left : List ℕ) (front : text ≡ codes "entries " ++ left) wher
                 ∙ (sym (listing_parts entries) ∙ sym (append-nil (entries_text entries))));
           }
 
+-- one list of entries has a text
 pub listing_once : (text : List ℕ) (x y : List (Key × Kept)) → Begins listing text x [] → Begins listing text y [] → x ≡ y
 listing_once text x y bx by =
     let left : List ℕ = (decimal (length y) ++ 10 ∷ []) ++ (flat_map entry_text y ++ end_line) in
@@ -90,6 +95,7 @@ state_listing text left front state is whole = record {
   whole = append_cancel_left first_line left (entries_text (fmap.entries state)) (sym front ∙ whole) ∙ sym (append-nil (entries_text (fmap.entries state)));
 }
 
+-- no two states have the same text
 pub one_text : (x y : Entries) → IsState x → IsState y → state_text x ≡ state_text y → x ≡ y
 one_text x y is_x is_y same =
     let left : List ℕ = entries_text (fmap.entries x) in
@@ -97,6 +103,7 @@ one_text x y is_x is_y same =
     let by = state_listing (state_text x) left refl y is_y same in
     fmap.same_entries_map x y (listing_once left (fmap.entries x) (fmap.entries y) bx by)
 
+-- entries in order are those of the state that they make
 made_state : (rise : Bool) (es : List (Key × Kept)) (state : Entries) → keys_rise es ≡ rise → cond rise (Some (fmap.from_entries es)) None ≡ Some state → fmap.entries state ≡ es
 made_state true es state rises is =
     let same : fmap.from_entries es ≡ state = cc in
@@ -112,6 +119,7 @@ pub state_has_front : (text : List ℕ) → ((rest : List ℕ) → ¬ (text ≡ 
 state_has_front text none state is whole = none (entries_text (fmap.entries state)) whole
 
 module _ (text left : List ℕ) (front : text ≡ first_line ++ left) where
+  -- what refuses the entries refuses the state
   pub state_refused : length text ≤ longest_text → (fault : StateFault) → RefusesWhole listing left fault → IsCause fault text
   state_refused small TooLong refused = absurd refused
   state_refused small NotState refused = (small, λ state is whole. refused (fmap.entries state) (state_listing text left front state is whole))
@@ -123,6 +131,7 @@ module _ (text left : List ℕ) (front : text ≡ first_line ++ left) where
         let entries_are = made_state (keys_rise es) es state refl (sym is) in
         (subst AreEntries (sym entries_are) listed.is, front ∙ ap (λ (u : List ℕ). first_line ++ u) (listed.whole ∙ (append-nil (entries_text es) ∙ ap entries_text (sym entries_are))))
 
+    -- entries out of order stand in no state
     pub state_unordered : None ≡ map_with es → (state : Entries) → IsState state → ¬ (text ≡ state_text state)
     state_unordered none state is whole =
         let same = listing_once left (fmap.entries state) es (state_listing text left front state is whole) listed in

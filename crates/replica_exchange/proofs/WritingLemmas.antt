@@ -27,6 +27,7 @@ module _ {A : Type 0} (Is : A → Type 0) (written : A → List ℕ) (before : L
       let taken : take i values ++ value ∷ [] ≡ take (i + 1) values = ap (λ (v : A). take i values ++ v ∷ []) at ∙ sym (take_more values i value lt) in
       subst (HasWritten Is written before next) taken (more now next (take i values) value so_far step is)
 
+-- the first line, the number of entries, the entries and the end are the text of the state
 pub state_written : (state : Entries) (first counted listed out : List ℕ) (count : ℕ) → first ≡ codes "memento-state 1\nentries " → count ≡ fmap.len state → counted ≡ first ++ (decimal count ++ 10 ∷ [])
     → listed ≡ counted ++ flat_map entry_text (fmap.entries state) → out ≡ listed ++ codes "end\n" → out ≡ state_text state
 state_written state first counted listed out count is_first is_count is_counted is_listed is_out =
