@@ -12,6 +12,7 @@ use Rattle.std.specs.FinMap as fmap
 use Rattle.std.specs.FinMap.Entries.{below_all}
 use Rattle.harvest_lattice.specs.Sets as set
 use Rattle.harvest_lattice.proofs.Sets as sets
+use Rattle.harvest_lattice.proofs.Sets.{two_parts}
 use Rattle.std.proofs.lemmas.Bool.{true≢false, and_parts, and_from, or_left, or_right, or_cases, cases_lt, eqb-true, eq-eqb, leb-true, le-leb}
 use Rattle.std.proofs.lemmas.List.Folds.{Any-from_list_any, list_any-from_Any}
 use Rattle.std.proofs.lemmas.Bool.Decides.{nat_tests}
@@ -176,14 +177,6 @@ lat-append (h ∷ hs) gs =
 
 -- ---- a state as harvests
 
-both_parts : (a b : Bool) → T (a && b) → T a × T b
-both_parts true b h = (tt, h)
-both_parts false b h = absurd h
-
-both_from : (a b : Bool) → T a → T b → T (a && b)
-both_from true b p q = q
-both_from false b p q = absurd p
-
 pub same_key : (k q : Key) → eq_by_cmp key_cmp k q ≡ true → k ≡ q
 same_key k q t = key_cmp_exact k q ((Equal-is (key_cmp k q)).0 t)
 
@@ -200,7 +193,7 @@ below_none q (e ∷ es) h =
     ] h
 
 sorted_parts : (e : Key × Kept) (es : List (Key × Kept)) → T (fmap.is_sorted key_cmp (e ∷ es)) → T (below_all key_cmp e.0 es) × T (fmap.is_sorted key_cmp es)
-sorted_parts e es h = both_parts (below_all key_cmp e.0 es) (fmap.is_sorted key_cmp es) h
+sorted_parts e es h = two_parts (below_all key_cmp e.0 es) (fmap.is_sorted key_cmp es) h
 
 -- the first key of sorted entries stands there once
 first_once : (e : Key × Kept) (es : List (Key × Kept)) → T (fmap.is_sorted key_cmp (e ∷ es)) → fmap.find key_cmp e.0 es ≡ None

@@ -22,11 +22,7 @@ use Rattle.harvest_lattice.specs.Lists.{Lists, list_of, AreLists, AllListed}
 use Rattle.harvest_lattice.proofs.Sets.{contains-empty}
 use Rattle.harvest_lattice.proofs.Entries.{same_mementos}
 use Rattle.harvest_lattice.proofs.Knowledge.{contains-shown_of}
-use Rattle.harvest_lattice.proofs.ShelfLemmas.{same_text}
-
-nothing : {A : Type 0} (o : Option A) → is_some o ≡ false → o ≡ None
-nothing None h = refl
-nothing (Some a) h = absurd (true≢false h)
+use Rattle.harvest_lattice.proofs.ShelfLemmas.{same_text, none_after, nothing}
 
 module _ (m n : Lists) (a : List ℕ) (w : List Memento) (put : (q : List ℕ) → tree.get text_cmp n q ≡ cond (is_at (text_cmp a) q) (Some w) (tree.get text_cmp m q)) where
   -- an empty list where there was none
@@ -49,9 +45,6 @@ module _ (m n : Lists) (a : List ℕ) (w : List Memento) (put : (q : List ℕ) �
         | true ↦ λ t. is ∙ ap (λ p. set.items (shown_of x p)) (same_text a o t)
         | false ↦ λ _. lists o
       ] refl)
-
-pub list_made : (m n : Lists) (a : List ℕ) (w : List Memento) → tree.get text_cmp n a ≡ Some w → IsSome (tree.get text_cmp n a)
-list_made m n a w is = ap is_some is
 
 no_length : {A : Type 0} (xs : List A) → length xs ≡ 0 → xs ≡ []
 no_length [] e = refl
@@ -79,15 +72,11 @@ renewed_none lists es none o =
     elim (is_some (tree.get text_cmp lists o)) as (λ b. list_of lists o ≡ cond b (list_of lists o) (list_of lists o)) [ true ↦ refl | false ↦ refl ]
     ∙ ap (λ fs. renewed_list lists fs o) (sym none)
 
-none_later : (a : List ℕ) (es : List (List ℕ × List Memento)) → AllByRecursion (λ b. text_cmp a b ≡ Less) (keys_of es) → lookup (is_at (text_cmp a)) es ≡ None
-none_later a [] h = refl
-none_later a (e ∷ es) h = ap (λ r. cond (is_eq r) (Some e.1) (lookup (is_at (text_cmp a)) es)) h.0 ∙ none_later a es h.1
-
 pub renewed_turn : (old new : Lists) (rest es : List (List ℕ × List Memento)) (e : List ℕ × List Memento) → rest ≡ e ∷ es → IsStrictlySortedBy text_cmp (keys_of rest) → ((o : List ℕ) → tree.get text_cmp new o ≡ cond (eq_by_cmp text_cmp o e.0 && is_some (tree.get text_cmp old o)) (Some e.1) (tree.get text_cmp old o)) → (o : List ℕ) → renewed_list new es o ≡ renewed_list old rest o
 unfolding IsStrictlySortedBy
 renewed_turn old new rest es e is sorted put o =
     let h : IsStrictlySortedBy text_cmp (keys_of (e ∷ es)) = subst (λ (fs : List (List ℕ × List Memento)). IsStrictlySortedBy text_cmp (keys_of fs)) is sorted in
-    let later : eq_by_cmp text_cmp o e.0 ≡ true → lookup (is_at (text_cmp o)) es ≡ None = λ t. none_later o es (subst (λ a. AllByRecursion (λ b. text_cmp a b ≡ Less) (keys_of es)) (sym (same_text o e.0 t)) h.0) in
+    let later : eq_by_cmp text_cmp o e.0 ≡ true → lookup (is_at (text_cmp o)) es ≡ None = λ t. none_after o es (subst (λ a. AllByRecursion (λ b. text_cmp a b ≡ Less) (keys_of es)) (sym (same_text o e.0 t)) h.0) in
     by (eq_by_cmp text_cmp o e.0) (tree.get text_cmp old o) (tree.get text_cmp new o) (lookup (is_at (text_cmp o)) es) later (put o)
     ∙ ap (λ fs. renewed_list old fs o) (sym is)
   where

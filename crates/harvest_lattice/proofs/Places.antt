@@ -14,15 +14,7 @@ use Rattle.harvest_lattice.specs.declared.row.Row.{Row}
 use Rattle.harvest_lattice.specs.Lattice.{Key, key_cmp, Kept, Entries}
 use Rattle.harvest_lattice.specs.Rows.{row_key, row_entry, RowsRise, IsPlaceOf, IsGapFor}
 use Rattle.harvest_lattice.proofs.Entries.{key_cmp_total, key_cmp_exact}
-
-parts : (a b : Bool) → T (a && b) → T a × T b
-parts true b h = (tt, h)
-parts false b h = absurd h
-
-less_from : (o : Ordering) → T (is_lt o) → o ≡ Less
-less_from Less h = refl
-less_from Equal h = absurd h
-less_from Greater h = absurd h
+use Rattle.harvest_lattice.proofs.Sets.{less_from, two_parts}
 
 greater : (a b : Key) → key_cmp a b ≡ Less → key_cmp b a ≡ Greater
 greater a b h = key_cmp_total.antisymm b a ∙ ap ordering_reverse h
@@ -31,12 +23,12 @@ equal : (a b : Key) → a ≡ b → key_cmp a b ≡ Equal
 equal a b e = ap (key_cmp a) (sym e) ∙ tied_itself key_cmp_total a
 
 rise_parts : (row : Row) (rows : List Row) → RowsRise (row ∷ rows) → T (below_all key_cmp (row_key row) (map row_entry rows)) × RowsRise rows
-rise_parts row rows h = parts (below_all key_cmp (row_key row) (map row_entry rows)) (fmap.is_sorted key_cmp (map row_entry rows)) h
+rise_parts row rows h = two_parts (below_all key_cmp (row_key row) (map row_entry rows)) (fmap.is_sorted key_cmp (map row_entry rows)) h
 
 below_at : (k : Key) (rows : List Row) → T (below_all key_cmp k (map row_entry rows)) → (j : ℕ) (row : Row) → j < length rows → key_cmp k (row_key (get_or rows j row)) ≡ Less
 below_at k [] h j row lt = absurd (omega arith)
-below_at k (r ∷ rows) h zero row lt = less_from (key_cmp k (row_key r)) (parts (is_lt (key_cmp k (row_key r))) (below_all key_cmp k (map row_entry rows)) h).0
-below_at k (r ∷ rows) h (suc j) row lt = below_at k rows (parts (is_lt (key_cmp k (row_key r))) (below_all key_cmp k (map row_entry rows)) h).1 j row (omega arith)
+below_at k (r ∷ rows) h zero row lt = less_from (key_cmp k (row_key r)) (two_parts (is_lt (key_cmp k (row_key r))) (below_all key_cmp k (map row_entry rows)) h).0
+below_at k (r ∷ rows) h (suc j) row lt = below_at k rows (two_parts (is_lt (key_cmp k (row_key r))) (below_all key_cmp k (map row_entry rows)) h).1 j row (omega arith)
 
 -- keys at greater places are greater
 pub rise_at : (rows : List Row) → RowsRise rows → (i j : ℕ) (row : Row) → i < j → j < length rows → key_cmp (row_key (get_or rows i row)) (row_key (get_or rows j row)) ≡ Less

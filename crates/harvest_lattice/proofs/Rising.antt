@@ -19,7 +19,7 @@ use Rattle.harvest_lattice.specs.Sets as set
 use Rattle.harvest_lattice.specs.declared.row.Row.{Row}
 use Rattle.harvest_lattice.specs.Lattice.{Key, key_cmp, Kept}
 use Rattle.harvest_lattice.specs.Rows.{row_key, row_entry}
-use Rattle.harvest_lattice.proofs.Sets.{keys_rise, firsts, less_from}
+use Rattle.harvest_lattice.proofs.Sets.{keys_rise, firsts, less_from, both_parts}
 use Rattle.harvest_lattice.proofs.RowLemmas.{keys_rows}
 use Rattle.harvest_lattice.proofs.Entries.{key_cmp_total}
 
@@ -31,10 +31,6 @@ is_false : (b : Bool) → (T b → ⊥) → b ≡ false
 is_false true h = absurd (h tt)
 is_false false h = refl
 
-both_from : (a b : Bool) → T a → T b → T (a && b)
-both_from true b p q = q
-both_from false b p q = absurd p
-
 -- the first n rise
 abbrev pub Rises : {K : Type 0} → (K → K → Ordering) → List K → ℕ → Type 0
 Rises R ks n = AllAdjacentBelow (λ x y. R x y ≡ Less) ks n
@@ -42,12 +38,12 @@ Rises R ks n = AllAdjacentBelow (λ x y. R x y ≡ Less) ks n
 module _ {K X : Type 0} (R : K → K → Ordering) where
   below_keys : (k : K) (es : List (K × X)) → AllByRecursion (λ y. R k y ≡ Less) (map (λ e. e.0) es) → T (below_all R k es)
   below_keys k [] h = tt
-  below_keys k (e ∷ es) h = both_from (is_lt (R k e.0)) (below_all R k es) (subst (λ r. T (is_lt r)) (sym h.0) tt) (below_keys k es h.1)
+  below_keys k (e ∷ es) h = both_parts (is_lt (R k e.0)) (below_all R k es) (subst (λ r. T (is_lt r)) (sym h.0) tt) (below_keys k es h.1)
 
   pub from_keys : (es : List (K × X)) → IsStrictlySortedBy R (map (λ e. e.0) es) → T (is_sorted R es)
   unfolding IsStrictlySortedBy
   from_keys [] h = tt
-  from_keys (e ∷ es) h = both_from (below_all R e.0 es) (is_sorted R es) (below_keys e.0 es h.0) (from_keys es h.1)
+  from_keys (e ∷ es) h = both_parts (below_all R e.0 es) (is_sorted R es) (below_keys e.0 es h.0) (from_keys es h.1)
 
   pub risen : IsTotalOrder R → (es : List (K × X)) (ks : List K) (n : ℕ) (d : K) → map (λ e. e.0) es ≡ ks → Rises R ks n → length ks ≤ n → is_sorted R es ≡ true
   risen o es ks n d e rises le = is_true (is_sorted R es) (from_keys es (subst (IsStrictlySortedBy R) (sym e) (sorted_from_all_adjacent o ks d (λ k lt. rises k d (omega (arith, le, lt))))))

@@ -12,13 +12,9 @@ use Rattle.harvest_lattice.specs.Knowledge.{Harvested, key_of, lat}
 use Rattle.harvest_lattice.specs.Rows.{row_key, row_entry, put_all, or_else}
 use Rattle.harvest_lattice.proofs.Entries.{key_cmp_total, key_cmp_exact, get-join}
 use Rattle.harvest_lattice.proofs.Knowledge.{single, get-lat_one, same_key}
-use Rattle.harvest_lattice.proofs.Sets.{two_parts}
+use Rattle.harvest_lattice.proofs.Sets.{two_parts, both_parts}
 use Rattle.std.specs.FinMap.Entries.{below_all}
 use Rattle.std.proofs.Common.{◌&&◌}
-
-both_parts : (a b : Bool) → T a → T b → T (a && b)
-both_parts true b p q = q
-both_parts false b p q = absurd p
 
 pub keys_rows : (rows : List Row) → map (λ (e : Key × Kept). e.0) (map row_entry rows) ≡ map row_key rows
 keys_rows [] = refl

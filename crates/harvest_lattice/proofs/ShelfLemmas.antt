@@ -1,5 +1,5 @@
 -- What slots hold, as the entries of a state.
-use Rattle.std.proofs.Common.{◌≡◌, ℕ, ◌+◌, Bool, true, false, cond, ◌&&◌, ◌++◌, map, List, [], ◌∷◌, Option, Some, None, is_some, IsSome, refl, sym, ap, subst, ◌∙◌}
+use Rattle.std.proofs.Common.{◌≡◌, ℕ, ◌+◌, Bool, true, false, cond, ◌&&◌, ◌++◌, map, List, [], ◌∷◌, Option, Some, None, is_some, IsSome, Result, Ok, Err, OnErr, refl, sym, ap, subst, ◌∙◌}
 use Rattle.std.specs.Prelude.{T}
 use Rattle.std.specs.declared.cmp.Ordering.{Ordering}
 use Rattle.std.specs.declared.cmp.Ordering.TheVariants.{Less, Equal, Greater}
@@ -17,13 +17,11 @@ use Rattle.std.specs.FinMap.{slice_cmp-IsAntisymmetric, nat_cmp-IsAntisymmetric}
 use Rattle.std.specs.FinMap.Entries.{below_all}
 use Rattle.memento_time.specs.Mementos.{text_cmp}
 use Rattle.harvest_lattice.specs.Lattice.{Key, key_cmp, Kept, Entries}
+use Rattle.harvest_lattice.specs.Rows.{or_else}
 use Rattle.harvest_lattice.specs.Shelves.{Slots, Shelves, slot_of, slot, filled, slot_rows, shelf_rows, all_rows, entries_of}
 use Rattle.harvest_lattice.proofs.Entries.{key_cmp_total, key_cmp_exact}
 use Rattle.harvest_lattice.proofs.Rising.{from_keys}
-
-or_else : Option Kept → Option Kept → Option Kept
-or_else None b = b
-or_else (Some a) b = Some a
+use Rattle.harvest_lattice.proofs.Sets.{less_from, two_parts, both_parts}
 
 pub text_exact : (a b : List ℕ) → text_cmp a b ≡ Equal → a ≡ b
 text_exact a b e = slice_cmp-IsAntisymmetric nat_cmp-IsAntisymmetric a b e
@@ -36,28 +34,14 @@ lookup-find R q [] = refl
 lookup-find R q (e ∷ es) = ap (cond (is_eq (R q e.0)) (Some e.1)) (lookup-find R q es)
 
 find_both : (q : Key) (xs ys : List (Key × Kept)) → fmap.find key_cmp q (xs ++ ys) ≡ or_else (fmap.find key_cmp q xs) (fmap.find key_cmp q ys)
-unfolding or_else
 find_both q [] ys = refl
 find_both q (x ∷ xs) ys = elim (eq_by_cmp key_cmp q x.0) as (λ b. cond b (Some x.1) (fmap.find key_cmp q (xs ++ ys)) ≡ or_else (cond b (Some x.1) (fmap.find key_cmp q xs)) (fmap.find key_cmp q ys)) [ true ↦ refl | false ↦ find_both q xs ys ]
-
-parts : (a b : Bool) → T (a && b) → T a × T b
-parts true b h = (tt, h)
-parts false b h = absurd h
-
-both : (a b : Bool) → T a → T b → T (a && b)
-both true b p q = q
-both false b p q = absurd p
-
-less_from : (o : Ordering) → T (is_lt o) → o ≡ Less
-less_from Less h = refl
-less_from Equal h = absurd h
-less_from Greater h = absurd h
 
 -- no original is found among greater ones
 pub none_above : (o : List ℕ) (es : List (List ℕ × Option Kept)) → T (below_all text_cmp o es) → fmap.find text_cmp o es ≡ None
 none_above o [] h = refl
 none_above o (e ∷ es) h =
-    let p = parts (is_lt (text_cmp o e.0)) (below_all text_cmp o es) h in
+    let p = two_parts (is_lt (text_cmp o e.0)) (below_all text_cmp o es) h in
     ap (λ r. cond (is_eq r) (Some e.1) (fmap.find text_cmp o es)) (less_from (text_cmp o e.0) p.0) ∙ none_above o es p.1
 
 tie : (a o p : List ℕ) → eq_by_cmp key_cmp (a, o) (a, p) ≡ eq_by_cmp text_cmp o p
@@ -67,7 +51,7 @@ tie a o p = ap (λ r. is_eq (ordering_then r (text_cmp o p))) (tied_itself nat_l
 find_shelf : (a o : List ℕ) (es : List (List ℕ × Option Kept)) → T (fmap.is_sorted text_cmp es) → fmap.find key_cmp (a, o) (shelf_rows a es) ≡ filled (fmap.find text_cmp o es)
 find_shelf a o [] h = refl
 find_shelf a o (e ∷ es) h =
-    let p = parts (below_all text_cmp e.0 es) (fmap.is_sorted text_cmp es) h in
+    let p = two_parts (below_all text_cmp e.0 es) (fmap.is_sorted text_cmp es) h in
     let rest = find_shelf a o es p.1 in
     elim (e.1) as (λ v. fmap.find key_cmp (a, o) (slot_rows a e.0 v ++ shelf_rows a es) ≡ filled (cond (eq_by_cmp text_cmp o e.0) (Some v) (fmap.find text_cmp o es))) [
       | None ↦ rest ∙ elim (eq_by_cmp text_cmp o e.0) as (λ b. eq_by_cmp text_cmp o e.0 ≡ b → filled (fmap.find text_cmp o es) ≡ filled (cond b (Some None) (fmap.find text_cmp o es))) [
@@ -90,19 +74,18 @@ find_other a b o (e ∷ es) h =
       | Some v ↦ ap (λ t. cond t (Some v) (fmap.find key_cmp (a, o) (shelf_rows b es))) (apart a b o e.0 h) ∙ find_other a b o es h
     ]
 
--- no archive is found among greater ones
-none_after : (a : List ℕ) (ss : List (List ℕ × Slots)) → AllByRecursion (λ b. text_cmp a b ≡ Less) (keys_of ss) → lookup (is_at (text_cmp a)) ss ≡ None
+-- no text is found among greater ones
+pub none_after : {X : Type 0} (a : List ℕ) (ss : List (List ℕ × X)) → AllByRecursion (λ b. text_cmp a b ≡ Less) (keys_of ss) → lookup (is_at (text_cmp a)) ss ≡ None
 none_after a [] h = refl
 none_after a (s ∷ ss) h = ap (λ r. cond (is_eq r) (Some s.1) (lookup (is_at (text_cmp a)) ss)) h.0 ∙ none_after a ss h.1
 
 or_none : (x : Option Kept) → or_else x None ≡ x
-unfolding or_else
 or_none None = refl
 or_none (Some x) = refl
 
 -- all rows have what the slots hold
 pub find_all : (k : Key) (ss : List (List ℕ × Slots)) → IsStrictlySortedBy text_cmp (keys_of ss) → fmap.find key_cmp k (all_rows ss) ≡ filled (slot_of (lookup (is_at (text_cmp k.0)) ss) k.1)
-unfolding IsStrictlySortedBy or_else
+unfolding IsStrictlySortedBy
 find_all k [] h = refl
 find_all k (s ∷ ss) h =
     let rest = find_all k ss h.1 in
@@ -135,17 +118,17 @@ filled_entries m n q v h g put = fmap.same_map key_cmp_total key_cmp_exact _ _ (
 below_append : (k : Key) (xs ys : List (Key × Kept)) → T (below_all key_cmp k xs) → T (below_all key_cmp k ys) → T (below_all key_cmp k (xs ++ ys))
 below_append k [] ys p q = q
 below_append k (x ∷ xs) ys p q =
-    let r = parts (is_lt (key_cmp k x.0)) (below_all key_cmp k xs) p in
-    both (is_lt (key_cmp k x.0)) (below_all key_cmp k (xs ++ ys)) r.0 (below_append k xs ys r.1 q)
+    let r = two_parts (is_lt (key_cmp k x.0)) (below_all key_cmp k xs) p in
+    both_parts (is_lt (key_cmp k x.0)) (below_all key_cmp k (xs ++ ys)) r.0 (below_append k xs ys r.1 q)
 
 below_shelf : (a o : List ℕ) (es : List (List ℕ × Option Kept)) → T (below_all text_cmp o es) → T (below_all key_cmp (a, o) (shelf_rows a es))
 below_shelf a o [] h = tt
 below_shelf a o (e ∷ es) h =
-    let p = parts (is_lt (text_cmp o e.0)) (below_all text_cmp o es) h in
+    let p = two_parts (is_lt (text_cmp o e.0)) (below_all text_cmp o es) h in
     let rest = below_shelf a o es p.1 in
     elim (e.1) as (λ v. T (below_all key_cmp (a, o) (slot_rows a e.0 v ++ shelf_rows a es))) [
       | None ↦ rest
-      | Some v ↦ both (is_lt (key_cmp (a, o) (a, e.0))) (below_all key_cmp (a, o) (shelf_rows a es)) (subst (λ r. T (is_lt (ordering_then r (text_cmp o e.0)))) (sym (tied_itself nat_list_cmp_total a)) p.0) rest
+      | Some v ↦ both_parts (is_lt (key_cmp (a, o) (a, e.0))) (below_all key_cmp (a, o) (shelf_rows a es)) (subst (λ r. T (is_lt (ordering_then r (text_cmp o e.0)))) (sym (tied_itself nat_list_cmp_total a)) p.0) rest
     ]
 
 below_other : (a b o : List ℕ) (es : List (List ℕ × Option Kept)) → text_cmp a b ≡ Less → T (below_all key_cmp (a, o) (shelf_rows b es))
@@ -154,7 +137,7 @@ below_other a b o (e ∷ es) h =
     let rest = below_other a b o es h in
     elim (e.1) as (λ v. T (below_all key_cmp (a, o) (slot_rows b e.0 v ++ shelf_rows b es))) [
       | None ↦ rest
-      | Some v ↦ both (is_lt (key_cmp (a, o) (b, e.0))) (below_all key_cmp (a, o) (shelf_rows b es)) (subst (λ r. T (is_lt (ordering_then r (text_cmp o e.0)))) (sym h) tt) rest
+      | Some v ↦ both_parts (is_lt (key_cmp (a, o) (b, e.0))) (below_all key_cmp (a, o) (shelf_rows b es)) (subst (λ r. T (is_lt (ordering_then r (text_cmp o e.0)))) (sym h) tt) rest
     ]
 
 below_rest : (a o : List ℕ) (ss : List (List ℕ × Slots)) → AllByRecursion (λ b. text_cmp a b ≡ Less) (keys_of ss) → T (below_all key_cmp (a, o) (all_rows ss))
@@ -164,11 +147,11 @@ below_rest a o (s ∷ ss) h = below_append (a, o) (shelf_rows s.0 (fmap.entries 
 shelf_sorted : (a : List ℕ) (es : List (List ℕ × Option Kept)) (rest : List (Key × Kept)) → T (fmap.is_sorted text_cmp es) → T (fmap.is_sorted key_cmp rest) → ((o : List ℕ) → T (below_all key_cmp (a, o) rest)) → T (fmap.is_sorted key_cmp (shelf_rows a es ++ rest))
 shelf_sorted a [] rest h r below = r
 shelf_sorted a (e ∷ es) rest h r below =
-    let p = parts (below_all text_cmp e.0 es) (fmap.is_sorted text_cmp es) h in
+    let p = two_parts (below_all text_cmp e.0 es) (fmap.is_sorted text_cmp es) h in
     let more = shelf_sorted a es rest p.1 r below in
     elim (e.1) as (λ v. T (fmap.is_sorted key_cmp ((slot_rows a e.0 v ++ shelf_rows a es) ++ rest))) [
       | None ↦ more
-      | Some v ↦ both (below_all key_cmp (a, e.0) (shelf_rows a es ++ rest)) (fmap.is_sorted key_cmp (shelf_rows a es ++ rest)) (below_append (a, e.0) (shelf_rows a es) rest (below_shelf a e.0 es p.0) (below e.0)) more
+      | Some v ↦ both_parts (below_all key_cmp (a, e.0) (shelf_rows a es ++ rest)) (fmap.is_sorted key_cmp (shelf_rows a es ++ rest)) (below_append (a, e.0) (shelf_rows a es) rest (below_shelf a e.0 es p.0) (below e.0)) more
     ]
 
 pub all_sorted : (ss : List (List ℕ × Slots)) → IsStrictlySortedBy text_cmp (keys_of ss) → T (fmap.is_sorted key_cmp (all_rows ss))
@@ -239,7 +222,7 @@ is_some_is o a e = ap is_some e
 pub not_some : {A : Type 0} (o : Option A) → o ≡ None → IsSome o → ⊥
 not_some o e h = true≢false (sym h ∙ ap is_some e)
 
-nothing : {A : Type 0} (o : Option A) → is_some o ≡ false → o ≡ None
+pub nothing : {A : Type 0} (o : Option A) → is_some o ≡ false → o ≡ None
 nothing None h = refl
 nothing (Some a) h = absurd (subst T h tt)
 
@@ -296,3 +279,7 @@ module _ (m n : Shelves) (q : Key) (v : Kept) (after : (k : Key) → slot n k �
   fill_len h g =
       ap (λ (x : Entries). fmap.len x) (fill_entries h g)
       ∙ (fmap.len-insert key_cmp_total (entries_of m) q v ∙ ap (λ o. cond (is_some o) (fmap.len (entries_of m)) (fmap.len (entries_of m) + 1)) (get-entries_of m h q))
+
+pub on_err : {T E P : Type 0} (r : Result T E) → P → OnErr r P
+on_err (Ok x) p = tt
+on_err (Err e) p = p

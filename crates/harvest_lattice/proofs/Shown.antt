@@ -15,7 +15,7 @@ use Rattle.harvest_lattice.specs.Sets as set
 use Rattle.harvest_lattice.specs.Lattice.{Key, Kept, Entries, Mementos}
 use Rattle.harvest_lattice.specs.Knowledge.{shown_of}
 use Rattle.harvest_lattice.specs.Shelves.{Slots, Shelves, filled, slot_rows, shelf_rows, all_rows, entries_of}
-use Rattle.harvest_lattice.proofs.Sets.{contains-from_list}
+use Rattle.harvest_lattice.proofs.Sets.{contains-from_list, two_parts}
 use Rattle.harvest_lattice.proofs.Entries.{same_mementos}
 use Rattle.harvest_lattice.proofs.Knowledge.{contains-shown_of}
 use Rattle.harvest_lattice.proofs.Ordered.{items_in_order}
@@ -42,7 +42,7 @@ or_false false = refl
 shelf_any : (o a : List ℕ) (m : Memento) (es : List (List ℕ × Option Kept)) → T (fmap.is_sorted text_cmp es) → list_any (row_shows o m) (shelf_rows a es) ≡ holds m (filled (fmap.find text_cmp o es))
 shelf_any o a m [] h = refl
 shelf_any o a m (e ∷ es) h =
-    let p = parts (below_all text_cmp e.0 es) (fmap.is_sorted text_cmp es) h in
+    let p = two_parts (below_all text_cmp e.0 es) (fmap.is_sorted text_cmp es) h in
     let rest = shelf_any o a m es p.1 in
     let none : eq_by_cmp text_cmp o e.0 ≡ true → fmap.find text_cmp o es ≡ None = λ t. none_above o es (subst (λ q. T (below_all text_cmp q es)) (sym (same_text o e.0 t)) p.0) in
     elim (e.1) as (λ v. list_any (row_shows o m) (slot_rows a e.0 v ++ shelf_rows a es) ≡ holds m (filled (cond (eq_by_cmp text_cmp o e.0) (Some v) (fmap.find text_cmp o es)))) [
@@ -55,10 +55,6 @@ shelf_any o a m (e ∷ es) h =
         | false ↦ λ _. rest
       ] refl
     ]
-  where
-    parts : (a b : Bool) → T (a && b) → T a × T b
-    parts true b h = (tt, h)
-    parts false b h = absurd h
 
 all_any : (o : List ℕ) (m : Memento) (ss : List (List ℕ × Slots)) → list_any (row_shows o m) (all_rows ss) ≡ list_any (shelf_shows o m) ss
 all_any o m [] = refl

@@ -108,7 +108,7 @@ impl Harvest {
     }
 
     // What a state of this harvest alone has of its archive and original.
-    pub fn latest(&self) -> &Latest
+    pub(crate) fn latest(&self) -> &Latest
         ensures { result.now ≡ record { revision = self.now.revision; mementos = self.now.mementos } }
     {
         &self.latest

@@ -15,7 +15,7 @@ use std::alloc::Global;
 use std::collections::BTreeMap;
 use std::marker::Model;
 
-/// What an index takes in.
+/// What an index takes in: a harvest, or all that another replica's state has.
 #[derive(Debug, Drop)]
 pub enum Merge {
     Harvest(Harvest),
@@ -76,7 +76,9 @@ impl Index {
         }
     }
 
-    /// Takes a harvest, or all that a state has.
+    /// Takes a harvest, or all that a state has, and makes the lists of the originals that it touches anew.
+    ///
+    /// Takes time in the size of what it takes and of those lists, and logarithmic in the number of keys.
     pub fn absorb(&mut self, merge: &Merge) -> Result<(), NoMemory>
         ensures ok { OnOk result (self.new ≡ join self.old (lat (adds_of merge.now))) }
         ensures stands { (hs : List Harvested) → self.old ≡ lat hs → OnOk result (self.new ≡ lat (hs ++ adds_of merge.now)) }

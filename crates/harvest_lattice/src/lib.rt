@@ -1,4 +1,9 @@
-//! Harvests, and the lattice of what replicas keep of them.
+//! What archives had of originals, and the lattice of what replicas keep of it.
+//!
+//! A harvest is what one archive had of one original at a revision: a set of mementos. Of each archive and original
+//! only the greatest revision counts, and harvests of that revision are united. What is kept is a `State`: its join is
+//! a least upper bound, so neither the order in which replicas hear of harvests nor repetition makes a difference. An
+//! `Index` is a state with the list of each original at hand, from which a TimeGate takes the nearest memento.
 #![tactic(auto)]
 
 mod harvest;

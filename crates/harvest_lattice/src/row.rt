@@ -9,7 +9,7 @@ use memento_time::{ArchiveName, Memento, NoMemory, Original};
 use std::cmp::Ordering;
 use std::marker::Model;
 
-/// What `State::of_rows` takes of one archive and original.
+/// One archive and original with what is kept of it: `State::of_rows` takes many.
 #[derive(Debug, Drop)]
 pub struct Row {
     pub archive: ArchiveName,
@@ -65,7 +65,7 @@ impl<'a> Model for Entry<'a> {
 }
 
 impl<'a> Entry<'a> {
-    pub fn new(latest: &'a Latest) -> Entry<'a>
+    pub(crate) fn new(latest: &'a Latest) -> Entry<'a>
         ensures { result ≡ latest.now }
     {
         Entry { latest }
@@ -84,7 +84,7 @@ impl<'a> Entry<'a> {
         self.latest.mementos()
     }
 
-    pub fn latest(&self) -> &'a Latest
+    pub(crate) fn latest(&self) -> &'a Latest
         ensures { result.now ≡ self.now }
     {
         self.latest

@@ -22,6 +22,8 @@ use std::collections::BTreeMap;
 use std::marker::Model;
 
 /// For each archive and original the latest revision, with its mementos.
+///
+/// Where memory is refused, nothing has changed: all room is made before the first change.
 #[derive(Debug, Drop)]
 pub struct State {
     alloc: Global,
@@ -83,7 +85,7 @@ impl State {
     }
 
     // The row of a harvest as it stands in the join.
-    pub fn merged_rows(&self, harvest: &Harvest) -> Result<Vec<Row>, NoMemory>
+    pub(crate) fn merged_rows(&self, harvest: &Harvest) -> Result<Vec<Row>, NoMemory>
         ensures put { IfOk result (λ rows. put_all (map_list row_entry rows.items) self.now ≡ join self.now (lat (harvest.now ∷ []))) }
         ensures rise { IfOk result (λ rows. RowsRise rows.items) }
     {
@@ -94,6 +96,8 @@ impl State {
     }
 
     /// Takes all that another state has. What stands here alone isn't touched.
+    ///
+    /// Takes time in the size of the other's entries and of those here at their keys.
     pub fn join(&mut self, other: &State) -> Result<(), NoMemory>
         ensures ok { OnOk result (self.new ≡ join self.old other.now) }
         ensures err { OnErr result (self.new ≡ self.old) }
@@ -103,7 +107,7 @@ impl State {
     }
 
     // The rows of another state as they stand in the join.
-    pub fn joined_rows(&self, other: &State) -> Result<Vec<Row>, NoMemory>
+    pub(crate) fn joined_rows(&self, other: &State) -> Result<Vec<Row>, NoMemory>
         ensures { IfOk result (λ rows. map_list row_entry rows.items ≡ map_list (joined_with self.now) (map.entries other.now)) }
     {
         let mut rows = Vec::with_capacity(self.alloc, other.len)?;
@@ -241,7 +245,7 @@ impl State {
     }
 
     // Puts the rows, and gives the lists of their originals as they are then.
-    pub fn put_listed(&mut self, rows: Vec<Row>) -> Result<Lists, NoMemory>
+    pub(crate) fn put_listed(&mut self, rows: Vec<Row>) -> Result<Lists, NoMemory>
         requires { RowsRise rows.items }
         ensures ok { OnOk result (self.new ≡ put_all (map_list row_entry rows.items) self.old) }
         ensures lists { IfOk result (λ lists. AreLists (put_all (map_list row_entry rows.items) self.old) lists) }

@@ -84,7 +84,7 @@ impl<'a> Model for Rows<'a> {
 }
 
 impl<'a> Rows<'a> {
-    pub fn of(shelves: &'a Shelves) -> Rows<'a>
+    pub(crate) fn of(shelves: &'a Shelves) -> Rows<'a>
         ensures { result ≡ all_rows shelves.now.entries }
     {
         Rows {

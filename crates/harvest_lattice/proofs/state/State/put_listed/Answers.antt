@@ -9,12 +9,8 @@ use Rattle.harvest_lattice.specs.Lattice.{Key, Entries}
 use Rattle.harvest_lattice.specs.Lists.{AreLists}
 use Rattle.harvest_lattice.specs.Rows.{row_entry, put_all}
 use Rattle.harvest_lattice.specs.Shelves.{Shelves, entries_of}
-use Rattle.harvest_lattice.proofs.ShelfLemmas.{same_entries}
+use Rattle.harvest_lattice.proofs.ShelfLemmas.{same_entries, on_err}
 use Rattle.harvest_lattice.proofs.state.State.put_listed.Goals as goal
-
-on_err : {T E : Type 0} {P : Type 0} (r : Result T E) → P → OnErr r P
-on_err (Ok x) p = tt
-on_err (Err e) p = p
 
 pub invariant_of-self : goal.invariant_of-self
 invariant_of-self c =
