@@ -6,7 +6,6 @@ use Rattle.std.proofs.lemmas.Map.Lookups.{exact_pairs}
 use Rattle.std.specs.Cmp.{IsTotalOrder, nat_cmp_total, on_total, then_total}
 use Rattle.std.specs.Cmp.Lexicographic.{nat_list_cmp_total}
 use Rattle.memento_time.specs.Mementos.{text_cmp, memento_cmp}
-use Rattle.memento_time.specs.declared.mementos.Memento.{Memento}
 
 pub memento_cmp_total : IsTotalOrder memento_cmp
 memento_cmp_total = then_total (on_total (λ m. m.at) nat_cmp_total) (on_total (λ m. m.uri) nat_list_cmp_total)

@@ -1,7 +1,7 @@
 -- `second_of` is `Reads` as a function.
-use Rattle.std.proofs.Common.{◌≡◌, ◌⊎◌, nat_lt, cond, ℕ, zero, suc, ◌+◌, ◌<◌, ◌≤◌, Bool, true, false, ◌&&◌, ◌||◌, List, [], ◌∷◌, length, take, drop, get_or, Option, Some, None, IfSome, Contains, refl, sym, ap, ◌∙◌, arith, rules, inl, inr}
-use Rattle.std.proofs.lemmas.Bool.{and_parts, cases_order, ltb-true, lt-ltb}
-use Rattle.std.proofs.lemmas.Bool.Decides.{nat_tests, Decides-eqb}
+use Rattle.std.proofs.Common.{◌≡◌, cond, ℕ, zero, suc, ◌<◌, Bool, true, false, ◌||◌, List, [], ◌∷◌, length, take, drop, get_or, Option, Some, None, IfSome, Contains, refl, sym, ap, ◌∙◌, arith, inl, inr}
+use Rattle.std.proofs.lemmas.Bool.{and_parts, cases_order}
+use Rattle.std.proofs.lemmas.Bool.Decides.{Decides-eqb}
 use Rattle.std.proofs.lemmas.Option.{same_Some, none-some}
 use Rattle.std.proofs.lemmas.Slice.Eq.{bytes_eq-Decides}
 use Rattle.std.specs.List.{list_any}
@@ -9,7 +9,7 @@ use Rattle.std.specs.Str.{bytes_eq}
 use Rattle.memento_time.specs.Blanks.{trim_blanks}
 use Rattle.memento_time.specs.BeforeEpoch.{is_before_epoch}
 use Rattle.memento_time.specs.Names.{day_names}
-use Rattle.memento_time.specs.Second.{imf, IsSecond, Reads, Asks, AsksForFirst}
+use Rattle.memento_time.specs.Second.{imf, Reads, Asks, AsksForFirst}
 use Rattle.memento_time.specs.SecondOf.{shows, last_below, second_of, asked_of}
 use Rattle.memento_time.proofs.ReadLemmas.{Reads_unique}
 

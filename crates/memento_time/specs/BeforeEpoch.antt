@@ -1,5 +1,5 @@
 -- Dates before 1970 in the form of an IMF-fixdate (RFC 9110, section 5.6.7). No second counts them.
-use Rattle.std.specs.Prelude.{ℕ, Bool, true, ◌==◌, ◌&&◌, List, [], ◌∷◌, length, take, drop, codes, bytes_eq, if◌then◌else◌}
+use Rattle.std.specs.Prelude.{ℕ, Bool, true, ◌==◌, ◌&&◌, List, length, take, drop, codes, bytes_eq, if◌then◌else◌}
 use Rattle.std.specs.Char.{is_ascii_digit}
 use Rattle.std.specs.List.{list_any, list_all, zip}
 use Rattle.std.specs.Ordering.{nat_cmp, is_lt}
@@ -10,17 +10,19 @@ use Rattle.memento_time.specs.Names.{day_names, month_names}
 abbrev pub date_form : List ℕ
 date_form = codes "???, 00 ??? 0000 00:00:00 GMT"
 
+-- a byte fits the byte of the form at its place
 abbrev pub fits : ℕ × ℕ → Bool
 fits p = if p.1 == 0x3F then true else (if p.1 == 0x30 then is_ascii_digit p.0 else p.0 == p.1)
 
+-- the name is among these
 abbrev pub is_name : List (List ℕ) → List ℕ → Bool
 is_name names name = list_any (λ n. bytes_eq n name) names
 
--- four digits are in the order of their numbers
+-- a year below 1970: four digits are in the order of their numbers
 abbrev pub is_year_before_1970 : List ℕ → Bool
 is_year_before_1970 digits = is_lt (slice_cmp nat_cmp digits (codes "1970"))
 
--- the two-digit numbers may be any
+-- a text in that form, with a day's and a month's name and a year below 1970; its two-digit numbers may be any
 unfoldable pub is_before_epoch : List ℕ → Bool
 is_before_epoch text =
     (length text == 29)

@@ -1,4 +1,4 @@
-use Rattle.std.proofs.Common.{◌≡◌, ℕ, ◌<◌, ◌+◌, [], ◌++◌, drop, get_or, Some, ap, arith}
+use Rattle.std.proofs.Common.{◌≡◌, [], ◌++◌, drop, get_or, Some, ap, arith}
 use borrow.Author.Count.{below_more}
 use Rattle.httpdate.specs.Date.{date_text}
 use Rattle.httpdate.specs.declared.date.HttpDate.{HttpDate}
