@@ -9,8 +9,13 @@ const DAYS: [u64; 3] = [946_684_800, 946_771_200, 946_857_600];
 
 const GATE: &[u8] = b"/timegate/http://a.example/";
 
-/// An index that holds one harvest of `http://a.example/` with mementos on these days.
-fn index_of(rt: &HostRuntime, mementos: &[(u64, &[u8])]) -> Result<Index, Fail> {
+/// Takes a harvest of `http://a.example/` with mementos at these seconds and addresses.
+fn take(
+    rt: &HostRuntime,
+    index: &mut Index,
+    revision: u64,
+    mementos: &[(u64, &[u8])],
+) -> Result<(), Fail> {
     let mut list = Vec::new(rt.alloc());
     for (at, uri) in mementos {
         let at = Moment::from_secs(*at).ok_or("no moment")?;
@@ -19,9 +24,15 @@ fn index_of(rt: &HostRuntime, mementos: &[(u64, &[u8])]) -> Result<Index, Fail> 
     }
     let archive = ArchiveName::new(b"arc.example").ok_or("no name")?;
     let original = Original::new(rt.alloc(), b"http://a.example/")?;
-    let harvest = Harvest::new(archive, &original, 7, list)?;
-    let mut index = Index::new(rt.alloc());
+    let harvest = Harvest::new(archive, &original, revision, list)?;
     index.absorb(&Merge::Harvest(harvest))?;
+    Ok(())
+}
+
+/// An index that has taken one harvest.
+fn index_of(rt: &HostRuntime, mementos: &[(u64, &[u8])]) -> Result<Index, Fail> {
+    let mut index = Index::new(rt.alloc());
+    take(rt, &mut index, 7, mementos)?;
     Ok(index)
 }
 
@@ -152,6 +163,14 @@ fn choices(rt: HostRuntime) -> Result<(), Fail> {
             b"http://m.example/1"
         )?
     );
+    let timemap = reply(&rt, &index, b"GET", b"/timemap/link/http://a.example/", &[])?;
+    assert!(rt;
+        timemap.body.as_slice().ends_with(
+            b"<http://m.example/2>; rel=\"memento\"; datetime=\"Mon, 03 Jan 2000 00:00:00 GMT\",
+<http://m.example/3>; rel=\"last memento\"; datetime=\"Mon, 03 Jan 2000 00:00:00 GMT\"
+"
+        )
+    );
     Ok(())
 }
 
@@ -171,7 +190,9 @@ fn timemaps(rt: HostRuntime) -> Result<(), Fail> {
     assert_eq!(rt; reply_of_two.body.as_slice().len(), 444);
     let head = reply(&rt, &one, b"HEAD", target, &[])?;
     assert!(rt; says(&rt, &head, 200, b"Content-Type: application/link-format\n")?);
-    let none = reply(&rt, &index_of(&rt, &[])?, b"GET", target, &[])?;
+    let mut emptied = one;
+    take(&rt, &mut emptied, 8, &[])?;
+    let none = reply(&rt, &emptied, b"GET", target, &[])?;
     assert!(rt; says(&rt, &none, 404, b"Content-Type: text/plain\nno memento\n")?);
     Ok(())
 }
