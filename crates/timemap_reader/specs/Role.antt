@@ -57,7 +57,7 @@ is_further_link link =
     has_relation (codes "timemap") link && not (has_relation (codes "self") link)
     && is_link_format (first_value (codes "type") link.params)
 
--- the second that the first `datetime` names, without the spaces and tabs round it (RFC 7089, section 2.2.3)
+-- the second that the first `datetime` names, without the spaces and tabs round it (RFC 7089, section 2.2.4)
 abbrev pub datetime_of : Link → Option ℕ
 datetime_of link = option_and_then (λ value. second_of (trim OfDates value)) (first_value (codes "datetime") link.params)
 
