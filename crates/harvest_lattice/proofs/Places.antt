@@ -1,7 +1,6 @@
 -- What stands at a place among rows in order.
-use Rattle.std.proofs.Common.{◌≡◌, ℕ, zero, suc, ◌+◌, ◌<◌, Bool, true, false, cond, ◌&&◌, map, length, get_or, List, [], ◌∷◌, Option, Some, None, Result, Ok, Err, IfOk, IfErr, inl, inr, refl, sym, ap, subst, ◌∙◌, arith}
+use Rattle.std.proofs.Common.{◌≡◌, ℕ, zero, suc, ◌+◌, ◌<◌, false, cond, map, length, get_or, List, [], ◌∷◌, Some, None, Result, Ok, Err, IfOk, IfErr, inl, inr, refl, sym, ap, subst, ◌∙◌, arith}
 use Rattle.std.specs.Prelude.{T}
-use Rattle.std.specs.declared.cmp.Ordering.{Ordering}
 use Rattle.std.specs.declared.cmp.Ordering.TheVariants.{Less, Equal, Greater}
 use Rattle.std.specs.Ordering.{eq_by_cmp, is_lt, is_eq, ordering_reverse}
 use Rattle.std.specs.Cmp.{tied_itself}
@@ -11,7 +10,7 @@ use Rattle.std.specs.List.Sorted.{IsSortedBy, IsSearchInRange, IsBinarySearchRes
 use Rattle.std.proofs.lemmas.List.Sorted.{searchable_from_sorted}
 use Rattle.std.proofs.lemmas.Bool.{cases_lt}
 use Rattle.harvest_lattice.specs.declared.row.Row.{Row}
-use Rattle.harvest_lattice.specs.Lattice.{Key, key_cmp, Kept, Entries}
+use Rattle.harvest_lattice.specs.Lattice.{Key, key_cmp}
 use Rattle.harvest_lattice.specs.Rows.{row_key, row_entry, RowsRise, IsPlaceOf, IsGapFor}
 use Rattle.harvest_lattice.proofs.Entries.{key_cmp_total, key_cmp_exact}
 use Rattle.harvest_lattice.proofs.Sets.{less_from, two_parts}

@@ -1,5 +1,5 @@
 -- Entries whose keys rise from each to the next.
-use Rattle.std.proofs.Common.{◌≡◌, ◌≢◌, ℕ, zero, suc, ◌+◌, ◌-◌, ◌<◌, ◌≤◌, Bool, true, false, ◌&&◌, map, length, get_or, List, [], ◌∷◌, refl, sym, ap, subst, ◌∙◌, arith}
+use Rattle.std.proofs.Common.{◌≡◌, ℕ, zero, suc, ◌+◌, ◌-◌, ◌<◌, ◌≤◌, Bool, true, false, map, length, get_or, List, [], ◌∷◌, refl, sym, ap, subst, ◌∙◌, arith}
 use Rattle.std.specs.Prelude.{T}
 use Rattle.std.specs.declared.cmp.Ordering.{Ordering}
 use Rattle.std.specs.declared.cmp.Ordering.TheVariants.{Less}
@@ -17,7 +17,7 @@ use Rattle.memento_time.proofs.MementoLemmas.{memento_cmp_total, memento_cmp_exa
 use Rattle.memento_time.specs.declared.mementos.Memento.{Memento}
 use Rattle.harvest_lattice.specs.Sets as set
 use Rattle.harvest_lattice.specs.declared.row.Row.{Row}
-use Rattle.harvest_lattice.specs.Lattice.{Key, key_cmp, Kept}
+use Rattle.harvest_lattice.specs.Lattice.{Key, key_cmp}
 use Rattle.harvest_lattice.specs.Rows.{row_key, row_entry}
 use Rattle.harvest_lattice.proofs.Sets.{keys_rise, firsts, less_from, both_parts}
 use Rattle.harvest_lattice.proofs.RowLemmas.{keys_rows}

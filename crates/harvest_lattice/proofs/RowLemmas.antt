@@ -1,6 +1,5 @@
 -- Rows as entries, and what putting them over a state gives.
-use Rattle.std.proofs.Common.{◌≡◌, Bool, true, false, cond, ◌++◌, map, length, List, [], ◌∷◌, Option, Some, None, refl, sym, ap, ◌∙◌}
-use Rattle.std.proofs.Common.{suc}
+use Rattle.std.proofs.Common.{◌≡◌, true, false, cond, ◌++◌, map, List, [], ◌∷◌, Option, Some, None, refl, sym, ap, ◌∙◌}
 use Rattle.std.specs.Prelude.{T}
 use Rattle.std.specs.Ordering.{eq_by_cmp, is_lt}
 use Rattle.std.specs.FinMap as fmap
@@ -14,7 +13,6 @@ use Rattle.harvest_lattice.proofs.Entries.{key_cmp_total, key_cmp_exact, get-joi
 use Rattle.harvest_lattice.proofs.Knowledge.{single, get-lat_one, same_key}
 use Rattle.harvest_lattice.proofs.Sets.{two_parts, both_parts}
 use Rattle.std.specs.FinMap.Entries.{below_all}
-use Rattle.std.proofs.Common.{◌&&◌}
 
 pub keys_rows : (rows : List Row) → map (λ (e : Key × Kept). e.0) (map row_entry rows) ≡ map row_key rows
 keys_rows [] = refl

@@ -1,5 +1,5 @@
 -- What slots hold, as the entries of a state.
-use Rattle.std.proofs.Common.{◌≡◌, ℕ, ◌+◌, Bool, true, false, cond, ◌&&◌, ◌++◌, map, List, [], ◌∷◌, Option, Some, None, is_some, IsSome, Result, Ok, Err, OnErr, refl, sym, ap, subst, ◌∙◌}
+use Rattle.std.proofs.Common.{◌≡◌, ℕ, ◌+◌, Bool, true, false, cond, ◌++◌, List, [], ◌∷◌, Option, Some, None, is_some, IsSome, Result, Ok, Err, OnErr, refl, sym, ap, subst, ◌∙◌}
 use Rattle.std.specs.Prelude.{T}
 use Rattle.std.specs.declared.cmp.Ordering.{Ordering}
 use Rattle.std.specs.declared.cmp.Ordering.TheVariants.{Less, Equal, Greater}
@@ -9,7 +9,7 @@ use Rattle.std.specs.Map.{lookup, keys_of}
 use Rattle.std.specs.BTreeMap as tree
 use Rattle.std.specs.BTreeMap.{is_at}
 use Rattle.std.specs.Ordering.{eq_by_cmp, is_lt, is_eq, ordering_then}
-use Rattle.std.specs.Cmp.{IsTotalOrder, tied_itself, Equal-is, eq_by_cmp_equiv}
+use Rattle.std.specs.Cmp.{tied_itself, Equal-is, eq_by_cmp_equiv}
 use Rattle.std.specs.Cmp.Lexicographic.{nat_list_cmp_total}
 use Rattle.std.specs.FinMap as fmap
 use Rattle.std.proofs.lemmas.Bool.{true≢false}

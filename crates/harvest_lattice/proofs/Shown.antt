@@ -3,8 +3,7 @@ use Rattle.std.proofs.Common.{◌≡◌, ℕ, Bool, true, false, cond, ◌&&◌,
 use Rattle.std.specs.Prelude.{T}
 use Rattle.std.specs.List.{list_any}
 use Rattle.std.specs.List.Sorted.{IsStrictlySortedBy}
-use Rattle.std.specs.Ordering.{eq_by_cmp, is_lt}
-use Rattle.std.specs.BTreeMap as tree
+use Rattle.std.specs.Ordering.{eq_by_cmp}
 use Rattle.std.specs.FinMap as fmap
 use Rattle.std.specs.FinMap.Entries.{below_all}
 use Rattle.std.proofs.lemmas.List.Folds.{list_any-append}
@@ -12,9 +11,9 @@ use Rattle.memento_time.specs.Mementos.{text_cmp, memento_cmp}
 use Rattle.memento_time.proofs.MementoLemmas.{memento_cmp_total, memento_cmp_exact}
 use Rattle.memento_time.specs.declared.mementos.Memento.{Memento}
 use Rattle.harvest_lattice.specs.Sets as set
-use Rattle.harvest_lattice.specs.Lattice.{Key, Kept, Entries, Mementos}
+use Rattle.harvest_lattice.specs.Lattice.{Key, Kept, Mementos}
 use Rattle.harvest_lattice.specs.Knowledge.{shown_of}
-use Rattle.harvest_lattice.specs.Shelves.{Slots, Shelves, filled, slot_rows, shelf_rows, all_rows, entries_of}
+use Rattle.harvest_lattice.specs.Shelves.{Slots, filled, slot_rows, shelf_rows, all_rows}
 use Rattle.harvest_lattice.proofs.Sets.{contains-from_list, two_parts}
 use Rattle.harvest_lattice.proofs.Entries.{same_mementos}
 use Rattle.harvest_lattice.proofs.Knowledge.{contains-shown_of}

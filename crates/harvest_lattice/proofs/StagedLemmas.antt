@@ -1,7 +1,6 @@
 -- What is shown once rows are put over what stands at their keys.
-use Rattle.std.proofs.Common.{◌≡◌, ℕ, Bool, true, false, cond, ◌&&◌, ◌||◌, map, List, [], ◌∷◌, Option, Some, None, is_some, IsSome, refl, sym, ap, subst, ◌∙◌}
-use Rattle.std.specs.Prelude.{T}
-use Rattle.std.specs.List.{list_any, filter, All}
+use Rattle.std.proofs.Common.{◌≡◌, ℕ, Bool, true, false, cond, ◌||◌, map, List, [], ◌∷◌, Option, Some, None, is_some, IsSome, refl, sym, ap, subst, ◌∙◌}
+use Rattle.std.specs.List.{list_any, All}
 use Rattle.std.specs.List.Sorted.{IsStrictlySortedBy}
 use Rattle.std.specs.Map.{lookup, keys_of}
 use Rattle.std.specs.Ordering.{eq_by_cmp, is_eq}
@@ -20,7 +19,7 @@ use Rattle.harvest_lattice.specs.Sets as set
 use Rattle.harvest_lattice.specs.Lattice.{Key, key_cmp, Kept, Entries, Mementos}
 use Rattle.harvest_lattice.specs.Knowledge.{shown_of, union_all}
 use Rattle.harvest_lattice.specs.Rows.{row_entry, row_key, put_all, or_else}
-use Rattle.harvest_lattice.specs.Shelves.{Slots, Shelves, slot_of, slot, filled, all_rows, entries_of}
+use Rattle.harvest_lattice.specs.Shelves.{Slots, Shelves, slot_of, slot, filled, all_rows}
 use Rattle.harvest_lattice.proofs.Entries.{key_cmp_total, key_cmp_exact}
 use Rattle.harvest_lattice.proofs.Knowledge.{same_key}
 use Rattle.harvest_lattice.proofs.RowLemmas.{get-put_all}

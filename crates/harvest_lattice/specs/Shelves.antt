@@ -5,7 +5,7 @@ use Rattle.std.specs.BTreeMap.{BTreeMap}
 use Rattle.std.specs.Coded.{Coded, coded_list, coded_option, coded_ℕ}
 use Rattle.std.specs.FinMap as fmap
 use Rattle.memento_time.specs.Mementos.{text_cmp}
-use Rattle.harvest_lattice.specs.Lattice.{Key, key_cmp, Kept, Entries, coded_kept}
+use Rattle.harvest_lattice.specs.Lattice.{Key, Kept, Entries, coded_kept}
 
 -- the slots of an archive: one for each original, which may be empty
 abbrev pub Slots : Type 0

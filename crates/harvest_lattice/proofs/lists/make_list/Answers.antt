@@ -1,8 +1,6 @@
-use Rattle.std.proofs.Common.{◌≡◌, [], List, ℕ, cond, Some, is_some, sym, ap, subst, ◌∙◌}
+use Rattle.std.proofs.Common.{is_some, sym, ap, ◌∙◌}
 use Rattle.std.specs.BTreeMap as tree
 use Rattle.memento_time.specs.Mementos.{text_cmp}
-use Rattle.memento_time.specs.declared.mementos.Memento.{Memento}
-use Rattle.harvest_lattice.specs.Lists.{list_of}
 use Rattle.harvest_lattice.proofs.ListLemmas.{empty_same, list_stay}
 use Rattle.harvest_lattice.proofs.lists.make_list.Goals as goal
 

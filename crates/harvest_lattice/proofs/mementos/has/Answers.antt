@@ -1,4 +1,4 @@
-use Rattle.std.proofs.Common.{sym, ◌∙◌}
+use Rattle.std.proofs.Common.{◌∙◌}
 use Rattle.harvest_lattice.proofs.Searched.{search_is}
 use Rattle.harvest_lattice.proofs.mementos.has.Goals as goal
 

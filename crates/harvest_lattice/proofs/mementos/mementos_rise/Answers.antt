@@ -1,5 +1,5 @@
-use Rattle.std.proofs.Common.{◌≡◌, sym, ◌∙◌}
-use Rattle.harvest_lattice.proofs.Rising.{mementos_risen, mementos_fallen, less_is, not_less}
+use Rattle.std.proofs.Common.{sym, ◌∙◌}
+use Rattle.harvest_lattice.proofs.Rising.{mementos_risen, mementos_fallen, not_less}
 use Rattle.harvest_lattice.proofs.mementos.mementos_rise.Goals as goal
 
 pub returns-then-not-is_lt : goal.returns-then-not-is_lt

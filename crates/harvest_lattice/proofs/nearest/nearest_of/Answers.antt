@@ -1,4 +1,4 @@
-use Rattle.std.proofs.Common.{◌≡◌, Some, cond, true, false, take, take_all, List, sym, ap, ◌∙◌}
+use Rattle.std.proofs.Common.{◌≡◌, Some, cond, take_all, List, sym, ap, ◌∙◌}
 use Rattle.std.specs.Ordering.{is_gt}
 use Rattle.memento_time.specs.declared.mementos.Memento.{Memento}
 use Rattle.harvest_lattice.specs.Maps.{join_values}

@@ -1,4 +1,4 @@
-use Rattle.std.proofs.Common.{◌≡◌, sym, ◌∙◌, arith}
+use Rattle.std.proofs.Common.{sym, ◌∙◌, arith}
 use Rattle.harvest_lattice.proofs.Rising.{rows_risen, rows_fallen, rows_more, less_is, not_less}
 use Rattle.harvest_lattice.proofs.row.rows_rise.Goals as goal
 

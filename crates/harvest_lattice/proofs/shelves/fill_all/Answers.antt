@@ -1,11 +1,11 @@
-use Rattle.std.proofs.Common.{◌≡◌, ◌+◌, ◌++◌, ℕ, cond, not, Bool, true, false, is_some, Some, IsSome, map, List, [], ◌∷◌, length, refl, sym, ap, ◌∙◌, arith}
+use Rattle.std.proofs.Common.{◌≡◌, ◌+◌, ◌++◌, cond, not, Bool, true, false, is_some, Some, IsSome, map, List, [], ◌∷◌, length, refl, sym, ap, ◌∙◌, arith}
 use Rattle.std.specs.List.{All}
 use Rattle.std.proofs.lemmas.List.Elements.{All-weaker, All-pop}
 use Rattle.std.specs.FinMap as fmap
 use Rattle.std.specs.BTreeMap.{IsOrdered}
 use Rattle.memento_time.specs.Mementos.{text_cmp}
 use Rattle.harvest_lattice.specs.declared.row.Row.{Row}
-use Rattle.harvest_lattice.specs.Lattice.{Key, key_cmp, Kept, Entries}
+use Rattle.harvest_lattice.specs.Lattice.{Key, key_cmp, Kept}
 use Rattle.harvest_lattice.specs.Rows.{row_key, row_entry, put_all}
 use Rattle.harvest_lattice.specs.Shelves.{Shelves, filled, slot, entries_of}
 use Rattle.std.specs.Ordering.{eq_by_cmp}

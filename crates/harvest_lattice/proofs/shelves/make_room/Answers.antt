@@ -1,4 +1,4 @@
-use Rattle.std.proofs.Common.{◌≡◌, Some, IsSome, ℕ, List, sym, ap, subst, ◌∙◌}
+use Rattle.std.proofs.Common.{◌≡◌, Some, IsSome, sym, ap, subst, ◌∙◌}
 use Rattle.std.specs.Option.{option_copied_mut}
 use Rattle.std.specs.BTreeMap as tree
 use Rattle.memento_time.specs.Mementos.{text_cmp}

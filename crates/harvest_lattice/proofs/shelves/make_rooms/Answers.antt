@@ -1,4 +1,4 @@
-use Rattle.std.proofs.Common.{◌≡◌, ◌<◌, ◌+◌, ℕ, get_or, IsSome, sym, ap, subst, ◌∙◌, arith, below_more}
+use Rattle.std.proofs.Common.{ℕ, get_or, IsSome, subst, ◌∙◌, below_more}
 use Rattle.std.proofs.lemmas.List.{get_or_default}
 use Rattle.harvest_lattice.specs.declared.row.Row.{Row}
 use Rattle.harvest_lattice.specs.Rows.{row_key}

@@ -1,4 +1,4 @@
-use Rattle.std.proofs.Common.{◌≡◌, sym, ◌∙◌}
+use Rattle.std.proofs.Common.{sym, ◌∙◌}
 use Rattle.harvest_lattice.proofs.ShelfLemmas.{new_shelf_same, new_shelf_stay}
 use Rattle.harvest_lattice.proofs.shelves.make_shelf.Goals as goal
 

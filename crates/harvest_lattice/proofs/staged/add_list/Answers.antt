@@ -1,4 +1,4 @@
-use Rattle.std.proofs.Common.{◌≡◌, map, sym, ap, ◌∙◌, List, ℕ}
+use Rattle.std.proofs.Common.{map, sym, ap, ◌∙◌, List, ℕ}
 use Rattle.harvest_lattice.specs.Sets as set
 use Rattle.harvest_lattice.specs.Knowledge.{shown_of}
 use Rattle.harvest_lattice.specs.Rows.{row_entry, put_all}

@@ -1,4 +1,4 @@
-use Rattle.std.proofs.Common.{◌≡◌, ◌<◌, ◌+◌, ℕ, get_or, IsSome, sym, ap, subst, ◌∙◌, below_more}
+use Rattle.std.proofs.Common.{ℕ, get_or, IsSome, subst, ◌∙◌, below_more}
 use Rattle.std.specs.BTreeMap as tree
 use Rattle.std.proofs.lemmas.List.{get_or_default}
 use Rattle.memento_time.specs.Mementos.{text_cmp}

@@ -1,4 +1,4 @@
-use Rattle.std.proofs.Common.{◌≡◌, ℕ, ◌<◌, get_or, map, IsSome}
+use Rattle.std.proofs.Common.{ℕ, ◌<◌, get_or, map, IsSome}
 use Rattle.std.specs.BTreeMap as tree
 use Rattle.memento_time.specs.Mementos.{text_cmp}
 use Rattle.harvest_lattice.specs.declared.row.Row.{Row}

@@ -1,8 +1,8 @@
-use Rattle.std.proofs.Common.{◌≡◌, map, List, Option, Some, None, refl, sym, ap, ◌∙◌}
+use Rattle.std.proofs.Common.{sym, ap, ◌∙◌}
 use Rattle.std.specs.FinMap as fmap
 use Rattle.harvest_lattice.specs.declared.row.Row.{Row}
-use Rattle.harvest_lattice.specs.Lattice.{Key, key_cmp, Kept}
-use Rattle.harvest_lattice.specs.Rows.{row_entry, or_else}
+use Rattle.harvest_lattice.specs.Lattice.{Key}
+use Rattle.harvest_lattice.specs.Rows.{or_else}
 use Rattle.harvest_lattice.specs.Shelves.{filled}
 use Rattle.harvest_lattice.proofs.Places.{find_place, find_gap}
 use Rattle.harvest_lattice.proofs.staged.standing.Goals as goal

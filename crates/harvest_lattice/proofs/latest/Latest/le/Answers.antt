@@ -1,10 +1,10 @@
-use Rattle.std.proofs.Common.{◌≡◌, ◌↔◌, IsTrue, ℕ, List, sym, ap, subst, ◌∙◌, arith}
+use Rattle.std.proofs.Common.{◌≡◌, sym, ap, ◌∙◌, arith}
 use Rattle.std.specs.declared.cmp.Ordering.TheVariants.{Equal}
 use Rattle.std.specs.List.{list_all}
 use Rattle.std.proofs.lemmas.Cmp.{ranked}
 use Rattle.memento_time.specs.Mementos.{memento_cmp}
 use Rattle.harvest_lattice.specs.Sets as set
-use Rattle.harvest_lattice.specs.Lattice.{Kept, Mementos, IsSubset, KeptAtMost}
+use Rattle.harvest_lattice.specs.Lattice.{Kept, Mementos}
 use Rattle.harvest_lattice.proofs.Searched.{subset_from_all, all_from_subset}
 use Rattle.harvest_lattice.proofs.latest.Latest.le.Goals as goal
 

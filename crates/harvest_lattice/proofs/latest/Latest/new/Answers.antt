@@ -1,4 +1,4 @@
-use Rattle.std.proofs.Common.{◌≡◌, sym, ap, ◌∙◌}
+use Rattle.std.proofs.Common.{sym, ap, ◌∙◌}
 use Rattle.harvest_lattice.specs.Rows.{mementos_rise}
 use Rattle.harvest_lattice.proofs.Rising.{rise_in_order}
 use Rattle.harvest_lattice.proofs.latest.Latest.new.Goals as goal

@@ -1,7 +1,6 @@
-use Rattle.std.proofs.Common.{◌≡◌, Option, None, Some, sym, ap, ◌∙◌}
+use Rattle.std.proofs.Common.{◌≡◌, sym, ap, ◌∙◌}
 use Rattle.std.specs.Option.{option_copied}
 use Rattle.std.specs.FinMap as map
-use Rattle.harvest_lattice.specs.Lattice.{Kept}
 use Rattle.harvest_lattice.specs.Shelves.{Slots, filled}
 use Rattle.harvest_lattice.proofs.ShelfLemmas.{get-slots}
 use Rattle.harvest_lattice.proofs.shelf.Shelf.held.Goals as goal

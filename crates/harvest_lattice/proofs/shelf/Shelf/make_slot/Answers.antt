@@ -1,6 +1,5 @@
-use Rattle.std.proofs.Common.{◌≡◌, true, false, is_some, IsSome, ℕ, List, Option, None, Some, sym, ap, subst, ◌∙◌}
+use Rattle.std.proofs.Common.{◌≡◌, false, is_some, IsSome, ℕ, List, None, sym, ap, subst, ◌∙◌}
 use Rattle.std.specs.FinMap as map
-use Rattle.harvest_lattice.specs.Lattice.{Kept}
 use Rattle.harvest_lattice.specs.Shelves.{Slots, filled}
 use Rattle.harvest_lattice.proofs.ShelfLemmas.{get-slots, slot_put, slot_same, slot_stay, slot_made}
 use Rattle.harvest_lattice.proofs.shelf.Shelf.make_slot.Goals as goal

@@ -1,5 +1,5 @@
-use Rattle.std.proofs.Common.{◌≡◌, OnOk, List, sym, ap, subst, ◌∙◌}
-use Rattle.harvest_lattice.specs.Lattice.{Key, Kept, Entries, join}
+use Rattle.std.proofs.Common.{◌≡◌, OnOk, List, ap, subst, ◌∙◌}
+use Rattle.harvest_lattice.specs.Lattice.{Key, Kept, Entries}
 use Rattle.harvest_lattice.specs.Rows.{put_all}
 use Rattle.harvest_lattice.proofs.RowLemmas.{put_joined}
 use Rattle.harvest_lattice.proofs.state.State.join.Goals as goal

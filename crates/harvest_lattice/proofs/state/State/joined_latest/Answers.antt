@@ -1,4 +1,4 @@
-use Rattle.std.proofs.Common.{◌≡◌, IfOk, Option, Some, None, sym, ap, subst, ◌∙◌}
+use Rattle.std.proofs.Common.{◌≡◌, IfOk, Some, None, sym, ap, subst, ◌∙◌}
 use Rattle.std.specs.Option.{option_copied}
 use Rattle.std.specs.FinMap as fmap
 use Rattle.harvest_lattice.specs.Lattice.{Key, Kept, Entries}

@@ -1,7 +1,7 @@
-use Rattle.std.proofs.Common.{◌≡◌, ◌++◌, [], ◌∷◌, List, map, OnOk, sym, ap, subst, ◌∙◌}
+use Rattle.std.proofs.Common.{◌≡◌, ◌++◌, [], ◌∷◌, List, map, sym, ap, subst, ◌∙◌}
 use Rattle.harvest_lattice.specs.declared.row.Row.{Row}
-use Rattle.harvest_lattice.specs.Lattice.{Key, Kept, Entries, join, joined_with}
-use Rattle.harvest_lattice.specs.Knowledge.{lat, key_of}
+use Rattle.harvest_lattice.specs.Lattice.{Key, Kept, joined_with}
+use Rattle.harvest_lattice.specs.Knowledge.{key_of}
 use Rattle.harvest_lattice.specs.Rows.{row_entry, put_all, RowsRise}
 use Rattle.harvest_lattice.proofs.Knowledge.{single}
 use Rattle.harvest_lattice.proofs.RowLemmas.{put_one}

@@ -1,7 +1,7 @@
-use Rattle.std.proofs.Common.{◌≡◌, ℕ, sym, ap, ◌∙◌, List}
+use Rattle.std.proofs.Common.{ℕ, sym, ap, ◌∙◌, List}
 use Rattle.std.specs.FinMap as fmap
-use Rattle.harvest_lattice.specs.Lattice.{Key, key_cmp, Kept, Entries}
-use Rattle.harvest_lattice.specs.Shelves.{Slots, Shelves, all_rows, entries_of}
+use Rattle.harvest_lattice.specs.Lattice.{key_cmp, Kept}
+use Rattle.harvest_lattice.specs.Shelves.{Slots, all_rows}
 use Rattle.harvest_lattice.proofs.state.State.new.Goals as goal
 
 pub invariant_of-result : goal.invariant_of-result

@@ -1,4 +1,4 @@
-use Rattle.std.proofs.Common.{◌≡◌, map, cond, Some, None, Option, true, sym, ap, ◌∙◌}
+use Rattle.std.proofs.Common.{◌≡◌, map, cond, Some, None, true, sym, ap, ◌∙◌}
 use Rattle.std.specs.FinMap as fmap
 use Rattle.harvest_lattice.specs.Lattice.{Entries}
 use Rattle.harvest_lattice.specs.Rows.{row_entry, put_all, keys_rise}

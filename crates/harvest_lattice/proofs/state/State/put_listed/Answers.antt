@@ -1,14 +1,14 @@
-use Rattle.std.proofs.Common.{◌≡◌, OnErr, Result, Ok, Err, map, List, sym, ap, subst, ◌∙◌, arith}
+use Rattle.std.proofs.Common.{◌≡◌, map, List, sym, ap, subst, ◌∙◌, arith}
 use Rattle.std.proofs.Common.{IsSome}
 use Rattle.std.specs.List.{All}
 use Rattle.std.specs.BTreeMap as tree
 use Rattle.std.specs.FinMap as fmap
 use Rattle.memento_time.specs.Mementos.{text_cmp}
 use Rattle.harvest_lattice.specs.declared.row.Row.{Row}
-use Rattle.harvest_lattice.specs.Lattice.{Key, Entries}
+use Rattle.harvest_lattice.specs.Lattice.{Entries}
 use Rattle.harvest_lattice.specs.Lists.{AreLists}
 use Rattle.harvest_lattice.specs.Rows.{row_entry, put_all}
-use Rattle.harvest_lattice.specs.Shelves.{Shelves, entries_of}
+use Rattle.harvest_lattice.specs.Shelves.{entries_of}
 use Rattle.harvest_lattice.proofs.ShelfLemmas.{same_entries, on_err}
 use Rattle.harvest_lattice.proofs.state.State.put_listed.Goals as goal
 

@@ -1,10 +1,7 @@
-use Rattle.std.proofs.Common.{◌≡◌, OnErr, Result, Ok, Err, map, sym, ap, ◌∙◌, arith}
-use Rattle.std.specs.BTreeMap.{IsOrdered}
+use Rattle.std.proofs.Common.{map, sym, ap, ◌∙◌, arith}
 use Rattle.std.specs.FinMap as fmap
-use Rattle.memento_time.specs.Mementos.{text_cmp}
-use Rattle.harvest_lattice.specs.Lattice.{Key, Entries}
+use Rattle.harvest_lattice.specs.Lattice.{Entries}
 use Rattle.harvest_lattice.specs.Rows.{row_entry, put_all}
-use Rattle.harvest_lattice.specs.Shelves.{Shelves, filled, slot, entries_of}
 use Rattle.harvest_lattice.proofs.ShelfLemmas.{same_entries, on_err}
 use Rattle.harvest_lattice.proofs.state.State.put_rows.Goals as goal
 

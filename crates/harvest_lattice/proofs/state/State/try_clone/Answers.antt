@@ -1,4 +1,4 @@
-use Rattle.std.proofs.Common.{◌≡◌, sym, ap, ◌∙◌}
+use Rattle.std.proofs.Common.{ap, ◌∙◌}
 use Rattle.harvest_lattice.specs.Lattice.{Entries, join}
 use Rattle.harvest_lattice.proofs.RowLemmas.{join_empty}
 use Rattle.harvest_lattice.proofs.state.State.try_clone.Goals as goal
