@@ -15,12 +15,13 @@ use Rattle.replica_world.specs.declared.event.Event.{Event}
 use Rattle.replica_world.specs.declared.event.Event.TheVariants.{Take, Send, Deliver, Receive, Restart, Ask}
 use Rattle.replica_world.specs.declared.event.Refused.TheVariants.{NoMemory}
 use Rattle.replica_world.specs.World.{World, Answer, Effect, RunsOut}
-use Rattle.replica_world.specs.Stands.{Kept, Stands, Steps}
+use Rattle.replica_world.specs.Stands.{Kept, Steps}
 use Rattle.replica_world.specs.Fields.{utf8_text}
 use Rattle.replica_world.specs.Script.{Taking}
-use Rattle.replica_world.specs.Output.{Happens, TakesHarvest, IsPage, RefusedAs, answer_text, taken_line, harvest_of, refused}
-use Rattle.replica_world.specs.Performing.{Reaches, IsHappening, IsHarvestTaken}
+use Rattle.replica_world.specs.Output.{Happens, IsPage, answer_text, taken_line, harvest_of, refused}
+use Rattle.replica_world.specs.Performing.{IsHappening, IsHarvestTaken}
 
+-- an event that ran out of memory says so
 ran_out : (w : World) (event : Event) (answer : Answer) (next : World) → RunsOut w event answer next → answer ≡ Err NoMemory
 ran_out w (Take i h) answer next out = out.0
 ran_out w (Send i) answer next out = out.0
@@ -29,11 +30,13 @@ ran_out w (Receive i bytes) answer next out = out.0
 ran_out w (Restart i) answer next out = absurd out
 ran_out w (Ask i q) answer next out = out.0
 
+-- any other answer is the event's effect
 took_effect : (base : List ℕ) (w : World) (event : Event) (answer : Answer) (next : World) → answer ≢ Err NoMemory → Effect base w event answer next ⊎ RunsOut w event answer next
     → Effect base w event answer next
 took_effect base w event answer next memory (inl effect) = effect
 took_effect base w event answer next memory (inr out) = absurd (memory (ran_out w event answer next out))
 
+-- the event happened in each world that is stood for
 happened : (old new : Kept) (accepted : List ℕ) (event : Event) (answer : Answer) (text : List ℕ) → Steps old event answer new → answer ≢ Err NoMemory → text ≡ answer_text accepted answer
     → IsHappening old accepted event text new
 happened old new accepted event answer text steps memory text_is = (
@@ -50,9 +53,11 @@ pub happened_if : {V E : Type 0} (items : V → List ℕ) (old new : Kept) (acce
 happened_if items old new accepted event answer (Ok text) steps text_is memory = happened old new accepted event answer (items text) steps memory text_is
 happened_if items old new accepted event answer (Err e) steps text_is memory = tt
 
+-- the mementos of a page are as many as their set has
 set_of_page : (list : List Memento) → IsStrictlySortedBy memento_cmp list → length (set.items (set.from_list {R = memento_cmp} list)) ≡ length list
 set_of_page list sorted = ap (λ (l : List Memento). length l) (items_in_order list sorted)
 
+-- the event that takes a harvest takes the page's
 harvest_taken : (old new : Kept) (t : Taking) (original : List ℕ) (page : Page) (harvest : Harvested) (text : List ℕ) → IsArchiveName t.archive → IsStrictlySortedBy memento_cmp page.mementos
     → harvest ≡ harvest_of t original page → length (set.items harvest.mementos) ≤ 100000 → IsHappening old (taken_line page) (Take t.replica harvest) text new
     → IsHarvestTaken old t original page text new
@@ -80,6 +85,7 @@ harvest_taken_if items old new t original page archive mementos harvest accepted
     few
     (subst (λ (a : List ℕ). IsHappening old a (Take t.replica harvest) (items text) new) accepted_is happening)
 
+-- a page of too many mementos is refused
 pub harvest_too_large_if : {V E : Type 0} (items : V → List ℕ) (old new : Kept) (t : Taking) (original : List ℕ) (page : Page) (archive : List ℕ) (mementos : List Memento) (result : Result V E)
     → SomeIff (Some archive) (IsArchiveName t.archive) t.archive → IsStrictlySortedBy memento_cmp page.mementos → mementos ≡ page.mementos
     → 100000 < length (set.items (set.from_list {R = memento_cmp} mementos)) → IfOk result (λ text. items text ≡ refused (codes "too many")) → new ≡ old
@@ -92,6 +98,7 @@ harvest_too_large_if items old new t original page archive mementos (Ok text) na
     subst (λ (new : Kept). IsHarvestTaken old t original page (items text) new) (sym same)
     (refl, λ w stands. record { next = w; written = inr (name.0, inl (long, (refusal, refl))); kept = stands })
 
+-- the mementos of a page are in order
 pub page_sorted : (address body : List ℕ) (page : Page) → IsPage address body page → IsStrictlySortedBy memento_cmp page.mementos
 page_sorted address body page = sorted (utf8_text address) where
   sorted : (o : Option (List ℕ)) → MatchOption o ⊥ (λ base. IsAnswer base body (Ok page)) → IsStrictlySortedBy memento_cmp page.mementos

@@ -1,5 +1,5 @@
 -- A script has one output: each command writes one text, and leads to one world.
-use Rattle.std.proofs.Common.{◌≡◌, ℕ, ◌<◌, ◌≤◌, ◌⊎◌, List, [], ◌∷◌, ◌++◌, length, Option, Some, None, Ok, inl, inr, refl, sym, ap, ◌∙◌, append_assoc, append-nil, arith, subst}
+use Rattle.std.proofs.Common.{◌≡◌, ℕ, ◌⊎◌, List, [], ◌∷◌, ◌++◌, Option, Some, None, Ok, inl, inr, refl, sym, ap, ◌∙◌, append_assoc, append-nil, arith, subst}
 use Rattle.std.specs.Prelude.{MatchOption}
 use Rattle.timemap_reader.specs.Answer.{IsAnswer}
 use Rattle.timemap_reader.specs.declared.page.Page.{Page}
@@ -7,12 +7,11 @@ use Rattle.harvest_lattice.specs.Lattice.{Entries}
 use Rattle.replica_exchange.proofs.StateLemmas.{one_text}
 use Rattle.replica_world.specs.declared.event.Event.{Event}
 use Rattle.replica_world.specs.declared.event.Event.TheVariants.{Take, Send, Deliver, Receive, Restart, Ask}
-use Rattle.replica_world.specs.declared.event.Said.{Said}
-use Rattle.replica_world.specs.World.{World, Answer, Effect, start, IsText, IfText, IfWithinLimit, Accepts, Refuses, replica, message}
+use Rattle.replica_world.specs.World.{World, Answer, Effect, start, IfText, replica, message}
 use Rattle.replica_world.specs.Fields.{utf8_text}
 use Rattle.replica_world.specs.Script as script
 use Rattle.replica_world.specs.Script.{Command, Taking, Start}
-use Rattle.replica_world.specs.Output.{Happens, RefusedAs, IsPage, TakesHarvest, TakesPage, Performs, Says, Writes, IsOutput, answer_text, taken_line, harvest_of}
+use Rattle.replica_world.specs.Output.{Happens, IsPage, TakesHarvest, Performs, Says, Writes, IsOutput, answer_text, taken_line, harvest_of}
 
 -- a base and a body have at most one page
 abbrev pub OnePage : Type 0
@@ -29,6 +28,7 @@ either_once P Q F G apart f g a n b m (inl p) (inr q) = absurd (apart p.0 q.0)
 either_once P Q F G apart f g a n b m (inr p) (inl q) = absurd (apart q.0 p.0)
 either_once P Q F G apart f g a n b m (inr p) (inr q) = g a n b m p.1 q.1
 
+-- where there is something, and where there is nothing
 match_once : {A X : Type 0} (o : Option X) (F : A → World → Type 0) (G : X → A → World → Type 0) → Once F → ((x : X) → Once (G x)) → Once (λ a n. MatchOption o (F a n) (λ x. G x a n))
 match_once None F G f g a n b m p q = f a n b m p q
 match_once (Some x) F G f g a n b m p q = g x a n b m p q
@@ -39,6 +39,7 @@ match_once (Some x) F G f g a n b m p q = g x a n b m p q
 named_once : {A : Type 0} (x : A) (w : World) → Once (λ a n. (a ≡ x) × (n ≡ w))
 named_once x w a n b m p q = (p.0 ∙ sym q.0, p.1 ∙ sym q.1)
 
+-- bytes are the text of one state at most
 text_once : (bytes : List ℕ) (F : Entries → Answer → World → Type 0) (G : Answer → World → Type 0) → ((s : Entries) → Once (F s)) → Once G
     → Once (IfText bytes F G)
 text_once bytes F G f g a n b m (inl (s, p, x)) (inl (t, q, y)) =
@@ -48,6 +49,7 @@ text_once bytes F G f g a n b m (inl (s, p, x)) (inr (none, y)) = absurd (none s
 text_once bytes F G f g a n b m (inr (none, x)) (inl (t, q, y)) = absurd (none t q)
 text_once bytes F G f g a n b m (inr (none, x)) (inr (same, y)) = g a n b m x y
 
+-- an event in a world has one answer, and leads to one world
 pub effect_once : (base : List ℕ) (w : World) (event : Event) → Once (Effect base w event)
 effect_once base w (Take i h) = match_once (replica w i) _ _ (named_once _ _) (λ r. named_once _ _)
 effect_once base w (Send i) = match_once (replica w i) _ _ (named_once _ _) (λ r. named_once _ _)
@@ -61,22 +63,26 @@ effect_once base w (Ask i q) = match_once (replica w i) _ _ (named_once _ _) (λ
 
 -- ---- commands
 
+-- so it writes one text
 happens_once : (base : List ℕ) (w : World) (accepted : List ℕ) (event : Event) → Once (Happens base w accepted event)
 happens_once base w accepted event a n b m (x, p, p_is) (y, q, q_is) =
     let once = effect_once base w event x n y m p q in
     (p_is ∙ ap (answer_text accepted) once.0 ∙ sym q_is, once.1)
 
+-- a page of mementos is refused in one way, or taken
 takes_harvest_once : (base : List ℕ) (w : World) (t : Taking) (original : List ℕ) (page : Page) → Once (TakesHarvest base w t original page)
 takes_harvest_once base w t original page =
     either_once _ _ _ _ (λ no yes. no yes) (named_once _ _)
     (either_once _ _ _ _ (λ many few. omega (arith, few, many)) (named_once _ _) (happens_once base w (taken_line page) (Take t.replica (harvest_of t original page))))
 
+-- also at an address that need not be UTF-8
 one_page_is : OnePage → (address body : List ℕ) (p q : Page) → IsPage address body p → IsPage address body q → p ≡ q
 one_page_is one address body p q = both (utf8_text address) where
   both : (o : Option (List ℕ)) → MatchOption o ⊥ (λ base. IsAnswer base body (Ok p)) → MatchOption o ⊥ (λ base. IsAnswer base body (Ok q)) → p ≡ q
   both None x y = absurd x
   both (Some base) x y = one base body p q x y
 
+-- bytes are one page, or none
 page_once : OnePage → (address body : List ℕ) (F : Page → List ℕ → World → Type 0) (G : List ℕ → World → Type 0) → ((page : Page) → Once (F page)) → Once G
     → Once (λ a n. (((page : Page) → ¬ (IsPage address body page)) × G a n) ⊎ ((page : Page) × IsPage address body page × F page a n))
 page_once one address body F G f g a n b m (inl (none, x)) (inl (same, y)) = g a n b m x y
@@ -85,11 +91,13 @@ page_once one address body F G f g a n b m (inr (page, is, x)) (inl (none, y)) =
 page_once one address body F G f g a n b m (inr (page, is, x)) (inr (other, also, y)) =
     f other a n b m (subst (λ (p : Page). F p a n) (one_page_is one address body page other is also) x) y
 
+-- so each command writes one text
 pub performs_once : OnePage → (base : List ℕ) (w : World) (command : Command) → Once (Performs base w command)
 performs_once one base w (script.Take t) =
     match_once _ _ _ (named_once _ _) (λ original. page_once one t.address t.body _ _ (λ page. takes_harvest_once base w t original page) (named_once _ _))
 performs_once one base w (script.Step event) = happens_once base w _ event
 
+-- and so do commands in turn
 pub says_once : OnePage → (base : List ℕ) (w : World) (commands : List Command) → Once (Says base w commands)
 says_once one base w [] a n b m p q = named_once [] w a n b m p q
 says_once one base w (command ∷ commands) a n b m (x, u, xs, p, ps, a_is) (y, v, ys, q, qs, b_is) =
@@ -97,15 +105,18 @@ says_once one base w (command ∷ commands) a n b m (x, u, xs, p, ps, a_is) (y, 
     let later = says_once one base v commands xs n ys m (subst (λ (w : World). Says base w commands xs n) first.1 ps) qs in
     (a_is ∙ ap (λ (t : List ℕ). t ++ xs) first.0 ∙ ap (λ (t : List ℕ). y ++ t) later.0 ∙ sym b_is, later.1)
 
+-- from a new world too
 writes_once : OnePage → (begin : Option Start) (commands : List Command) (a b : List ℕ) → Writes begin commands a → Writes begin commands b → a ≡ b
 writes_once one None commands a b p q = p ∙ sym q
 writes_once one (Some s) commands a b (n, p) (m, q) = (says_once one s.base (start s.replicas) commands a n b m p q).0
 
+-- so a script has one output
 pub output_once : OnePage → (text output other : List ℕ) → IsOutput text output → IsOutput text other → output ≡ other
 output_once one text output other p q = writes_once one (script.script_of text).start (script.script_of text).commands.list output other p q
 
 -- ---- commands one after the other
 
+-- what commands write is what the first of them write, and then the others
 pub says_split : (base : List ℕ) (w : World) (before after : List Command) (text : List ℕ) (end : World) → Says base w (before ++ after) text end
     → (said : List ℕ) × (mid : World) × (more : List ℕ) × Says base w before said mid × Says base mid after more end × (text ≡ said ++ more)
 says_split base w [] after text end says = ([], w, text, (refl, refl), says, refl)
@@ -113,6 +124,7 @@ says_split base w (command ∷ before) after text end (first, next, later, perfo
     let rest = says_split base next before after later end says in
     (first ++ rest.0, rest.1, rest.2, (first, next, rest.0, performs, rest.3, refl), rest.4, text_is ∙ ap (λ (t : List ℕ). first ++ t) rest.5 ∙ sym (append_assoc first rest.0 rest.2))
 
+-- commands, and one more
 pub says_push : (base : List ℕ) (w : World) (before : List Command) (said : List ℕ) (mid : World) (command : Command) (text : List ℕ) (next : World)
     → Says base w before said mid → Performs base mid command text next → Says base w (before ++ command ∷ []) (said ++ text) next
 says_push base w [] said mid command text next (said_is, mid_is) performs =

@@ -1,8 +1,7 @@
 -- A body that is refused is no page.
-use Rattle.std.proofs.Common.{◌≡◌, ◌≢◌, ℕ, ◌<◌, List, Ok, Err, Option, Some, None, refl, sym, ◌∙◌, subst, arith}
+use Rattle.std.proofs.Common.{◌≡◌, ◌≢◌, ℕ, List, Ok, Err, Option, Some, None, refl, sym, ◌∙◌, subst, arith}
 use Rattle.std.specs.Prelude.{MatchOption}
 use Rattle.std.proofs.lemmas.Option.{same_Some}
-use Rattle.url.specs.Parts.{Parts}
 use Rattle.link_format.specs.Grammar.{Link, Reading}
 use Rattle.link_format.specs.Limits as link
 use Rattle.link_format.specs.Limits.{FewLinks, FewParams, ShortTargets}
@@ -16,9 +15,11 @@ use Rattle.timemap_reader.specs.Answer.{IsAnswer}
 use Rattle.replica_world.specs.Fields.{utf8_text}
 use Rattle.replica_world.specs.Output.{IsPage}
 
+-- a text has one reading
 one_reading : (text : List ℕ) (links other : List Link) → Reading text links → Reading text other → links ≡ other
 one_reading text links other p q = same_Some links other (sym (reading_complete p) ∙ reading_complete q)
 
+-- a text whose links are refused has none
 no_links : (text : List ℕ) (fault : LinkFault) (links : List Link) → fault ≢ link_fault.NoMemory → link.IsAnswer text (Err fault) → link.IsAnswer text (Ok links) → ⊥
 no_links text (link_fault.NotLinkFormat at) links memory none (reading, few, params, targets) = none links reading
 no_links text link_fault.TooManyLinks links memory (other, read, passed) (reading, few, params, targets) =
@@ -36,6 +37,7 @@ no_answer base body (Links fault) page memory (also_short, refused, linked) (lin
 no_answer base body BadBase page memory (other, also_short, also_read, none) (links, url, short, read, at, is) = let same : None ≡ Some url = sym none ∙ at in cc
 no_answer base body NoMemory page memory refused is = memory refl
 
+-- nor has an address and a body
 pub no_page : (address text body : List ℕ) (fault : PageFault) → utf8_text address ≡ Some text → fault ≢ NoMemory → IsAnswer text body (Err fault)
     → (page : Page) → IsPage address body page → ⊥
 no_page address text body fault address_is memory refused page is =

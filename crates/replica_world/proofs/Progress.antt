@@ -1,11 +1,11 @@
 -- A replay's loop over the commands of a text.
-use Rattle.std.proofs.Common.{◌≡◌, ℕ, Bool, true, false, ◌==◌, zero, suc, ◌+◌, ◌<◌, ◌≤◌, List, [], ◌∷◌, ◌++◌, length, Option, Some, None, Result, Ok, Err, refl, sym, ap, ◌∙◌, append_assoc, append-nil, arith, subst}
+use Rattle.std.proofs.Common.{◌≡◌, ℕ, Bool, true, false, ◌==◌, zero, suc, ◌<◌, ◌≤◌, List, [], ◌∷◌, ◌++◌, length, Option, Some, None, Result, Ok, Err, refl, sym, ap, ◌∙◌, append_assoc, append-nil, arith, subst}
 use Rattle.std.specs.Option.{option_map}
 use Rattle.std.proofs.lemmas.Grind.{common_steps}
 use Rattle.std.specs.Io.KnownBytes.{Appends}
 use Rattle.std.proofs.KnownBytes.{Appends-nil, Appends-trans}
 use Rattle.replica_world.specs.declared.replaying.fault.ReplayFault.{ReplayFault}
-use Rattle.replica_world.specs.declared.replaying.fault.ReplayFault.TheVariants.{BadLine, Read, Write, NoMemory}
+use Rattle.replica_world.specs.declared.replaying.fault.ReplayFault.TheVariants.{BadLine, Write, NoMemory}
 use Rattle.replica_world.specs.World.{World, start}
 use Rattle.replica_world.specs.Stands.{Kept, Stands}
 use Rattle.replica_world.specs.Devices.{AppendsBeginning}
@@ -21,6 +21,7 @@ use Rattle.replica_world.proofs.Once.{OnePage, says_once, performs_once, says_sp
 abbrev pub read_before : List Command → Commands → Commands
 read_before before later = record { list = before ++ later.list; bad = later.bad }
 
+-- the command at the front, and those behind it
 commands_next : (bytes : ℕ) (rest next after : List ℕ) (command : Command) → 0 < length rest → length rest ≤ bytes → command_at rest ≡ Some (command, after)
     → next ≡ after_empty_lines after → length next < length rest
     → (fewer : ℕ) × (length next ≤ fewer) × (commands_within bytes rest ≡ read_before (command ∷ []) (commands_within fewer next))
@@ -34,12 +35,14 @@ commands_next (suc bytes) (b ∷ rest) next after command some most is next_is s
       ∙ ap (λ (text : List ℕ). read_before (command ∷ []) (commands_within bytes text)) (sym next_is),
 )
 
+-- a bad line at the front
 commands_bad : (bytes : ℕ) (rest : List ℕ) → 0 < length rest → length rest ≤ bytes → command_at rest ≡ None → commands_within bytes rest ≡ record { list = []; bad = Some rest }
 unfolding commands_within
 commands_bad bytes [] some most is = absurd (omega arith)
 commands_bad zero (b ∷ rest) some most is = absurd (omega arith)
 commands_bad (suc bytes) (b ∷ rest) some most is = ap (λ (found : Found). onward (b ∷ rest) found (λ rest. commands_within bytes (after_empty_lines rest))) is
 
+-- the end of the text
 commands_none : (bytes : ℕ) (rest : List ℕ) → length rest ≡ 0 → commands_within bytes rest ≡ record { list = []; bad = None }
 unfolding commands_within
 commands_none zero rest none = refl
@@ -61,6 +64,7 @@ pub record Progress (base : List ℕ) (w : World) (text : List ℕ) (kept : Kept
   pub commands_are : commands_of text ≡ read_before before (commands_within bytes rest)
   pub written : Appends old new said
 
+-- before the first command
 pub progress_start : (w : World) (text rest : List ℕ) (kept : Kept) (old : Option (List ℕ)) → Stands kept w → rest ≡ after_empty_lines text → length rest ≤ length text
     → Progress kept.base w text kept rest old old
 unfolding commands_of
@@ -77,9 +81,11 @@ progress_start w text rest kept old stands rest_is within = record {
   written = Appends-nil old;
 }
 
+-- a command after those read before
 read_before-push : (before : List Command) (command : Command) (later : Commands) → read_before before (read_before (command ∷ []) later) ≡ read_before (before ++ command ∷ []) later
 read_before-push before command later = ap (λ (l : List Command). record { list = l; bad = later.bad }) (sym (append_assoc before (command ∷ []) later.list))
 
+-- one command more was performed, and its text written
 pub progress_next : (base : List ℕ) (w : World) (text : List ℕ) (kept next_kept : Kept) (rest next : List ℕ) (old mid new : Option (List ℕ)) (said bytes : List ℕ)
     → Progress base w text kept rest old mid → 0 < length rest → IsFirstPerformed kept rest said next next_kept → length next < length rest → bytes ≡ said → Appends mid new bytes
     → Progress base w text next_kept next old new
@@ -110,12 +116,14 @@ all_said base w text kept rest old new bad p last =
     p.commands_are ∙ ap (read_before p.before) last ∙ ap (λ (l : List Command). record { list = l; bad = bad }) (append-nil p.before) in
     (subst (λ (l : List Command). Says base w l p.said p.mid) (sym (ap (λ (c : Commands). c.list) all)) p.says, ap (λ (c : Commands). c.bad) all)
 
+-- the loop ends at the end of the text
 pub progress_end : (base : List ℕ) (w : World) (script text : List ℕ) (kept : Kept) (rest : List ℕ) (old new : Option (List ℕ)) (u : Unit {0})
     → Progress base w text kept rest old new → length rest ≡ 0 → ReplaysFrom base w script text old new (Ok u)
 progress_end base w script text kept rest old new u p none =
     let all = all_said base w text kept rest old new None p (commands_none p.bytes rest none) in
     (p.said, (p.mid, all.0), p.written, ap (option_map (number_of_line script)) all.1)
 
+-- it ends at a bad line
 pub progress_bad : (base : List ℕ) (w : World) (script text : List ℕ) (kept : Kept) (rest : List ℕ) (old new : Option (List ℕ)) (n : ℕ)
     → Progress base w text kept rest old new → 0 < length rest → command_at rest ≡ None → n ≡ number_of_line script rest → ReplaysFrom base w script text old new (Err (BadLine n))
 progress_bad base w script text kept rest old new n p some is number =
@@ -157,11 +165,13 @@ progress_unwritten one base w text kept next_kept rest next old mid new said p s
 
 -- ---- in the words of the code
 
+-- it ends for want of memory
 pub progress_out_of_memory : OnePage → (base : List ℕ) (w : World) (script text : List ℕ) (kept : Kept) (rest : List ℕ) (old new : Option (List ℕ)) (result : Result (Unit {0}) ReplayFault)
     → Progress base w text kept rest old new → result ≡ Err NoMemory → ReplaysFrom base w script text old new result
 progress_out_of_memory one base w script text kept rest old new result p result_is =
     subst (λ (r : Result (Unit {0}) ReplayFault). ReplaysFrom base w script text old new r) (sym result_is) (progress_broken one base w text kept rest old new p)
 
+-- it ends as a write fails
 pub progress_cut : OnePage → (base : List ℕ) (w : World) (script text : List ℕ) (kept next_kept : Kept) (rest next : List ℕ) (old mid new : Option (List ℕ)) (said bytes : List ℕ) (result : Result (Unit {0}) ReplayFault)
     → Progress base w text kept rest old mid → 0 < length rest → IsFirstPerformed kept rest said next next_kept → length next < length rest → bytes ≡ said → AppendsBeginning mid new bytes
     → result ≡ Err Write → ReplaysFrom base w script text old new result
@@ -169,6 +179,7 @@ progress_cut one base w script text kept next_kept rest next old mid new said by
     subst (λ (r : Result (Unit {0}) ReplayFault). ReplaysFrom base w script text old new r) (sym result_is)
     (progress_unwritten one base w text kept next_kept rest next old mid new said p some performed shorter (subst (λ (b : List ℕ). AppendsBeginning mid new b) bytes_are wrote))
 
+-- what the loop's test says
 pub some_left : (rest : List ℕ) (empty : Bool) → empty ≡ (length rest == 0) → empty ≡ false → 0 < length rest
 some_left [] empty is not_empty = let both : true ≡ false = sym is ∙ not_empty in cc
 some_left (b ∷ rest) empty is not_empty = omega arith
@@ -178,29 +189,35 @@ none_left rest empty is all = let both : (length rest == 0) ≡ true = sym is �
 
 -- ---- a whole script
 
+-- a script is replayed as what it is read as
 replays_as : (text : List ℕ) (script : Script) (old new : Option (List ℕ)) (result : Result (Unit {0}) ReplayFault) → script_of text ≡ script
     → Replayed (Writes script.start script.commands.list) (option_map (number_of_line text) script.commands.bad) old new result → Replays text old new result
 replays_as text script old new result is replayed =
     subst (λ (s : Script). Replayed (Writes s.start s.commands.list) (option_map (number_of_line text) s.commands.bad) old new result) (sym is) replayed
 
+-- a script of empty lines
 script_none : (text rest : List ℕ) → rest ≡ after_empty_lines text → length rest ≡ 0 → script_of text ≡ record { start = None; commands = record { list = []; bad = None } }
 unfolding script_of
 script_none text [] rest_is none = ap script_from (sym rest_is)
 script_none text (b ∷ rest) rest_is none = absurd (omega arith)
 
+-- a script with a first line
 script_at : (text rest : List ℕ) → rest ≡ after_empty_lines text → 0 < length rest → script_of text ≡ begun rest (start_at rest)
 unfolding script_of
 script_at text [] rest_is some = absurd (omega arith)
 script_at text (b ∷ rest) rest_is some = ap script_from (sym rest_is)
 
+-- nothing is written of the first
 pub replays_nothing : (text rest : List ℕ) (old : Option (List ℕ)) (u : Unit {0}) → rest ≡ after_empty_lines text → length rest ≡ 0 → Replays text old old (Ok u)
 replays_nothing text rest old u rest_is none = replays_as text _ old old (Ok u) (script_none text rest rest_is none) ([], refl, Appends-nil old, refl)
 
+-- nor of one with a bad first line
 pub replays_bad_start : (text rest : List ℕ) (old : Option (List ℕ)) (n : ℕ) → rest ≡ after_empty_lines text → 0 < length rest → start_at rest ≡ None → n ≡ number_of_line text rest
     → Replays text old old (Err (BadLine n))
 replays_bad_start text rest old n rest_is some is number =
     replays_as text _ old old (Err (BadLine n)) (script_at text rest rest_is some ∙ ap (begun rest) is) ([], refl, Appends-nil old, ap (λ (k : ℕ). Some k) (sym number))
 
+-- the commands of any other are replayed in a new world
 pub replays_on : (text rest after : List ℕ) (begin : Start) (kept : Kept) (old new : Option (List ℕ)) (result : Result (Unit {0}) ReplayFault) → rest ≡ after_empty_lines text → 0 < length rest
     → start_at rest ≡ Some (begin, after) → Stands kept (start begin.replicas) → kept.base ≡ begin.base
     → ((w : World) → Stands kept w → ReplaysFrom kept.base w text after old new result) → Replays text old new result

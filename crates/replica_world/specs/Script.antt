@@ -1,5 +1,5 @@
 -- A script as a list of commands: what each line says, with the block or the lines that follow it.
-use Rattle.std.specs.Prelude.{◌≡◌, ℕ, zero, suc, ◌+◌, ◌-◌, ◌&&◌, List, [], ◌∷◌, ◌++◌, length, take, Option, None, Some, nat_lt, nat_le, ◌==◌, if◌then◌else◌, count_by, codes, bytes_eq}
+use Rattle.std.specs.Prelude.{ℕ, zero, suc, ◌+◌, ◌-◌, ◌&&◌, List, [], ◌∷◌, ◌++◌, length, take, Option, None, Some, nat_le, ◌==◌, if◌then◌else◌, count_by, codes, bytes_eq}
 use Rattle.std.specs.Option.{option_map, option_and_then}
 use Rattle.std.specs.List.{list_all}
 use Rattle.timegate.specs.declared.request.Request.{Request}

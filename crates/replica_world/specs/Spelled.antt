@@ -1,5 +1,4 @@
 -- What the code reads of a script, as the definitions have it.
-use Rattle.std.specs.Prelude.{ℕ, List}
 use Rattle.replica_world.specs.declared.replaying.command.Command as code
 use Rattle.replica_world.specs.declared.replaying.command.Command.TheVariants as spelled
 use Rattle.replica_world.specs.declared.replaying.command.Taking.{Taking as SpelledTaking}

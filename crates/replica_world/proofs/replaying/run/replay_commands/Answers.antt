@@ -1,7 +1,6 @@
-use Rattle.std.proofs.Common.{◌≡◌, ◌<◌, ◌∙◌, Err, length, arith, ap}
+use Rattle.std.proofs.Common.{◌<◌, ◌∙◌, Err, length, arith, ap}
 use Rattle.std.proofs.lemmas.Result.{err_from_is_err_and}
 use Rattle.replica_world.specs.declared.replaying.fault.ReplayFault.{ReplayFault}
-use Rattle.replica_world.specs.declared.replaying.fault.ReplayFault.TheVariants.{Write}
 use Rattle.replica_world.proofs.Progress.{progress_start, progress_end, progress_bad, progress_next, progress_out_of_memory, progress_cut, some_left, none_left}
 use Rattle.replica_world.proofs.replaying.run.replay_commands.Goals as goal
 
