@@ -73,10 +73,11 @@ fn replicas_that_told_each_other(rt: HostRuntime) -> Result<(), Fail> {
     events.push(Event::Ask(2, timemap(&rt)?))?;
     let answers = world.run(&events)?;
     assert_eq!(rt; TIMEMAP.len(), 444);
-    assert!(rt; matches!(answers[1], Ok(Said::Taken)));
-    assert!(rt; matches!(answers[3], Ok(Said::Sent(2))));
-    assert!(rt; matches!(answers[5], Ok(Said::Joined)));
-    for answer in &answers[6..] {
+    assert!(rt; matches!(answers.get(1), Some(Ok(Said::Taken))));
+    assert!(rt; matches!(answers.get(3), Some(Ok(Said::Sent(2)))));
+    assert!(rt; matches!(answers.get(5), Some(Ok(Said::Joined))));
+    assert_eq!(rt; answers.len(), 8);
+    for answer in answers.iter().skip(6) {
         let reply = reply_of(answer).ok_or("no reply")?;
         assert_eq!(rt; reply.status, 200);
         assert_eq!(rt; reply.body.as_slice(), TIMEMAP);
@@ -131,8 +132,9 @@ fn restarts(rt: HostRuntime) -> Result<(), Fail> {
 #[test]
 fn deliveries_in_any_order(rt: HostRuntime) -> Result<(), Fail> {
     let mut world = World::new(rt.alloc(), 2, service(&rt)?)?;
-    let events = exchange(&rt)?;
-    world.run(&events[..4])?;
+    for event in exchange(&rt)?.iter().take(4) {
+        world.step(event)?;
+    }
     let deliveries = [(1, 2), (2, 2), (1, 2), (2, 1), (1, 1), (2, 1)];
     for (replica, message) in deliveries {
         assert!(rt;
