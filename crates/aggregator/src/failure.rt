@@ -4,9 +4,8 @@ ghost use Rattle.std.specs.Process.{exit_status};
 ghost use Rattle.aggregator.specs.Ending.{message_of, status_of};
 
 use replica_world::ReplayFault;
-use std::fmt;
-use std::io;
 use std::process::ExitCode;
+use std::{fmt, io};
 
 /// The input, or the words of the command line, were wrong.
 const BAD_INPUT: u8 = 2;
@@ -15,7 +14,7 @@ const BAD_INPUT: u8 = 2;
 const BAD_MACHINE: u8 = 3;
 
 #[derive(Clone, Copy, Debug, PartialEq, Eq)]
-pub enum Failure {
+pub(crate) enum Failure {
     /// The words of the command line ask for nothing that there is.
     Usage,
     /// The line of this number is no command.
@@ -28,7 +27,7 @@ pub enum Failure {
 
 impl Failure {
     /// The exit status: 2 for wrong input, 3 for a device or memory.
-    pub fn status(self) -> ExitCode
+    pub(crate) fn status(self) -> ExitCode
         ensures { exit_status result ≡ status_of self }
     {
         match self {

@@ -31,7 +31,7 @@ fn counts_of(links: &Links<'_>) -> Result<Counts, AllocError> {
 }
 
 /// Reads the links so many times.
-pub fn read<R: Print + AllocGlobal>(rt: &R, page: &[u8], count: u32) -> Result<()> {
+pub(crate) fn read<R: Print + AllocGlobal>(rt: &R, page: &[u8], count: u32) -> Result<()> {
     let alloc: Global = rt.alloc();
     for _ in 0..count {
         let links = match read_links(alloc, page) {

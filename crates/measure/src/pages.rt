@@ -4,7 +4,7 @@ use std::alloc::Global;
 use timemap_reader::read_page;
 
 /// Reads the page so many times.
-pub fn read<R: Print + AllocGlobal>(rt: &R, body: &[u8], count: u32) -> Result<()> {
+pub(crate) fn read<R: Print + AllocGlobal>(rt: &R, body: &[u8], count: u32) -> Result<()> {
     let alloc: Global = rt.alloc();
     for _ in 0..count {
         let page = match read_page(alloc, "http://arc.example/list", body) {

@@ -4,7 +4,11 @@ use replica_exchange::{read_state, write_state};
 use std::alloc::Global;
 
 /// Reads the text so many times, and writes each state that it is.
-pub fn read_and_write<R: Print + AllocGlobal>(rt: &R, text: &[u8], count: u32) -> Result<()> {
+pub(crate) fn read_and_write<R: Print + AllocGlobal>(
+    rt: &R,
+    text: &[u8],
+    count: u32,
+) -> Result<()> {
     let alloc: Global = rt.alloc();
     for _ in 0..count {
         let state = match read_state(alloc, text) {
