@@ -183,7 +183,7 @@ same_key k q t = key_cmp_exact k q ((Equal-is (key_cmp k q)).0 t)
 key_itself : (k : Key) → eq_by_cmp key_cmp k k ≡ true
 key_itself k = ap is_eq (tied_itself key_cmp_total k)
 
-below_none : (q : Key) (es : List (Key × Kept)) → T (below_all key_cmp q es) → fmap.find key_cmp q es ≡ None
+pub below_none : (q : Key) (es : List (Key × Kept)) → T (below_all key_cmp q es) → fmap.find key_cmp q es ≡ None
 below_none q [] h = refl
 below_none q (e ∷ es) h =
     elim (key_cmp q e.0) as (λ r. T (is_lt r && below_all key_cmp q es) → cond (is_eq r) (Some e.1) (fmap.find key_cmp q es) ≡ None) [

@@ -1,16 +1,16 @@
 -- Rows as entries, and what putting them over a state gives.
-use Rattle.std.proofs.Common.{◌≡◌, true, false, cond, ◌++◌, map, List, [], ◌∷◌, Option, Some, None, refl, sym, ap, ◌∙◌}
+use Rattle.std.proofs.Common.{◌≡◌, true, false, cond, ◌++◌, map, List, [], ◌∷◌, Option, Some, None, refl, sym, ap, ◌∙◌, inl, inr, subst}
 use Rattle.std.specs.Prelude.{T}
 use Rattle.std.specs.Ordering.{eq_by_cmp, is_lt}
 use Rattle.std.specs.FinMap as fmap
-use Rattle.std.specs.Option.{option_map, unwrap_or}
+use Rattle.std.specs.Option.{option_map, unwrap_or, MatchOption}
 use Rattle.harvest_lattice.specs.declared.row.Row.{Row}
 use Rattle.harvest_lattice.specs.Maps.{join_values}
-use Rattle.harvest_lattice.specs.Lattice.{Key, key_cmp, Kept, Entries, join_kept, join, joined_kept, joined_with}
+use Rattle.harvest_lattice.specs.Lattice.{Key, key_cmp, Kept, KeptAtMost, IsAtMostAt, Entries, join_kept, join, joined_kept, joined_with}
 use Rattle.harvest_lattice.specs.Knowledge.{Harvested, key_of, lat}
-use Rattle.harvest_lattice.specs.Rows.{row_key, row_entry, put_all, or_else}
-use Rattle.harvest_lattice.proofs.Entries.{key_cmp_total, key_cmp_exact, get-join}
-use Rattle.harvest_lattice.proofs.Knowledge.{single, get-lat_one, same_key}
+use Rattle.harvest_lattice.specs.Rows.{row_key, row_entry, put_all, or_else, IsStaged, RowsRise}
+use Rattle.harvest_lattice.proofs.Entries.{key_cmp_total, key_cmp_exact, get-join, entry_semilattice, join_from_at_most}
+use Rattle.harvest_lattice.proofs.Knowledge.{single, get-lat_one, same_key, below_none}
 use Rattle.harvest_lattice.proofs.Sets.{two_parts, both_parts}
 use Rattle.std.specs.FinMap.Entries.{below_all}
 
@@ -105,3 +105,51 @@ below_joined x k (e ∷ es) h = let p = two_parts (is_lt (key_cmp k e.0)) (below
 pub joined_sorted : (x : Entries) (es : List (Key × Kept)) → T (fmap.is_sorted key_cmp es) → T (fmap.is_sorted key_cmp (map (joined_with x) es))
 joined_sorted x [] h = tt
 joined_sorted x (e ∷ es) h = let p = two_parts (below_all key_cmp e.0 es) (fmap.is_sorted key_cmp es) h in both_parts (below_all key_cmp e.0 (map (joined_with x) es)) (fmap.is_sorted key_cmp (map (joined_with x) es)) (below_joined x e.0 es p.0) (joined_sorted x es p.1)
+
+-- an entry that is at most the one at its key leaves that one in the join
+pub at_most_stays : (x : Entries) (e : Key × Kept) → IsAtMostAt x e → fmap.get x e.0 ≡ Some (joined_kept x e)
+at_most_stays x e h =
+    elim (fmap.get x e.0) as (λ o. MatchOption o ⊥ (λ b. KeptAtMost e.1 b) → o ≡ Some (unwrap_or (join_values join_kept o (Some e.1)) e.1)) [
+      | None ↦ λ none. absurd none
+      | Some b ↦ λ at_most. ap Some (sym (entry_semilattice.comm b e.1 ∙ join_from_at_most e.1 b at_most))
+    ] h
+
+without_below : (k : Key) (xs : List (Key × Kept)) (e : Key × Kept) (ys : List (Key × Kept)) → T (below_all key_cmp k (xs ++ e ∷ ys)) → T (below_all key_cmp k (xs ++ ys))
+without_below k [] e ys h = (two_parts (is_lt (key_cmp k e.0)) (below_all key_cmp k ys) h).1
+without_below k (x ∷ xs) e ys h = let p = two_parts (is_lt (key_cmp k x.0)) (below_all key_cmp k (xs ++ e ∷ ys)) h in both_parts (is_lt (key_cmp k x.0)) (below_all key_cmp k (xs ++ ys)) p.0 (without_below k xs e ys p.1)
+
+-- entries in order stand in order without one of them
+pub without_sorted : (xs : List (Key × Kept)) (e : Key × Kept) (ys : List (Key × Kept)) → T (fmap.is_sorted key_cmp (xs ++ e ∷ ys)) → T (fmap.is_sorted key_cmp (xs ++ ys))
+without_sorted [] e ys h = (two_parts (below_all key_cmp e.0 ys) (fmap.is_sorted key_cmp ys) h).1
+without_sorted (x ∷ xs) e ys h = let p = two_parts (below_all key_cmp x.0 (xs ++ e ∷ ys)) (fmap.is_sorted key_cmp (xs ++ e ∷ ys)) h in both_parts (below_all key_cmp x.0 (xs ++ ys)) (fmap.is_sorted key_cmp (xs ++ ys)) (without_below x.0 xs e ys p.0) (without_sorted xs e ys p.1)
+
+or_without : (m : Entries) (xs : List (Key × Kept)) (e : Key × Kept) (ys : List (Key × Kept)) (q : Key) → T (fmap.is_sorted key_cmp (xs ++ e ∷ ys)) → fmap.get m e.0 ≡ Some e.1 → or_else (fmap.find key_cmp q (xs ++ e ∷ ys)) (fmap.get m q) ≡ or_else (fmap.find key_cmp q (xs ++ ys)) (fmap.get m q)
+or_without m [] e ys q h is =
+    elim (eq_by_cmp key_cmp q e.0) as (λ b. eq_by_cmp key_cmp q e.0 ≡ b → or_else (cond b (Some e.1) (fmap.find key_cmp q ys)) (fmap.get m q) ≡ or_else (fmap.find key_cmp q ys) (fmap.get m q)) [
+      | true ↦ λ t.
+          let same : q ≡ e.0 = same_key q e.0 t in
+          let absent : fmap.find key_cmp q ys ≡ None = ap (λ (k : Key). fmap.find key_cmp k ys) same ∙ below_none e.0 ys (two_parts (below_all key_cmp e.0 ys) (fmap.is_sorted key_cmp ys) h).0 in
+          sym (ap (λ o. or_else o (fmap.get m q)) absent ∙ (ap (λ (k : Key). fmap.get m k) same ∙ is))
+      | false ↦ λ _. refl
+    ] refl
+or_without m (x ∷ xs) e ys q h is =
+    elim (eq_by_cmp key_cmp q x.0) as (λ b. or_else (cond b (Some x.1) (fmap.find key_cmp q (xs ++ e ∷ ys))) (fmap.get m q) ≡ or_else (cond b (Some x.1) (fmap.find key_cmp q (xs ++ ys))) (fmap.get m q)) [
+      | true ↦ refl
+      | false ↦ or_without m xs e ys q (two_parts (below_all key_cmp x.0 (xs ++ e ∷ ys)) (fmap.is_sorted key_cmp (xs ++ e ∷ ys)) h).1 is
+    ]
+
+-- to put an entry that stands there already changes nothing
+pub put_without : (m : Entries) (xs : List (Key × Kept)) (e : Key × Kept) (ys : List (Key × Kept)) → T (fmap.is_sorted key_cmp (xs ++ e ∷ ys)) → fmap.get m e.0 ≡ Some e.1 → put_all (xs ++ e ∷ ys) m ≡ put_all (xs ++ ys) m
+put_without m xs e ys h is = fmap.same_map key_cmp_total key_cmp_exact _ _ (λ q. get-put_all (xs ++ e ∷ ys) m q ∙ (or_without m xs e ys q h is ∙ sym (get-put_all (xs ++ ys) m q)))
+
+-- the row of one harvest, staged, stands in order, and to put it is to join the harvest
+pub staged_one : (m : Entries) (h : Harvested) (rows : List Row) → IsStaged m (key_of h, single h) [] rows → (put_all (map row_entry rows) m ≡ join m (lat (h ∷ []))) × RowsRise rows
+staged_one m h rows (inl pushed) = (
+  ap (λ (es : List (Key × Kept)). put_all es m) pushed ∙ put_one m h,
+  subst (λ (es : List (Key × Kept)). T (fmap.is_sorted key_cmp es)) (sym pushed) tt,
+)
+staged_one m h rows (inr kept) = (
+  ap (λ (rs : List Row). put_all (map row_entry rs) m) kept.0
+      ∙ (sym (put_without m [] (joined_with m (key_of h, single h)) [] tt (at_most_stays m (key_of h, single h) kept.1)) ∙ put_one m h),
+  subst (λ (rs : List Row). RowsRise rs) (sym kept.0) tt,
+)

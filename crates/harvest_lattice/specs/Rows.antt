@@ -1,5 +1,5 @@
 -- Rows as the entries of a state.
-use Rattle.std.specs.Prelude.{◌≡◌, ℕ, ◌<◌, ◌≤◌, Bool, cond, T, List, [], ◌∷◌, map, length, slice_index_or, Option, Some, None}
+use Rattle.std.specs.Prelude.{◌≡◌, ℕ, ◌⊎◌, ◌++◌, ◌<◌, ◌≤◌, Bool, cond, T, List, [], ◌∷◌, map, length, slice_index_or, Option, Some, None}
 use Rattle.std.specs.declared.cmp.Ordering.TheVariants.{Less}
 use Rattle.std.specs.Option.{option_map}
 use Rattle.std.specs.Borrow.{Bor}
@@ -7,7 +7,7 @@ use Rattle.std.specs.FinMap as fmap
 use Rattle.memento_time.specs.Mementos.{memento_cmp}
 use Rattle.memento_time.specs.declared.mementos.Memento.{Memento}
 use Rattle.harvest_lattice.specs.Sets as set
-use Rattle.harvest_lattice.specs.Lattice.{Key, key_cmp, Kept, Entries}
+use Rattle.harvest_lattice.specs.Lattice.{Key, key_cmp, Kept, Entries, IsAtMostAt, joined_with}
 use Rattle.harvest_lattice.specs.declared.row.Row.{Row}
 
 abbrev pub row_key : Row → Key
@@ -24,6 +24,11 @@ RowsRise rows = T (fmap.is_sorted key_cmp (map row_entry rows))
 abbrev pub put_all : List (Key × Kept) → Entries → Entries
 put_all [] x = x
 put_all (e ∷ es) x = fmap.insert (put_all es x) e.0 e.1
+
+-- the entry, as it stands in the join, comes behind the rows, unless the state has at least as much at its key
+abbrev pub IsStaged : Entries → Key × Kept → List Row → List Row → Type 0
+IsStaged x e old new =
+    (map row_entry new ≡ map row_entry old ++ joined_with x e ∷ []) ⊎ ((new ≡ old) × IsAtMostAt x e)
 
 -- mementos that stand in their order, none twice
 abbrev pub mementos_rise : List Memento → Bool

@@ -7,7 +7,7 @@ ghost use Rattle.memento_time.specs.Mementos.{text_cmp};
 ghost use Rattle.harvest_lattice.specs.Lists.{AreLists};
 ghost use Rattle.harvest_lattice.specs.Lattice.{AtMost, IsAtMostAt, join, joined_kept, joined_with};
 ghost use Rattle.harvest_lattice.specs.Knowledge.{lat, shown_of};
-ghost use Rattle.harvest_lattice.specs.Rows.{row_entry, map_with, put_all, RowsRise};
+ghost use Rattle.harvest_lattice.specs.Rows.{row_entry, map_with, put_all, RowsRise, IsStaged};
 
 use crate::harvest::Harvest;
 use crate::latest::Latest;
@@ -84,20 +84,25 @@ impl State {
         self.put_rows(rows)
     }
 
-    // The row of a harvest as it stands in the join.
+    // The row of a harvest as it stands in the join, if it changes something here.
     pub(crate) fn merged_rows(&self, harvest: &Harvest) -> Result<Vec<Row>, NoMemory>
         ensures put { IfOk result (λ rows. put_all (map_list row_entry rows.items) self.now ≡ join self.now (lat (harvest.now ∷ []))) }
         ensures rise { IfOk result (λ rows. RowsRise rows.items) }
     {
-        let row = self.joined_row(harvest.archive(), harvest.original(), harvest.latest())?;
-        let mut rows = Vec::with_capacity(self.alloc, 1)?;
-        rows.push(row)?;
+        let mut rows = Vec::new(self.alloc);
+        self.stage(
+            &mut rows,
+            harvest.archive(),
+            harvest.original(),
+            harvest.latest(),
+        )?;
         Ok(rows)
     }
 
     /// Takes all that another state has. What stands here alone isn't touched.
     ///
-    /// Takes time in the size of the other's entries and of those here at their keys.
+    /// Takes time in the size of the other's entries and of those here at their keys. What an entry
+    /// of the other doesn't change isn't copied.
     pub fn join(&mut self, other: &State) -> Result<(), NoMemory>
         ensures ok { OnOk result (self.new ≡ join self.old other.now) }
         ensures err { OnErr result (self.new ≡ self.old) }
@@ -106,16 +111,33 @@ impl State {
         self.put_rows(rows)
     }
 
-    // The rows of another state as they stand in the join.
+    // The rows of another state that change something here, as they stand in the join.
     pub(crate) fn joined_rows(&self, other: &State) -> Result<Vec<Row>, NoMemory>
-        ensures { IfOk result (λ rows. map_list row_entry rows.items ≡ map_list (joined_with self.now) (map.entries other.now)) }
+        ensures put { IfOk result (λ rows. put_all (map_list row_entry rows.items) self.now ≡ join self.now other.now) }
+        ensures rise { IfOk result (λ rows. RowsRise rows.items) }
     {
-        let mut rows = Vec::with_capacity(self.alloc, other.len)?;
+        let mut rows = Vec::new(self.alloc);
         for row in other.rows() {
             let ((archive, original), entry) = row;
-            rows.push(self.joined_row(archive, original, entry.latest())?)?;
+            self.stage(&mut rows, archive, original, entry.latest())?;
         }
         Ok(rows)
+    }
+
+    // Adds what stands in the join with an entry, unless that stands here already.
+    fn stage(
+        &self,
+        rows: &mut Vec<Row>,
+        archive: ArchiveName,
+        original: &Original,
+        latest: &Latest,
+    ) -> Result<(), NoMemory>
+        ensures { OnOk result (IsStaged self.now ((archive, original.now), latest.now) rows.old.items rows.new.items) }
+    {
+        if !self.has_at_least(archive, original, latest) {
+            rows.push(self.joined_row(archive, original, latest)?)?;
+        }
+        Ok(())
     }
 
     // What stands in the join with an entry.

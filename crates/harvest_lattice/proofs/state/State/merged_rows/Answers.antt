@@ -1,22 +1,18 @@
-use Rattle.std.proofs.Common.{◌≡◌, ◌++◌, [], ◌∷◌, List, map, sym, ap, subst, ◌∙◌}
+use Rattle.std.proofs.Common.{[], List, subst}
 use Rattle.harvest_lattice.specs.declared.row.Row.{Row}
-use Rattle.harvest_lattice.specs.Lattice.{Key, Kept, joined_with}
+use Rattle.harvest_lattice.specs.Lattice.{Key, Kept}
 use Rattle.harvest_lattice.specs.Knowledge.{key_of}
-use Rattle.harvest_lattice.specs.Rows.{row_entry, put_all, RowsRise}
+use Rattle.harvest_lattice.specs.Rows.{IsStaged}
 use Rattle.harvest_lattice.proofs.Knowledge.{single}
-use Rattle.harvest_lattice.proofs.RowLemmas.{put_one}
+use Rattle.harvest_lattice.proofs.RowLemmas.{staged_one}
 use Rattle.harvest_lattice.proofs.state.State.merged_rows.Goals as goal
 
-pub returns-clause-put : goal.returns-clause-put
-returns-clause-put c =
+pub returns : goal.returns
+returns c =
     let x = c.args.self.now in
     let h = c.args.harvest.now in
-    let row : Row = c.in_ok-row.row in
-    let rows : c.push.new.self.items ≡ row ∷ [] = c.in_ok-push.ensures.items ∙ ap (λ (rs : List Row). rs ++ row ∷ []) c.in_ok-rows.ensures.items in
-    let entry : row_entry row ≡ joined_with x (key_of h, single h) = c.in_ok-row.ensures ∙ (λ i. joined_with x ((c.archive.ensures i, c.original.ensures i), c.latest.ensures i)) in
-    ap (λ (rs : List Row). put_all (map row_entry rs) x) rows ∙ (ap (λ (e : Key × Kept). put_all (e ∷ []) x) entry ∙ put_one x h)
-
-pub returns-clause-rise : goal.returns-clause-rise
-returns-clause-rise c =
-    let rows : c.push.new.self.items ≡ c.in_ok-row.row ∷ [] = c.in_ok-push.ensures.items ∙ ap (λ (rs : List Row). rs ++ c.in_ok-row.row ∷ []) c.in_ok-rows.ensures.items in
-    subst (λ (rs : List Row). RowsRise rs) (sym rows) tt
+    let staged : IsStaged x (key_of h, single h) [] c.stage.new.rows.items =
+    subst (λ (rs : List Row). IsStaged x (key_of h, single h) rs c.stage.new.rows.items) c.new-rows.ensures.items
+    (subst (λ (e : Key × Kept). IsStaged x e c.new-rows.result.items c.stage.new.rows.items) (λ i. ((c.archive.ensures i, c.original.ensures i), c.latest.ensures i)) c.in_ok-stage.ensures) in
+    let both = staged_one x h c.stage.new.rows.items staged in
+    record { put = both.0; rise = both.1 }
