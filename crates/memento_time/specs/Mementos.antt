@@ -1,10 +1,17 @@
--- The order of texts by their bytes, and of mementos: by datetime, then by URI.
+-- Mementos (RFC 7089, section 1.1), and their order: by datetime, then by URI.
 use Rattle.std.specs.Prelude.{ℕ, List, refl}
 use Rattle.std.specs.declared.cmp.Ordering.{Ordering}
 use Rattle.std.specs.Ordering.{nat_cmp, on, then_cmp}
 use Rattle.std.specs.Cmp.Lexicographic.{slice_cmp}
 use Rattle.std.specs.Coded.{Coded, code_by, coded×, coded_ℕ, coded_list}
 use Rattle.memento_time.specs.declared.mementos.Memento.{Memento}
+use Rattle.memento_time.specs.Second.{IsSecond}
+use Rattle.memento_time.specs.Text.{IsClean}
+
+-- a memento that there can be: a clean URI at a second from 1970 to 9999
+pub record IsMemento (m : Memento) : Type 0 where
+  pub at : IsSecond m.at
+  pub uri : IsClean m.uri
 
 -- by bytes, a prefix before the longer text
 abbrev pub text_cmp : List ℕ → List ℕ → Ordering

@@ -7,7 +7,7 @@ use Rattle.std.specs.Fmt.{decimal}
 use Rattle.std.proofs.lemmas.List.{append_cancel_left}
 use Rattle.memento_time.specs.Text.{IsArchiveName, IsOriginal, IsClean}
 use Rattle.memento_time.specs.Second.{IsSecond}
-use Rattle.memento_time.specs.Mementos.{memento_cmp}
+use Rattle.memento_time.specs.Mementos.{IsMemento, memento_cmp}
 use Rattle.memento_time.specs.declared.mementos.Memento.{Memento}
 use Rattle.harvest_lattice.specs.Sets as set
 use Rattle.harvest_lattice.specs.Lattice.{Key, Kept, Mementos}
@@ -16,7 +16,7 @@ use Rattle.harvest_lattice.proofs.Sets.{items_sorted, from_list-items}
 use Rattle.memento_time.proofs.MementoLemmas.{memento_cmp_total, memento_cmp_exact}
 use Rattle.harvest_lattice.proofs.Ordered.{sorted_marked, items_in_order}
 use Rattle.harvest_lattice.proofs.Rising.{rise_in_order}
-use Rattle.replica_exchange.specs.StateText.{memento_line, entry_line, IsMemento}
+use Rattle.replica_exchange.specs.StateText.{memento_line, entry_line}
 use Rattle.replica_exchange.specs.Spelling.{Spelling, Begins, field, number}
 use Rattle.replica_exchange.specs.Parts.{memento, head, entry, many}
 use Rattle.replica_exchange.proofs.SpellingLemmas.{Once, number_once, archive_once, original_once, uri_once}

@@ -2,8 +2,9 @@
 use Rattle.std.specs.Prelude.{◌≡◌, ℕ, List, length, All}
 use Rattle.std.specs.List.{flat_map}
 use Rattle.memento_time.specs.declared.mementos.Memento.{Memento}
+use Rattle.memento_time.specs.Mementos.{IsMemento}
 use Rattle.harvest_lattice.specs.Lattice.{Key, Kept}
-use Rattle.replica_exchange.specs.StateText.{memento_line, entry_line, entry_text, entries_text, IsMemento, IsEntryLine, IsEntry, AreEntries}
+use Rattle.replica_exchange.specs.StateText.{memento_line, entry_line, entry_text, entries_text, IsEntryLine, IsEntry, AreEntries}
 use Rattle.replica_exchange.specs.Spelling.{Spelling}
 
 abbrev pub memento : Spelling Memento

@@ -3,9 +3,9 @@ use Rattle.std.specs.Prelude.{ℕ, ◌<◌, ◌^◌, List, [], ◌∷◌, ◌++�
 use Rattle.std.specs.List.{flat_map}
 use Rattle.std.specs.Fmt.{decimal}
 use Rattle.std.specs.FinMap as map
-use Rattle.memento_time.specs.Text.{IsArchiveName, IsOriginal, IsClean}
-use Rattle.memento_time.specs.Second.{IsSecond}
+use Rattle.memento_time.specs.Text.{IsArchiveName, IsOriginal}
 use Rattle.memento_time.specs.declared.mementos.Memento.{Memento}
+use Rattle.memento_time.specs.Mementos.{IsMemento}
 use Rattle.harvest_lattice.specs.Sets as set
 use Rattle.harvest_lattice.specs.Lattice.{Key, Kept, Entries}
 
@@ -38,11 +38,6 @@ abbrev pub state_text : Entries → List ℕ
 state_text state = line (codes "memento-state" ∷ codes "1" ∷ []) ++ entries_text (map.entries state)
 
 -- ---- what has a text
-
--- a clean URI at a second from 1970 to 9999
-pub record IsMemento (m : Memento) : Type 0 where
-  pub at : IsSecond m.at
-  pub uri : IsClean m.uri
 
 -- an archive's name, an original, and numbers of 64 bits
 pub record IsEntryLine (key : Key) (revision count : ℕ) : Type 0 where

@@ -3,8 +3,9 @@ ghost use Rattle.std.specs.Prelude.{◌≡◌, ◌^◌, ◌<◌, ◌++◌, ◌�
 ghost use Rattle.std.specs.List.{flat_map};
 ghost use Rattle.std.specs.Fmt.{decimal};
 ghost use Rattle.std.specs.FinMap as map;
+ghost use Rattle.memento_time.specs.Mementos.{IsMemento};
 ghost use Rattle.replica_exchange.specs.StateText.{memento_line, entry_line, entry_text, state_text};
-ghost use Rattle.replica_exchange.specs.StateText.{IsMemento, IsEntryLine, IsEntry, IsState};
+ghost use Rattle.replica_exchange.specs.StateText.{IsEntryLine, IsEntry, IsState};
 ghost use Rattle.harvest_lattice.specs.Sets as set;
 
 use harvest_lattice::{Entry, State};

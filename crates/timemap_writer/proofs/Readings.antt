@@ -13,7 +13,8 @@ use Rattle.memento_time.specs.declared.mementos.Memento.{Memento}
 use Rattle.memento_time.specs.Second.{imf}
 use Rattle.memento_time.specs.Text.{IsOriginal}
 use Rattle.timemap_writer.specs.Service.{is_clean_byte, IsBase}
-use Rattle.timemap_writer.specs.TimeMap.{IsMemento, Attribute, Statement, attributes_text, statement_text, link_of, rel, datetime_of, period, original_statement, timegate_statement, timemap_statement, memento_relations, memento_statement, memento_statements, timemap_statements, gate_statements, followed, joined, timemap_text, gate_links, timemap_links, redirect_links}
+use Rattle.memento_time.specs.Mementos.{IsMemento}
+use Rattle.timemap_writer.specs.TimeMap.{Attribute, Statement, attributes_text, statement_text, link_of, rel, datetime_of, period, original_statement, timegate_statement, timemap_statement, memento_relations, memento_statement, memento_statements, timemap_statements, gate_statements, followed, joined, timemap_text, gate_links, timemap_links, redirect_links}
 use Rattle.timemap_writer.proofs.Bytes.{Each-from_list_all, all_append, clean_target, base_target, imf_plain}
 
 -- the name may be one of a parameter, and the value stands as it is between quotes

@@ -2,13 +2,7 @@
 use Rattle.std.specs.Prelude.{ℕ, ◌-◌, ◌==◌, Bool, true, false, List, [], ◌∷◌, ◌++◌, length, map, codes, slice_get, Option, Some, None}
 use Rattle.link_format.specs.Grammar.{Link}
 use Rattle.memento_time.specs.declared.mementos.Memento.{Memento}
-use Rattle.memento_time.specs.Second.{IsSecond, imf}
-use Rattle.memento_time.specs.Text.{IsClean}
-
--- A memento at a second from 1970 to 9999, with a clean address.
-pub record IsMemento (m : Memento) : Type 0 where
-  pub at : IsSecond m.at
-  pub uri : IsClean m.uri
+use Rattle.memento_time.specs.Second.{imf}
 
 -- A parameter that is written: its name and its value.
 pub record Attribute : Type 0 where

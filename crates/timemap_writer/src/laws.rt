@@ -2,9 +2,10 @@
 ghost use Rattle.std.specs.Prelude.{ℕ, List, All};
 ghost use Rattle.link_format.specs.Grammar.{Reading};
 ghost use Rattle.memento_time.specs.declared.mementos.Memento.{Memento};
+ghost use Rattle.memento_time.specs.Mementos.{IsMemento};
 ghost use Rattle.memento_time.specs.Text.{IsOriginal};
 ghost use Rattle.timemap_writer.specs.Service.{IsBase};
-ghost use Rattle.timemap_writer.specs.TimeMap.{IsMemento, timemap_text, timemap_links, gate_links, redirect_links};
+ghost use Rattle.timemap_writer.specs.TimeMap.{timemap_text, timemap_links, gate_links, redirect_links};
 
 /// Each text is link-format (RFC 6690, section 2) whose links are the stated ones, in order. No text has two
 /// readings, so every reader of the grammar finds these links and no others.

@@ -1,4 +1,5 @@
-use Rattle.replica_exchange.specs.StateText.{memento_line, IsMemento}
+use Rattle.memento_time.specs.Mementos.{IsMemento}
+use Rattle.replica_exchange.specs.StateText.{memento_line}
 use Rattle.replica_exchange.proofs.WritingLemmas.{more_of}
 use Rattle.replica_exchange.proofs.writing.write_mementos.Goals as goal
 

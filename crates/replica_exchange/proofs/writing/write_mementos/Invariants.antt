@@ -1,5 +1,6 @@
 use Rattle.std.proofs.Common.{take}
-use Rattle.replica_exchange.specs.StateText.{memento_line, IsMemento}
+use Rattle.memento_time.specs.Mementos.{IsMemento}
+use Rattle.replica_exchange.specs.StateText.{memento_line}
 use Rattle.replica_exchange.proofs.WritingLemmas.{HasWritten}
 use Rattle.replica_exchange.proofs.writing.write_mementos.Given as goal
 
