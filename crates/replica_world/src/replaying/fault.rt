@@ -1,6 +1,7 @@
 //! Why a replay ends early.
-ghost use Rattle.std.specs.Prelude.{◌≡◌};
+ghost use Rattle.std.specs.Prelude.{◌≡◌, Some};
 ghost use Rattle.replica_world.specs.declared.replaying.fault.ReplayFault.TheVariants.{NoMemory as OutOfMemory};
+ghost use Rattle.replica_world.specs.Output.{fault_words};
 
 use memento_time::NoMemory;
 use std::alloc::AllocError;
@@ -21,6 +22,8 @@ pub enum ReplayFault {
 }
 
 impl fmt::Display for ReplayFault {
+    ghost output = { λ fault. Some (fault_words fault) };
+
     fn fmt<W: fmt::Write>(&self, f: &mut fmt::Formatter<W>) -> fmt::Result {
         match self {
             ReplayFault::BadLine { number } => write!(f, "bad line {number}"),
