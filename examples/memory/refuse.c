@@ -1,12 +1,18 @@
-/* Refuses one request for memory: the one whose number REFUSE names, counted from 1. To be preloaded. */
+/*
+ * Refuses one request for memory: the one whose number REFUSE names, counted from 1. At the end the number of requests is
+ * written to the file that COUNT names. To be preloaded.
+ */
 #define _GNU_SOURCE
 #include <dlfcn.h>
 #include <errno.h>
 #include <stddef.h>
+#include <stdio.h>
 #include <stdlib.h>
 
+static long asked;
+
 static int is_refused(void) {
-    static long wanted = -1, asked;
+    static long wanted = -1;
     if (wanted < 0) {
         const char *word = getenv("REFUSE");
         wanted = word ? atol(word) : 0;
@@ -15,6 +21,16 @@ static int is_refused(void) {
         return 0;
     errno = ENOMEM;
     return 1;
+}
+
+__attribute__((destructor)) static void tell(void) {
+    const char *name = getenv("COUNT");
+    const long count = asked;
+    FILE *file = name ? fopen(name, "w") : NULL;
+    if (file) {
+        fprintf(file, "%ld\n", count);
+        fclose(file);
+    }
 }
 
 void *malloc(size_t size) {

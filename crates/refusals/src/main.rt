@@ -1,0 +1,78 @@
+//! Performs an exchange of two replicas while requests for memory may be refused, and looks for an answer that changed in
+//! place of the refusal, at that call or the next.
+//!
+//! `examples/memory/check.sh` refuses each request in turn. Whichever is refused, the same is printed: an event that is
+//! refused for want of memory leaves every reply as it was, and takes place when it comes again.
+#![tactic(auto)]
+
+mod exchange;
+mod replies;
+
+use crate::exchange::{Exchange, begin};
+use crate::replies::{is_same, replies_of_all};
+use anyhow::{Result, bail};
+use replica_world::{Answer, Event, Refused, Said, World};
+use std::alloc::Global;
+use std::io::Write;
+use timegate::{Reply, Request};
+
+/// What the event is answered, at the second try where the first is refused for want of memory.
+fn insist(
+    alloc: Global,
+    world: &mut World,
+    event: &Event,
+    questions: &[Request],
+) -> Result<Answer> {
+    let before = replies_of_all(alloc, world, questions)?;
+    let answer = world.step(event);
+    if !matches!(answer, Err(Refused::NoMemory)) {
+        return Ok(answer);
+    }
+    if !is_same(&replies_of_all(alloc, world, questions)?, &before) {
+        bail!("a refused event changed a reply");
+    }
+    Ok(world.step(event))
+}
+
+fn print_answer(rt: &HostRuntime, answer: &Answer) -> Result<()> {
+    match answer {
+        Ok(Said::Taken) => println!(rt; "taken")?,
+        Ok(Said::Sent(number)) => println!(rt; "sent {number}")?,
+        Ok(Said::Joined) => println!(rt; "joined")?,
+        Ok(Said::Restarted) => println!(rt; "restarted")?,
+        Ok(Said::Replied(reply)) => print_reply(rt, reply)?,
+        Err(refused) => println!(rt; "refused {refused}")?,
+    }
+    Ok(())
+}
+
+fn print_reply(rt: &HostRuntime, reply: &Reply) -> Result<()> {
+    println!(rt; "reply {}", reply.status)?;
+    for (header, value) in reply.headers.as_slice() {
+        print!(rt; "{header}: ")?;
+        rt.stdout().write_all(value.as_slice())?;
+        println!(rt; "")?;
+    }
+    rt.stdout().write_all(reply.body.as_slice())?;
+    Ok(())
+}
+
+fn main(rt: HostRuntime) -> Result<()> {
+    let alloc = rt.alloc();
+    let Exchange {
+        mut world,
+        events,
+        questions,
+    } = match begin(alloc) {
+        Ok(made) => made,
+        Err(_) => begin(alloc)?,
+    };
+    for event in &events {
+        let answer = insist(alloc, &mut world, event, &questions)?;
+        print_answer(&rt, &answer)?;
+    }
+    for reply in &replies_of_all(alloc, &world, &questions)? {
+        print_reply(&rt, reply)?;
+    }
+    Ok(())
+}
