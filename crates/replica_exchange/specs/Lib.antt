@@ -2,3 +2,4 @@ pub mod StateText
 pub mod Faults
 pub mod Spelling
 pub mod Parts
+pub mod LineOrder

@@ -25,6 +25,6 @@ mod tests;
 mod writing;
 
 pub use fault::StateFault;
-pub use laws::one_text_of_a_state;
+pub use laws::{lines_stand_in_order, one_text_of_a_state};
 pub use reading::read_state;
 pub use writing::write_state;

@@ -1,0 +1,11 @@
+use Rattle.std.specs.FinMap as map
+use Rattle.memento_time.specs.Mementos.{memento_cmp}
+use Rattle.harvest_lattice.specs.Lattice.{key_cmp}
+use Rattle.harvest_lattice.proofs.Sets.{items_sorted, keys_rise}
+use Rattle.replica_exchange.proofs.laws.lines_stand_in_order.Goals as goal
+
+pub returns-clause-entries : goal.returns-clause-entries
+returns-clause-entries c = λ x. keys_rise key_cmp (map.entries x) (map.entries_sorted x)
+
+pub returns-clause-mementos : goal.returns-clause-mementos
+returns-clause-mementos c = λ kept. items_sorted memento_cmp kept.mementos
