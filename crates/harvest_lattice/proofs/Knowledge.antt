@@ -339,9 +339,9 @@ from_rest n (Some r) (Some s) h = omega arith
 at_most_latest : (hs : List Harvested) (k : Key) (n : ℕ) → list_any (λ h. has_key k h && eqb h.revision n) hs ≡ true → MatchOption (latest hs k) ⊥ (λ l. n ≤ l)
 at_most_latest [] k n one = absurd (true≢false (sym one))
 at_most_latest (h ∷ hs) k n one =
-    elim (or_cases _ _ one) [
+    elim (or_cases (has_key k h && eqb h.revision n) (list_any (λ h. has_key k h && eqb h.revision n) hs) one) [
       | inl here ↦
-          let p = and_parts _ _ here in
+          let p : (has_key k h ≡ true) × (eqb h.revision n ≡ true) = and_parts (has_key k h) (eqb h.revision n) here in
           let le : n ≤ h.revision = omega (arith, eqb-true h.revision n p.1) in
           subst (λ b. MatchOption (join_values max (cond b (Some h.revision) None) (latest hs k)) ⊥ (λ l. n ≤ l)) (sym p.0) (from_first n h.revision 0 (latest hs k) le)
       | inr rest ↦ from_rest n (cond (has_key k h) (Some h.revision) None) (latest hs k) (at_most_latest hs k n rest)
@@ -377,9 +377,10 @@ shown-is hs o m = (there, back)
     there : set.contains (shown hs o) m ≡ true → IsShown hs o m
     there one =
         let w = Any-from_list_any (λ h. (eq_by_cmp text_cmp o h.original && is_current hs h) && set.contains h.mementos m) hs (sym (contains-shown hs o m) ∙ one) in
-        let parts = and_parts _ _ w.4 in
-        let front = and_parts _ _ parts.0 in
         let h = w.1 in
+        let of_original = eq_by_cmp text_cmp o h.original in
+        let parts : ((of_original && is_current hs h) ≡ true) × (set.contains h.mementos m ≡ true) = and_parts (of_original && is_current hs h) (set.contains h.mementos m) w.4 in
+        let front : (of_original ≡ true) × (is_current hs h ≡ true) = and_parts of_original (is_current hs h) parts.0 in
         record {
           harvest = h;
           is_latest = record {

@@ -7,3 +7,4 @@ pub mod Choice
 pub mod Lists
 pub mod Merges
 pub mod Shelves
+pub mod Faults

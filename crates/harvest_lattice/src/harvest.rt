@@ -1,5 +1,6 @@
-ghost use Rattle.std.specs.Prelude.{◌≡◌, ◌<◌, ◌≤◌, IfOk, IsErrOf, length};
+ghost use Rattle.std.specs.Prelude.{◌≡◌, ◌<◌, ◌≤◌, IfOk, IsErrOf, Some, length};
 ghost use Rattle.memento_time.specs.Mementos.{memento_cmp};
+ghost use Rattle.harvest_lattice.specs.Faults.{words_of};
 ghost use Rattle.harvest_lattice.specs.Sets as set;
 
 use crate::latest::Latest;
@@ -17,6 +18,8 @@ pub enum HarvestFault {
 }
 
 impl fmt::Display for HarvestFault {
+    ghost output = { λ fault. Some (words_of fault) };
+
     fn fmt<W: fmt::Write>(&self, f: &mut fmt::Formatter<W>) -> fmt::Result {
         match self {
             HarvestFault::TooMany => f.write_str("too many mementos"),

@@ -177,6 +177,55 @@ fn rows_make_a_state(rt: HostRuntime) -> Result<(), Fail> {
 }
 
 #[test]
+fn a_row_is_copied(rt: HostRuntime) -> Result<(), Fail> {
+    let alloc = rt.alloc();
+    let root = Original::new(alloc, b"http://a.example/")?;
+    let list = mementos(alloc, &[FIRST, SECOND])?;
+    let row = Row::new(archive("a1")?, root, 7, list).ok_or("a row")?;
+    let copy = row.try_clone()?;
+    assert!(rt; copy.archive == archive("a1")?);
+    assert!(rt; copy.original.as_bytes() == b"http://a.example/".as_slice());
+    assert!(rt; copy.latest.revision() == 7);
+    assert!(rt; copy.latest.mementos() == mementos(alloc, &[FIRST, SECOND])?.as_slice());
+    Ok(())
+}
+
+#[test]
+fn a_merge_of_a_harvest_is_copied(rt: HostRuntime) -> Result<(), Fail> {
+    let alloc = rt.alloc();
+    let root = Original::new(alloc, b"http://a.example/")?;
+    let merge = Merge::Harvest(harvest(alloc, "a1", 7, &[FIRST])?);
+    let mut index = Index::new(alloc);
+    index.absorb(&merge.try_clone()?)?;
+    assert!(rt; index.list(&root) == mementos(alloc, &[FIRST])?.as_slice());
+    Ok(())
+}
+
+// Mementos of so many seconds from 1970 on, the first one twice.
+fn captures_of_seconds(alloc: Global, seconds: u64) -> Result<Vec<Memento>, Fail> {
+    let mut list = mementos(alloc, &[(0, b'1')])?;
+    for second in 0..seconds {
+        list.push(memento(alloc, (second, b'1'))?)?;
+    }
+    Ok(list)
+}
+
+#[test]
+fn a_harvest_has_at_most_100_000_distinct_mementos(rt: HostRuntime) -> Result<(), Fail> {
+    let alloc = rt.alloc();
+    let root = Original::new(alloc, b"http://a.example/")?;
+    let most = captures_of_seconds(alloc, 100_000)?;
+    let harvest = Harvest::new(archive("a1")?, &root, 1, most)?;
+    assert!(rt; harvest.mementos().len() == 100_000);
+    let more = captures_of_seconds(alloc, 100_001)?;
+    match Harvest::new(archive("a1")?, &root, 1, more) {
+        Ok(_) => return Err(Fail::from("a harvest of too many")),
+        Err(fault) => assert!(rt; fault == HarvestFault::TooMany),
+    }
+    Ok(())
+}
+
+#[test]
 fn a_harvest_keeps_each_memento_once(rt: HostRuntime) -> Result<(), Fail> {
     let alloc = rt.alloc();
     let harvest = harvest(alloc, "a1", 7, &[SECOND, FIRST, SECOND])?;
