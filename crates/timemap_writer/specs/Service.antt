@@ -5,6 +5,8 @@ use Rattle.url.specs.Parts.{Parts, text_between}
 use Rattle.url.specs.Parser.{parse_url}
 use Rattle.url.specs.Input.{is_empty}
 use Rattle.url.specs.declared.slicing.Position.TheVariants.{BeforeScheme, BeforePath}
+use Rattle.timemap_writer.specs.declared.service.ServiceFault.{ServiceFault}
+use Rattle.timemap_writer.specs.declared.service.ServiceFault.TheVariants.{BadBase, NoMemory}
 
 -- a visible ASCII character but `"`, `<` and `>`
 abbrev pub is_clean_byte : ℕ → Bool
@@ -35,3 +37,8 @@ base_of_parsed (Ok url) =
 -- the base that a text of at most 4,096 bytes names
 unfoldable pub base_of : List ℕ → Option (List ℕ)
 base_of text = if nat_le (length text) 4096 then base_of_parsed (parse_url None text) else None
+
+-- what a fault is printed as
+abbrev pub words_of : ServiceFault → List ℕ
+words_of BadBase = codes "bad base"
+words_of NoMemory = codes "no memory"

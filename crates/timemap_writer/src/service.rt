@@ -1,7 +1,7 @@
 //! The base of a service.
-ghost use Rattle.std.specs.Prelude.{◌≡◌, Some, None, IfOk, IsErrOf};
+ghost use Rattle.std.specs.Prelude.{◌≡◌, ◌<◌, Some, None, Err, IfOk, IsErrOf, length};
 ghost use Rattle.std.specs.List.{list_all};
-ghost use Rattle.timemap_writer.specs.Service.{is_clean_byte, is_base, IsBase, is_bare, base_of};
+ghost use Rattle.timemap_writer.specs.Service.{is_clean_byte, is_base, IsBase, is_bare, base_of, words_of};
 ghost use Rattle.timemap_writer.specs.declared.service.ServiceFault.TheVariants.{NoMemory as OutOfMemory};
 
 use memento_time::{NoMemory, Octets};
@@ -46,6 +46,8 @@ pub enum ServiceFault {
 }
 
 impl fmt::Display for ServiceFault {
+    ghost output = { λ fault. Some (words_of fault) };
+
     fn fmt<W: fmt::Write>(&self, f: &mut fmt::Formatter<W>) -> fmt::Result {
         match self {
             ServiceFault::BadBase => f.write_str("bad base"),
@@ -100,6 +102,7 @@ impl Service {
     pub fn new(alloc: Global, base: &str) -> Result<Service, ServiceFault>
         ensures ok { IfOk result (λ service. base_of base.now ≡ Some service) }
         ensures bad_base { IsErrOf result ServiceFault.BadBase → base_of base.now ≡ None }
+        ensures too_long { 4096 < length base.now → result ≡ Err ServiceFault.BadBase }
     {
         if base.len() > MAX_TEXT {
             return Err(ServiceFault::BadBase);

@@ -18,6 +18,9 @@ fn bases(rt: HostRuntime) -> Result<(), Fail> {
         "http://agg.example/x",
         "http://agg.example/?",
         "http://u@agg.example",
+        "http://:p@agg.example",
+        "http://agg.example/#",
+        "agg.example",
         "ftp://agg.example",
     ] {
         let fault = Service::new(rt.alloc(), refused).err();
@@ -49,6 +52,44 @@ fn timemap(rt: HostRuntime) -> Result<(), Fail> {
     );
     assert_eq!(rt; text.len(), 402);
     assert_eq!(rt; text.capacity(), 402);
+    Ok(())
+}
+
+#[test]
+fn timemaps_of_none_and_of_three(rt: HostRuntime) -> Result<(), Fail> {
+    let service = Service::new(rt.alloc(), "http://agg.example")?;
+    let original = Original::new(rt.alloc(), b"http://a.example/")?;
+    let text = write_timemap(rt.alloc(), &service, &original, &[])?;
+    assert_eq!(rt;
+        text.as_slice(),
+        b"<http://a.example/>; rel=\"original\",
+<http://agg.example/timegate/http://a.example/>; rel=\"timegate\",
+<http://agg.example/timemap/link/http://a.example/>; rel=\"self\"; type=\"application/link-format\"
+"
+            .as_slice()
+    );
+    let links = write_gate_links(rt.alloc(), &service, &original, &[])?;
+    assert_eq!(rt;
+        links.as_slice(),
+        b"<http://a.example/>; rel=\"original\", <http://agg.example/timemap/link/http://a.example/>; rel=\"timemap\"; type=\"application/link-format\"".as_slice()
+    );
+    // The datetimes of the mementos in the figure of RFC 7089, section 5.
+    let one = memento(&rt, 961_524_179, b"http://m.example/1")?;
+    let two = memento(&rt, 961_550_251, b"http://m.example/2")?;
+    let three = memento(&rt, 1_256_676_594, b"http://m.example/3")?;
+    let text = write_timemap(rt.alloc(), &service, &original, &[one, two, three])?;
+    assert_eq!(rt;
+        text.as_slice(),
+        b"<http://a.example/>; rel=\"original\",
+<http://agg.example/timegate/http://a.example/>; rel=\"timegate\",
+<http://agg.example/timemap/link/http://a.example/>; rel=\"self\"; type=\"application/link-format\"; from=\"Tue, 20 Jun 2000 18:02:59 GMT\"; until=\"Tue, 27 Oct 2009 20:49:54 GMT\",
+<http://m.example/1>; rel=\"first memento\"; datetime=\"Tue, 20 Jun 2000 18:02:59 GMT\",
+<http://m.example/2>; rel=\"memento\"; datetime=\"Wed, 21 Jun 2000 01:17:31 GMT\",
+<http://m.example/3>; rel=\"last memento\"; datetime=\"Tue, 27 Oct 2009 20:49:54 GMT\"
+"
+            .as_slice()
+    );
+    assert_eq!(rt; text.capacity(), text.len());
     Ok(())
 }
 
