@@ -14,3 +14,4 @@ pub mod Walked
 pub mod Searched
 pub mod ShelfLemmas
 pub mod Rising
+pub mod Made

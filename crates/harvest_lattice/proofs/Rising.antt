@@ -23,7 +23,7 @@ use Rattle.harvest_lattice.proofs.Sets.{keys_rise, firsts, less_from, both_parts
 use Rattle.harvest_lattice.proofs.RowLemmas.{keys_rows}
 use Rattle.harvest_lattice.proofs.Entries.{key_cmp_total}
 
-is_true : (b : Bool) → T b → b ≡ true
+pub is_true : (b : Bool) → T b → b ≡ true
 is_true true h = refl
 is_true false h = absurd h
 

@@ -1,13 +1,15 @@
 //! Laws of the definitions.
-ghost use Rattle.std.specs.Prelude.{◌≡◌, ℕ, ◌++◌, ◌↔◌, List, [], IsTrue, MatchOption};
+ghost use Rattle.std.specs.Prelude.{◌≡◌, ℕ, ◌+◌, ◌≤◌, ◌++◌, ◌↔◌, List, [], Some, IsTrue, MatchOption};
+ghost use Rattle.std.specs.FinMap as map;
 ghost use Rattle.std.specs.List.Sorted.{IsStrictlySortedBy};
 ghost use Rattle.memento_time.specs.Mementos.{memento_cmp};
 ghost use Rattle.memento_time.specs.declared.mementos.Memento.{Memento};
 ghost use Rattle.harvest_lattice.specs.Sets as set;
-ghost use Rattle.harvest_lattice.specs.Choice.{IsNearest, IsLast, nearest, last};
+ghost use Rattle.harvest_lattice.specs.Choice.{IsNearest, IsLast, distance, nearest, last};
 ghost use Rattle.std.specs.List.{Contains};
 ghost use Rattle.harvest_lattice.specs.Knowledge.{Harvested, IsShown, adds, lat, shown, shown_of};
-ghost use Rattle.harvest_lattice.specs.Lattice.{Entries, Mementos, AtMost, join};
+ghost use Rattle.harvest_lattice.specs.Lattice.{Entries, Key, Kept, Mementos, AtMost, join};
+ghost use Rattle.harvest_lattice.specs.Rows.{kept_with, map_with};
 
 /// `AtMost` is a partial order.
 pub fn states_are_ordered()
@@ -48,6 +50,19 @@ pub fn state_of_a_state()
 /// What harvests show of an original is what their state has of it.
 pub fn state_shows_the_same()
     ensures { (hs : List Harvested) (original : List ℕ) → shown hs original ≡ shown_of (lat hs) original }
+{}
+
+/// Rows make a state exactly where they are its own in order, and a revision and mementos make an
+/// entry exactly where they are its own in order.
+pub fn a_state_is_its_rows()
+    ensures rows { (rows : List (Key × Kept)) (state : Entries) → map_with rows ≡ Some state ↔ map.entries state ≡ rows }
+    ensures entry { (revision : ℕ) (list : List Memento) (kept : Kept) → kept_with revision list ≡ Some kept ↔ (kept.revision ≡ revision) × (set.items kept.mementos ≡ list) }
+{}
+
+/// A distance is what lies between the memento's second and the other, whichever is later.
+pub fn distances_are_between()
+    ensures later { (t : ℕ) (m : Memento) → t ≤ m.at → t + distance t m ≡ m.at }
+    ensures earlier { (t : ℕ) (m : Memento) → m.at ≤ t → m.at + distance t m ≡ t }
 {}
 
 /// There is one nearest memento, unless there is none at all.

@@ -26,9 +26,9 @@ mod walk;
 pub use harvest::{Harvest, HarvestFault};
 pub use index::{Index, Merge};
 pub use laws::{
-    join_is_a_semilattice, join_is_least_upper_bound, one_is_last, one_is_nearest,
-    one_list_of_a_set, state_of_a_set, state_of_a_state, state_of_a_union, state_shows_the_same,
-    states_are_ordered, the_latest_are_shown,
+    a_state_is_its_rows, distances_are_between, join_is_a_semilattice, join_is_least_upper_bound,
+    one_is_last, one_is_nearest, one_list_of_a_set, state_of_a_set, state_of_a_state,
+    state_of_a_union, state_shows_the_same, states_are_ordered, the_latest_are_shown,
 };
 pub use row::{Entry, Row};
 pub use state::State;
