@@ -21,20 +21,11 @@ use Rattle.replica_world.specs.Script.{Taking}
 use Rattle.replica_world.specs.Output.{Happens, IsPage, answer_text, taken_line, harvest_of, refused}
 use Rattle.replica_world.specs.Performing.{IsHappening, IsHarvestTaken}
 
--- an event that ran out of memory says so
-ran_out : (w : World) (event : Event) (answer : Answer) (next : World) → RunsOut w event answer next → answer ≡ Err NoMemory
-ran_out w (Take i h) answer next out = out.0
-ran_out w (Send i) answer next out = out.0
-ran_out w (Deliver i k) answer next out = out.0
-ran_out w (Receive i bytes) answer next out = out.0
-ran_out w (Restart i) answer next out = absurd out
-ran_out w (Ask i q) answer next out = out.0
-
 -- any other answer is the event's effect
 took_effect : (base : List ℕ) (w : World) (event : Event) (answer : Answer) (next : World) → answer ≢ Err NoMemory → Effect base w event answer next ⊎ RunsOut w event answer next
     → Effect base w event answer next
 took_effect base w event answer next memory (inl effect) = effect
-took_effect base w event answer next memory (inr out) = absurd (memory (ran_out w event answer next out))
+took_effect base w event answer next memory (inr out) = absurd (memory out.0)
 
 -- the event happened in each world that is stood for
 happened : (old new : Kept) (accepted : List ℕ) (event : Event) (answer : Answer) (text : List ℕ) → Steps old event answer new → answer ≢ Err NoMemory → text ≡ answer_text accepted answer

@@ -13,8 +13,8 @@ use Rattle.replica_world.specs.declared.asked.Asked.{Asked}
 use Rattle.replica_world.specs.World.{Knowledge, World, Replica, Answer, Run, Step, Refuses, Accepts, replica, start}
 use Rattle.replica_world.specs.Stands.{Kept, Stands, Steps, Runs}
 use Rattle.replica_world.specs.Agreement.{HasTaken, Gives}
-use Rattle.replica_world.specs.Asked.{AgreeAfter}
-use Rattle.replica_world.proofs.Replies.{same_state, agreement, redirects_well}
+use Rattle.replica_world.specs.Asked.{AgreeAfter, RepliesWell}
+use Rattle.replica_world.proofs.Replies.{given, same_state, agreement, serves_timemaps, redirects_well}
 
 -- a question leaves the world as it is
 effect_stays : (base : List ℕ) (w : World) (q : Request) (answer : Answer) (next : World) (o : Option Replica)
@@ -35,6 +35,13 @@ question base kept w i q answer base_is stands steps =
 replied : (base : List ℕ) (w : World) (i : ℕ) (q : Request) (answer : Answer) (r : Reply) → Step base w (Ask i q) answer w → answer ≡ Ok (Replied r) → Gives base w i q r
 replied base w i q answer r step is = record { next = w; asked = subst (λ (a : Answer). Step base w (Ask i q) a w) is step }
 
+replies_well : (base : List ℕ) (w : World) (i : ℕ) (q : Request) (answer : Answer) → Step base w (Ask i q) answer w → RepliesWell base w i q answer
+replies_well base w i q answer step = record {
+  own = λ known r taken is. given base w i known q r taken (replied base w i q answer r step is);
+  timemap = λ known original r taken is route. serves_timemaps base w i known taken q original r route (replied base w i q answer r step is);
+  redirect = λ known r taken is status. redirects_well base w i known taken q r (replied base w i q answer r step is) status;
+}
+
 pub agree_after : (base : List ℕ) (count : ℕ) (events : List Event) (q : Request) (i j : ℕ) (first after : Kept) (said : Asked)
     → Stands first (start count) → first.base ≡ base → Runs first events said.answers.items after → Steps after (Ask i q) said.first after → Steps after (Ask j q) said.second after
     → AgreeAfter base count events q i j said
@@ -53,5 +60,6 @@ agree_after base count events q i j first after said stands base_is runs left ri
       second = asked_other;
       same_harvests = λ known know r s i_is j_is members one_is other_is. same known know r s i_is j_is (same_state known know members) one_is other_is;
       same_state = same;
-      redirects = λ known r i_is one_is status. redirects_well base led.end i known i_is q r (replied base led.end i q said.first r asked_one one_is) status;
+      first_replies = replies_well base led.end i q said.first asked_one;
+      second_replies = replies_well base led.end j q said.second asked_other;
     }

@@ -23,7 +23,7 @@ use Rattle.replica_world.specs.declared.event.Said.TheVariants.{Taken, Sent, Joi
 use Rattle.replica_world.specs.declared.event.Refused.TheVariants.{NoReplica, NoMessage, BadState, NoMemory}
 use Rattle.replica_world.specs.Faults.{refusal}
 use Rattle.replica_world.specs.Places.{IsNoNumber}
-use Rattle.replica_world.specs.World.{Knowledge, World, Replica, Message, Answer, Step, Run, Effect, RunsOut, IsText, replica, message, with_replica, with_message, taking, sent_by, fresh, start}
+use Rattle.replica_world.specs.World.{Knowledge, World, Replica, Message, Answer, Step, Run, Effect, HasReplica, TakesMemory, IsText, replica, message, with_replica, with_message, taking, sent_by, fresh, start}
 use Rattle.replica_world.specs.Stands.{Kept, Stands, IsSent, Steps, Runs, state_of, bytes_of}
 use Rattle.replica_world.proofs.Places.{At, at_place, no_number}
 
@@ -56,12 +56,32 @@ pub no_replica : (kept : Kept) (count : ℕ) (event : Event) → count ≡ lengt
 no_replica kept count event count_is none =
     stays kept event (Err NoReplica) (λ w stands. inl (refused_without kept.base w event (no_number state_of w.replicas kept.states (number_of event) count stands.states count_is none)))
 
-pub ran_out : (kept : Kept) (event : Event) → ((w : World) → RunsOut w event (Err NoMemory) w) → Steps kept event (Err NoMemory) kept
-ran_out kept event out = stays kept event (Err NoMemory) (λ w stands. inr (out w))
-
 -- the replica of a number, whose state is kept at its place
 replica_at : (kept : Kept) (w : World) (number place : ℕ) (d : Entries) → Stands kept w → number ≡ place + 1 → place < length kept.states → At state_of w.replicas number (get_or w.replicas place fresh) (get_or kept.states place d)
 replica_at kept w number place d stands is below = at_place state_of w.replicas kept.states number place fresh d stands.states is below
+
+ran_out : (kept : Kept) (number place : ℕ) (event : Event) → number ≡ place + 1 → place < length kept.states → ((w : World) → Stands kept w → HasReplica w number → TakesMemory w event)
+    → Steps kept event (Err NoMemory) kept
+ran_out kept number place event number_is below takes =
+    stays kept event (Err NoMemory)
+    (λ w stands. inr (refl, refl, takes w stands (get_or w.replicas place fresh, (replica_at kept w number place fmap.empty stands number_is below).there)))
+
+-- an answer for want of memory, after which all is as it was
+pub out_as : (old new : Kept) (event : Event) (answer : Answer) → Steps old event (Err NoMemory) old → new ≡ old → answer ≡ Err NoMemory → Steps old event answer new
+out_as old new event answer steps new_is answer_is = subst (λ (k : Kept). Steps old event answer k) (sym new_is) (subst (λ (a : Answer). Steps old event a old) (sym answer_is) steps)
+
+pub take_ran_out : (kept : Kept) (number place : ℕ) (h : Harvested) → number ≡ place + 1 → place < length kept.states → Steps kept (Take number h) (Err NoMemory) kept
+take_ran_out kept number place h number_is below = ran_out kept number place (Take number h) number_is below (λ w stands there. there)
+
+pub send_ran_out : (kept : Kept) (number place : ℕ) → number ≡ place + 1 → place < length kept.states → Steps kept (Send number) (Err NoMemory) kept
+send_ran_out kept number place number_is below = ran_out kept number place (Send number) number_is below (λ w stands there. there)
+
+pub ask_ran_out : (kept : Kept) (number place : ℕ) (q : Request) → number ≡ place + 1 → place < length kept.states → Steps kept (Ask number q) (Err NoMemory) kept
+ask_ran_out kept number place q number_is below = ran_out kept number place (Ask number q) number_is below (λ w stands there. there)
+
+pub receive_ran_out : (kept : Kept) (number place : ℕ) (bytes : List ℕ) → number ≡ place + 1 → place < length kept.states → length bytes ≤ longest_text
+    → Steps kept (Receive number bytes) (Err NoMemory) kept
+receive_ran_out kept number place bytes number_is below within = ran_out kept number place (Receive number bytes) number_is below (λ w stands there. (there, within))
 
 -- the state at the place is that of the new replica, and nothing else changes
 stands_with : (old new : Kept) (w : World) (number place : ℕ) (r : Replica) (state : Entries) → Stands old w → number ≡ place + 1 → state ≡ state_of r
@@ -131,7 +151,7 @@ no_text bytes s (inr not) text = not.1 s text.state text.text
 pub not_received : (kept : Kept) (number place : ℕ) (bytes : List ℕ) (fault : StateFault) (answer : Answer) → number ≡ place + 1 → place < length kept.states
     → IsCause fault bytes → answer ≡ Err (refusal fault) → Steps kept (Receive number bytes) answer kept
 not_received kept number place bytes fault.NoMemory answer number_is below cause is =
-    subst (λ (a : Answer). Steps kept (Receive number bytes) a kept) (sym is) (ran_out kept (Receive number bytes) (λ w. (refl, refl)))
+    subst (λ (a : Answer). Steps kept (Receive number bytes) a kept) (sym is) (receive_ran_out kept number place bytes number_is below cause)
 not_received kept number place bytes TooLong answer number_is below cause is =
     stays kept (Receive number bytes) answer (λ w stands. inl (rw (replica_at kept w number place fmap.empty stands number_is below).there (inr (λ s text. no_text bytes s (inl cause) text, (is, refl)))))
 not_received kept number place bytes NotState answer number_is below cause is =
@@ -153,6 +173,14 @@ message_at kept w number place bytes stands number_is below bytes_is =
     let x = at_place bytes_of w.messages kept.messages number place blank bytes stands.messages number_is below in
     let within : place < length w.messages = omega (arith, length-map w.messages bytes_of, ap length stands.messages) in
     record { found = get_or w.messages place blank; there = x.there; bytes_is = bytes_is ∙ x.kept_is; sent = All-get_or IsSent w.messages place blank within stands.sent }
+
+pub deliver_ran_out : (kept : Kept) (number place k slot : ℕ) (bytes : List ℕ) → number ≡ place + 1 → place < length kept.states → k ≡ slot + 1 → slot < length kept.messages
+    → bytes ≡ get_or kept.messages slot bytes → length bytes ≤ longest_text → Steps kept (Deliver number k) (Err NoMemory) kept
+deliver_ran_out kept number place k slot bytes number_is below k_is slot_below bytes_is within =
+    ran_out kept number place (Deliver number k) number_is below
+    (λ w stands there.
+    let m = message_at kept w k slot bytes stands k_is slot_below bytes_is in
+    (there, (m.found, m.there, subst (λ (b : List ℕ). length b ≤ longest_text) m.bytes_is within)))
 
 pub no_message : (kept : Kept) (number place k count : ℕ) → number ≡ place + 1 → place < length kept.states → count ≡ length kept.messages → IsNoNumber k count → Steps kept (Deliver number k) (Err NoMessage) kept
 no_message kept number place k count number_is below count_is none =
@@ -193,7 +221,7 @@ pub not_delivered : (kept : Kept) (number place k slot : ℕ) (bytes : List ℕ)
 not_delivered kept number place k slot bytes TooLong answer number_is below k_is slot_below bytes_is cause is = not_joined kept number place k slot bytes answer number_is below k_is slot_below bytes_is (inl cause) is
 not_delivered kept number place k slot bytes NotState answer number_is below k_is slot_below bytes_is cause is = not_joined kept number place k slot bytes answer number_is below k_is slot_below bytes_is (inr cause) is
 not_delivered kept number place k slot bytes fault.NoMemory answer number_is below k_is slot_below bytes_is cause is =
-    subst (λ (a : Answer). Steps kept (Deliver number k) a kept) (sym is) (ran_out kept (Deliver number k) (λ w. (refl, refl)))
+    subst (λ (a : Answer). Steps kept (Deliver number k) a kept) (sym is) (deliver_ran_out kept number place k slot bytes number_is below k_is slot_below bytes_is cause)
 
 pub sent_now : (old new : Kept) (number place count : ℕ) (d : Entries) (text : List ℕ) → number ≡ place + 1 → place < length old.states
     → text ≡ state_text (get_or old.states place d) → IsState (get_or old.states place d)

@@ -1,5 +1,5 @@
 -- Worlds of replicas: what each replica has taken, the messages that were sent, and what each event does.
-use Rattle.std.specs.Prelude.{◌≡◌, ℕ, zero, suc, ◌+◌, ◌<◌, ◌≤◌, ◌⊎◌, List, [], ◌∷◌, ◌++◌, length, replicate, slice_get, slice_set, Option, None, MatchOption, Result, Ok, Err}
+use Rattle.std.specs.Prelude.{◌≡◌, ℕ, zero, suc, ◌+◌, ◌<◌, ◌≤◌, ◌⊎◌, List, [], ◌∷◌, ◌++◌, length, replicate, slice_get, slice_set, Option, Some, None, MatchOption, Result, Ok, Err}
 use Rattle.harvest_lattice.specs.Lattice.{Entries}
 use Rattle.harvest_lattice.specs.Knowledge.{Harvested, lat, adds}
 use Rattle.replica_exchange.specs.StateText.{IsState, state_text}
@@ -115,14 +115,26 @@ Effect base w (Receive i bytes) =
 Effect base w (Restart i) = AtReplica w i (λ r. Accepts Restarted (with_replica w i fresh))
 Effect base w (Ask i q) = AtReplica w i (λ r. Accepts (Replied (reply base r.taken q)) w)
 
--- what comes of an event for want of memory, which a restart never is
+-- the replica of this number is there
+abbrev pub HasReplica : World → ℕ → Type 0
+HasReplica w i = (r : Replica) × (replica w i ≡ Some r)
+
+-- the message of this number is there, and its bytes are within the limit
+abbrev pub HasMessage : World → ℕ → Type 0
+HasMessage w k = (m : Message) × (message w k ≡ Some m) × (length m.bytes ≤ longest_text)
+
+-- an event takes memory only once all that it names is there and its bytes are within the limit; a restart takes none
+abbrev pub TakesMemory : World → Event → Type 0
+TakesMemory w (Take i h) = HasReplica w i
+TakesMemory w (Send i) = HasReplica w i
+TakesMemory w (Deliver i k) = HasReplica w i × HasMessage w k
+TakesMemory w (Receive i bytes) = HasReplica w i × (length bytes ≤ longest_text)
+TakesMemory w (Restart i) = ⊥
+TakesMemory w (Ask i q) = HasReplica w i
+
+-- what comes of an event for want of memory: it is refused, and changes nothing
 abbrev pub RunsOut : World → Event → Outcome
-RunsOut w (Take i h) = Refuses NoMemory w
-RunsOut w (Send i) = Refuses NoMemory w
-RunsOut w (Deliver i k) = Refuses NoMemory w
-RunsOut w (Receive i bytes) = Refuses NoMemory w
-RunsOut w (Restart i) = λ answer new. ⊥
-RunsOut w (Ask i q) = Refuses NoMemory w
+RunsOut w event answer new = (answer ≡ Err NoMemory) × (new ≡ w) × TakesMemory w event
 
 -- one event in a world whose service has this base
 abbrev pub Step : List ℕ → World → Event → Outcome

@@ -1,6 +1,6 @@
-ghost use Rattle.std.specs.Prelude.{◌≡◌};
+ghost use Rattle.std.specs.Prelude.{◌≡◌, Some};
 ghost use Rattle.replica_world.specs.declared.event.Refused.TheVariants.{NoMemory as OutOfMemory};
-ghost use Rattle.replica_world.specs.Faults.{refusal};
+ghost use Rattle.replica_world.specs.Faults.{refusal, words_of};
 
 use harvest_lattice::Harvest;
 use memento_time::{NoMemory, Octets};
@@ -55,6 +55,8 @@ pub enum Refused {
 pub type Answer = Result<Said, Refused>;
 
 impl fmt::Display for Refused {
+    ghost output = { λ refused. Some (words_of refused) };
+
     fn fmt<W: fmt::Write>(&self, f: &mut fmt::Formatter<W>) -> fmt::Result {
         f.write_str(match self {
             Refused::NoReplica => "no replica",
