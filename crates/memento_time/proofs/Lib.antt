@@ -4,3 +4,4 @@ pub mod ReadLemmas
 pub mod StandardFacts
 pub mod SecondOfLemmas
 pub mod MementoLemmas
+pub mod TrimLemmas

@@ -7,3 +7,4 @@ pub mod BeforeEpoch
 pub mod Second
 pub mod Mementos
 pub mod SecondOf
+pub mod Faults

@@ -1,0 +1,53 @@
+//! Laws of the definitions.
+ghost use Rattle.std.specs.Prelude.{◌≡◌, ℕ, List, codes};
+ghost use Rattle.std.specs.Cmp.{IsTotalOrder};
+ghost use Rattle.std.specs.Ordering.{nat_cmp};
+ghost use Rattle.std.specs.declared.cmp.Ordering.TheVariants.{Equal};
+ghost use Rattle.httpdate.specs.Valid.{IsValid, parts_secs};
+ghost use Rattle.memento_time.specs.Blanks.{IsTrimmed, trim_blanks};
+ghost use Rattle.memento_time.specs.Civil.{civil_time};
+ghost use Rattle.memento_time.specs.Mementos.{text_cmp, memento_cmp};
+ghost use Rattle.memento_time.specs.Second.{IsSecond, imf, Reads};
+ghost use Rattle.memento_time.specs.declared.mementos.Memento.{Memento as Captured};
+
+use crate::lists::Octets;
+use crate::mementos::Memento;
+use crate::moments::Moment;
+use crate::names::ArchiveName;
+use crate::texts::{Clean, Original};
+
+/// Moments compare as their numbers, texts and names by their bytes, and mementos by datetime and then by URI.
+pub fn orders_are_plain()
+    ensures moments { ⟦<Moment as Ord>⟧.cmp ≡ nat_cmp }
+    ensures octets { ⟦<Octets as Ord>⟧.cmp ≡ text_cmp }
+    ensures clean { ⟦<Clean as Ord>⟧.cmp ≡ text_cmp }
+    ensures originals { ⟦<Original as Ord>⟧.cmp ≡ text_cmp }
+    ensures names { ⟦<ArchiveName as Ord>⟧.cmp ≡ text_cmp }
+    ensures mementos { ⟦<Memento as Ord>⟧.cmp ≡ memento_cmp }
+{}
+
+/// Of two mementos one comes first, unless both are one.
+pub fn mementos_are_ordered()
+    ensures total { IsTotalOrder memento_cmp }
+    ensures exact { (a b : Captured) → memento_cmp a b ≡ Equal → a ≡ b }
+{}
+
+/// The text of each second reads as that second, and no text reads as two.
+pub fn texts_are_read()
+    ensures own { (s : ℕ) → IsSecond s → Reads (imf s) s }
+    ensures one { (text : List ℕ) (s t : ℕ) → Reads text s → Reads text t → s ≡ t }
+{}
+
+/// The date of a second, told day after day, is one of the calendar, and the days of whole years and months lead back
+/// from it to the second.
+pub fn dates_are_of_the_calendar()
+    ensures valid { (s : ℕ) → IsSecond s → IsValid (civil_time s) }
+    ensures back { (s : ℕ) → IsSecond s → parts_secs (civil_time s) ≡ s }
+    ensures first { imf 0 ≡ codes "Thu, 01 Jan 1970 00:00:00 GMT" }
+    ensures of_rfc_9110 { imf 784111777 ≡ codes "Sun, 06 Nov 1994 08:49:37 GMT" }
+{}
+
+/// Trimming takes away blanks alone, and all that stand at an end.
+pub fn blanks_are_cut()
+    ensures { (text : List ℕ) → IsTrimmed text (trim_blanks text) }
+{}
