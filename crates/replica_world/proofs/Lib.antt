@@ -8,3 +8,5 @@ mod Once
 mod Pages
 mod Progress
 mod Happenings
+mod LaidOut
+mod WholeScript

@@ -6,6 +6,7 @@ pub mod Agreement
 pub mod Asked
 pub mod Fields
 pub mod Script
+pub mod Layout
 pub mod Output
 pub mod Spelled
 pub mod Performing

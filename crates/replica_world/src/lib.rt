@@ -17,6 +17,6 @@ pub use agreement::replicas_agree;
 pub use asked::{Asked, asked_after};
 pub use event::{Answer, Event, Refused, Said};
 pub use replaying::fault::ReplayFault;
-pub use replaying::laws::one_output;
+pub use replaying::laws::{one_output, script_is_its_layout};
 pub use replaying::run::replay;
 pub use world::World;

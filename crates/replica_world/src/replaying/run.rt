@@ -125,8 +125,8 @@ fn replay_script<W: Write>(alloc: Global, script: &[u8], writer: &mut W) -> Resu
 ///   reader was not at its end after 1,000,000,000 reads, which no script of fewer bytes needs.
 /// - `NoMemory`: the allocator refused a growth.
 ///
-/// Where reader and writer tell their bytes, what is written is the one output of the script, and after the last three
-/// faults a beginning of it.
+/// Where reader and writer tell their bytes, what is written is the one output of the script; nothing after `Read`, and
+/// after `Write` and `NoMemory` a beginning of it.
 pub fn replay<R: Read, W: Write>(
     alloc: Global,
     reader: &mut R,
