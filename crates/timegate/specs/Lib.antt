@@ -1,3 +1,4 @@
 pub mod Route
 pub mod Reply
 pub mod Redirect
+pub mod Promises

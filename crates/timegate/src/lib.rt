@@ -11,6 +11,9 @@ mod route;
 mod tests;
 
 pub use answering::answer;
-pub use laws::{redirects_name_the_nearest, replies_from_state, same_harvests_same_reply};
+pub use laws::{
+    head_is_get_without_body, headers_stand_in_order, redirects_name_the_nearest,
+    replies_from_state, same_harvests_same_reply, timegates_vary, told_addresses_are_served,
+};
 pub use reply::{Header, Reply};
 pub use request::Request;

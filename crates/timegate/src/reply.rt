@@ -1,4 +1,4 @@
-ghost use Rattle.std.specs.Prelude.{◌≡◌};
+ghost use Rattle.std.specs.Prelude.{◌≡◌, Some};
 ghost use Rattle.timegate.specs.Reply.{header_name};
 
 use memento_time::{Items, Octets};
@@ -30,6 +30,8 @@ impl Header {
 }
 
 impl fmt::Display for Header {
+    ghost output = { λ header. Some (header_name header) };
+
     fn fmt<W: fmt::Write>(&self, f: &mut fmt::Formatter<W>) -> fmt::Result {
         f.write_str(self.name())
     }

@@ -9,6 +9,39 @@ const DAYS: [u64; 3] = [946_684_800, 946_771_200, 946_857_600];
 
 const GATE: &[u8] = b"/timegate/http://a.example/";
 
+const MAP: &[u8] = b"/timemap/link/http://a.example/";
+
+/// The head of a redirect to the first of two mementos, from the profile's worked example.
+const REDIRECT: &[u8] = b"Vary: accept-datetime
+Location: http://m.example/1
+Link: <http://a.example/>; rel=\"original\", <http://agg.example/timemap/link/http://a.example/>; rel=\"timemap\"; type=\"application/link-format\"; from=\"Sat, 01 Jan 2000 00:00:00 GMT\"; until=\"Mon, 03 Jan 2000 00:00:00 GMT\"
+";
+
+/// The head of a redirect to the second.
+const REDIRECT_TO_LAST: &[u8] = b"Vary: accept-datetime
+Location: http://m.example/2
+Link: <http://a.example/>; rel=\"original\", <http://agg.example/timemap/link/http://a.example/>; rel=\"timemap\"; type=\"application/link-format\"; from=\"Sat, 01 Jan 2000 00:00:00 GMT\"; until=\"Mon, 03 Jan 2000 00:00:00 GMT\"
+";
+
+/// The head and the body of the TimeMap of these two.
+const TIMEMAP: &[u8] = b"Content-Type: application/link-format
+<http://a.example/>; rel=\"original\",
+<http://agg.example/timegate/http://a.example/>; rel=\"timegate\",
+<http://agg.example/timemap/link/http://a.example/>; rel=\"self\"; type=\"application/link-format\"; from=\"Sat, 01 Jan 2000 00:00:00 GMT\"; until=\"Mon, 03 Jan 2000 00:00:00 GMT\",
+<http://m.example/1>; rel=\"first memento\"; datetime=\"Sat, 01 Jan 2000 00:00:00 GMT\",
+<http://m.example/2>; rel=\"last memento\"; datetime=\"Mon, 03 Jan 2000 00:00:00 GMT\"
+";
+
+/// The head and the body of the state bytes of these two.
+const STATE: &[u8] = b"Content-Type: text/plain
+memento-state 1
+entries 1
+entry arc.example 7 2 http://a.example/
+946684800 http://m.example/1
+946857600 http://m.example/2
+end
+";
+
 /// Takes a harvest of `http://a.example/` with mementos at these seconds and addresses.
 fn take(
     rt: &HostRuntime,
@@ -91,33 +124,17 @@ fn names(rt: &HostRuntime, index: &Index, asked: &[&[u8]], uri: &[u8]) -> Result
     Ok(reply.status == 302 && named)
 }
 
-/// The TimeGate that is asked so refuses the datetime.
-fn is_bad_datetime(rt: &HostRuntime, index: &Index, asked: &[&[u8]]) -> Result<bool, Fail> {
-    let refused = reply(rt, index, b"GET", GATE, asked)?;
-    says(
-        rt,
-        &refused,
-        400,
-        b"Vary: accept-datetime\nContent-Type: text/plain\nbad datetime\n",
-    )
-}
-
-#[test]
-fn a_redirect(rt: HostRuntime) -> Result<(), Fail> {
-    let asked: &[u8] = b"Sun, 02 Jan 2000 00:00:00 GMT";
-    let reply = reply(&rt, &two(&rt)?, b"GET", GATE, &[asked])?;
-    assert!(rt;
-        says(
-            &rt,
-            &reply,
-            302,
-            b"Vary: accept-datetime
-Location: http://m.example/1
-Link: <http://a.example/>; rel=\"original\", <http://agg.example/timemap/link/http://a.example/>; rel=\"timemap\"; type=\"application/link-format\"; from=\"Sat, 01 Jan 2000 00:00:00 GMT\"; until=\"Mon, 03 Jan 2000 00:00:00 GMT\"
-"
-        )?
-    );
-    Ok(())
+/// Two mementos are held, and the request is answered with this status and these lines.
+fn answers(
+    rt: &HostRuntime,
+    method: &[u8],
+    target: &[u8],
+    asked: &[&[u8]],
+    status: u16,
+    lines: &[u8],
+) -> Result<bool, Fail> {
+    let reply = reply(rt, &two(rt)?, method, target, asked)?;
+    says(rt, &reply, status, lines)
 }
 
 #[test]
@@ -163,7 +180,7 @@ fn choices(rt: HostRuntime) -> Result<(), Fail> {
             b"http://m.example/1"
         )?
     );
-    let timemap = reply(&rt, &index, b"GET", b"/timemap/link/http://a.example/", &[])?;
+    let timemap = reply(&rt, &index, b"GET", MAP, &[])?;
     assert!(rt;
         timemap.body.as_slice().ends_with(
             b"<http://m.example/2>; rel=\"memento\"; datetime=\"Mon, 03 Jan 2000 00:00:00 GMT\",
@@ -175,78 +192,94 @@ fn choices(rt: HostRuntime) -> Result<(), Fail> {
 }
 
 #[test]
-fn timemaps(rt: HostRuntime) -> Result<(), Fail> {
-    let target = b"/timemap/link/http://a.example/";
-    let one = index_of(
-        &rt,
-        &[(
-            DAYS[0],
-            b"http://arc.example/web/20000101000000/http://a.example/",
-        )],
-    )?;
-    let reply_of_one = reply(&rt, &one, b"GET", target, &[])?;
-    assert_eq!(rt; reply_of_one.body.as_slice().len(), 402);
-    let reply_of_two = reply(&rt, &two(&rt)?, b"GET", target, &[])?;
-    assert_eq!(rt; reply_of_two.body.as_slice().len(), 444);
-    let head = reply(&rt, &one, b"HEAD", target, &[])?;
-    assert!(rt; says(&rt, &head, 200, b"Content-Type: application/link-format\n")?);
-    let mut emptied = one;
-    take(&rt, &mut emptied, 8, &[])?;
-    let none = reply(&rt, &emptied, b"GET", target, &[])?;
-    assert!(rt; says(&rt, &none, 404, b"Content-Type: text/plain\nno memento\n")?);
+fn redirects_and_timemaps(rt: HostRuntime) -> Result<(), Fail> {
+    let asked: &[u8] = b"Sun, 02 Jan 2000 00:00:00 GMT";
+    assert_eq!(rt; TIMEMAP.len(), 38 + 444);
+    assert!(rt; answers(&rt, b"GET", GATE, &[asked], 302, REDIRECT)?);
+    assert!(rt; answers(&rt, b"HEAD", GATE, &[asked], 302, REDIRECT)?);
+    assert!(rt; answers(&rt, b"GET", GATE, &[], 302, REDIRECT_TO_LAST)?);
+    assert!(rt; answers(&rt, b"GET", MAP, &[], 200, TIMEMAP)?);
+    assert!(rt; answers(&rt, b"GET", MAP, &[b"", asked], 200, TIMEMAP)?);
+    let kind: &[u8] = b"Content-Type: application/link-format\n";
+    assert!(rt; answers(&rt, b"HEAD", MAP, &[], 200, kind)?);
+    Ok(())
+}
+
+#[test]
+fn nothing_is_shown(rt: HostRuntime) -> Result<(), Fail> {
+    let mut index = two(&rt)?;
+    take(&rt, &mut index, 8, &[])?;
+    let gate = reply(&rt, &index, b"GET", GATE, &[])?;
+    let plain: &[u8] = b"Content-Type: text/plain\nno memento\n";
+    let varied: &[u8] = b"Vary: accept-datetime\nContent-Type: text/plain\nno memento\n";
+    assert!(rt; says(&rt, &gate, 404, varied)?);
+    let map = reply(&rt, &index, b"GET", MAP, &[])?;
+    assert!(rt; says(&rt, &map, 404, plain)?);
+    let other: &[u8] = b"/timemap/link/http://b.example/";
+    assert!(rt; answers(&rt, b"GET", other, &[], 404, plain)?);
     Ok(())
 }
 
 #[test]
 fn refusals(rt: HostRuntime) -> Result<(), Fail> {
-    let index = two(&rt)?;
     let first: &[u8] = b"Sat, 01 Jan 2000 00:00:00 GMT";
-    assert!(rt; is_bad_datetime(&rt, &index, &[b"Tue, 31 Feb 2000 00:00:00 GMT"])?);
-    assert!(rt; is_bad_datetime(&rt, &index, &[b"Saturday, 01-Jan-00 00:00:00 GMT"])?);
-    assert!(rt; is_bad_datetime(&rt, &index, &[b""])?);
-    assert!(rt; is_bad_datetime(&rt, &index, &[first, first])?);
-    let method = reply(&rt, &index, b"POST", b"/timegate/nonsense", &[])?;
-    assert!(rt;
-        says(
-            &rt,
-            &method,
-            405,
-            b"Allow: GET, HEAD\nVary: accept-datetime\nContent-Type: text/plain\nbad method\n"
-        )?
-    );
-    let original = reply(&rt, &index, b"GET", b"/timegate/nonsense", &[])?;
-    assert!(rt;
-        says(
-            &rt,
-            &original,
-            400,
-            b"Vary: accept-datetime\nContent-Type: text/plain\nbad original\n"
-        )?
-    );
-    let route = reply(&rt, &index, b"GET", b"/x", &[])?;
-    assert!(rt;
-        says(
-            &rt,
-            &route,
-            404,
-            b"Content-Type: text/plain\nno such route\n"
-        )?
-    );
+    let no_method: &[u8] = b"Allow: GET, HEAD\nContent-Type: text/plain\nbad method\n";
+    assert!(rt; answers(&rt, b"POST", b"/state", &[], 405, no_method)?);
+    assert!(rt; answers(&rt, b"get", MAP, &[], 405, no_method)?);
+    let no_method: &[u8] =
+        b"Allow: GET, HEAD\nVary: accept-datetime\nContent-Type: text/plain\nbad method\n";
+    assert!(rt; answers(&rt, b"POST", b"/timegate/nonsense", &[], 405, no_method)?);
+    let no_datetime: &[u8] = b"Vary: accept-datetime\nContent-Type: text/plain\nbad datetime\n";
+    let unread: [&[u8]; 3] = [
+        b"",
+        b"Tue, 31 Feb 2000 00:00:00 GMT",
+        b"Saturday, 01-Jan-00 00:00:00 GMT",
+    ];
+    for value in unread {
+        assert!(rt; answers(&rt, b"GET", GATE, &[value], 400, no_datetime)?);
+    }
+    assert!(rt; answers(&rt, b"GET", GATE, &[first, first], 400, no_datetime)?);
+    let no_original: &[u8] = b"Vary: accept-datetime\nContent-Type: text/plain\nbad original\n";
+    let unnamed: [&[u8]; 4] = [
+        b"/timegate/",
+        b"/timegate/nonsense",
+        b"/timegate/http://a.example/\xff",
+        b"/timegate/http%3A%2F%2Fa.example%2F",
+    ];
+    for target in unnamed {
+        assert!(rt; answers(&rt, b"GET", target, &[first, b""], 400, no_original)?);
+    }
     Ok(())
 }
 
 #[test]
-fn state_bytes(rt: HostRuntime) -> Result<(), Fail> {
-    let index = index_of(
-        &rt,
-        &[(
-            DAYS[0],
-            b"http://arc.example/web/20000101000000/http://a.example/",
-        )],
-    )?;
-    let state = reply(&rt, &index, b"GET", b"/state", &[])?;
-    assert_eq!(rt; state.body.as_slice().len(), 136);
-    let head = reply(&rt, &index, b"HEAD", b"/state", &[])?;
-    assert!(rt; says(&rt, &head, 200, b"Content-Type: text/plain\n")?);
+fn other_targets(rt: HostRuntime) -> Result<(), Fail> {
+    let no_original: &[u8] = b"Content-Type: text/plain\nbad original\n";
+    let no_route: &[u8] = b"Content-Type: text/plain\nno such route\n";
+    let kind: &[u8] = b"Content-Type: text/plain\n";
+    assert!(rt;
+        answers(
+            &rt,
+            b"GET",
+            b"/timemap/link/nonsense",
+            &[],
+            400,
+            no_original
+        )?
+    );
+    assert!(rt; answers(&rt, b"GET", b"/state", &[], 200, STATE)?);
+    assert!(rt; answers(&rt, b"HEAD", b"/state", &[], 200, kind)?);
+    assert!(rt; answers(&rt, b"HEAD", b"/x", &[], 404, kind)?);
+    let others: [&[u8]; 6] = [
+        b"/x",
+        b"/state/",
+        b"/state?x",
+        b"/timegate",
+        b"/timemap/link",
+        b"/TimeMap/link/http://a.example/",
+    ];
+    for target in others {
+        assert!(rt; answers(&rt, b"GET", target, &[], 404, no_route)?);
+    }
     Ok(())
 }

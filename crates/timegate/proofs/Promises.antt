@@ -1,0 +1,197 @@
+-- What a client may rely on, by what is asked for.
+use Rattle.std.proofs.Common.{◌≡◌, ℕ, ◌<◌, ◌++◌, ◌&&◌, ◌==◌, Bool, true, false, not, length, drop, List, [], ◌∷◌, Option, Some, None, refl, ap, append_assoc, sym, subst, ◌∙◌, inl, inr, arith}
+use Rattle.std.specs.Prelude.{⊤, codes, bytes_eq, nat_eq, if◌then◌else◌}
+use Rattle.std.specs.List.{starts_with}
+use Rattle.std.proofs.lemmas.List.{append_cancel_left}
+use Rattle.std.proofs.lemmas.Bool.{true≢false}
+use Rattle.std.proofs.lemmas.Slice.Eq.{bytes_eq-Decides}
+use Rattle.memento_time.specs.declared.mementos.Memento.{Memento}
+use Rattle.memento_time.specs.SecondOf.{asked_of}
+use Rattle.harvest_lattice.specs.Sets as set
+use Rattle.harvest_lattice.specs.Lattice.{Mementos, Entries}
+use Rattle.harvest_lattice.specs.Knowledge.{Harvested, lat, shown}
+use Rattle.timemap_writer.specs.TimeMap.{timegate_address, timemap_address, timemap_text, gate_links}
+use Rattle.timegate.specs.declared.reply.Reply.{Reply}
+use Rattle.timegate.specs.declared.reply.Header.TheVariants.{Allow, Vary, Location, Link, ContentType}
+use Rattle.timegate.specs.declared.request.Request.{Request}
+use Rattle.timegate.specs.declared.route.Route.{Route}
+use Rattle.timegate.specs.declared.route.Route.TheVariants.{BadMethod, State, NoRoute, BadOriginal, BadDatetime, TimeGate, TimeMap}
+use Rattle.timegate.specs.Route.{is_get, is_head, is_state, is_timegate, is_timemap, timegates, timemaps, original_at, datetime_route, timegate_route, original_route, route_of}
+use Rattle.timegate.specs.Reply.{Headers, routed, reply, redirect, timemap, chosen, vary, answered, told}
+use Rattle.timegate.specs.Promises.{as_get, without_body, vary_values, AreInOrder}
+
+-- ---- HEAD
+
+abbrev made : ℕ → Headers → List ℕ → Reply
+made status headers body = record { status = status; headers = headers; body = body }
+
+bare : (b : Bool) → b ≡ true → (status : ℕ) (headers : Headers) (body : List ℕ) → made status headers (if b then [] else body) ≡ made status headers []
+bare true is status headers body = refl
+bare false is status headers body = absurd (true≢false (sym is))
+
+either_bare : (b : Bool) (x y other_x other_y : Reply) → x ≡ without_body other_x → y ≡ without_body other_y → (if b then x else y) ≡ without_body (if b then other_x else other_y)
+either_bare true x y other_x other_y left right = left
+either_bare false x y other_x other_y left right = right
+
+redirect_bare : (base : List ℕ) (q : Request) → is_head q ≡ true → (original : List ℕ) (mementos : Mementos) (c : Option Memento)
+    → redirect base q original mementos c ≡ without_body (redirect base (as_get q) original mementos c)
+redirect_bare base q is original mementos None = bare (is_head q) is _ _ _
+redirect_bare base q is original mementos (Some m) = bare (is_head q) is _ _ _
+
+routed_bare : (base : List ℕ) (shows : List ℕ → Mementos) (entries : Entries) (q : Request) → is_head q ≡ true → (route : Route)
+    → routed base shows entries q route ≡ without_body (routed base shows entries (as_get q) route)
+routed_bare base shows entries q is BadMethod = bare (is_head q) is _ _ _
+routed_bare base shows entries q is State = bare (is_head q) is _ _ _
+routed_bare base shows entries q is NoRoute = bare (is_head q) is _ _ _
+routed_bare base shows entries q is BadOriginal = bare (is_head q) is _ _ _
+routed_bare base shows entries q is BadDatetime = bare (is_head q) is _ _ _
+routed_bare base shows entries q is (TimeGate original asked) = redirect_bare base q is original (shows original) (chosen (shows original) asked)
+routed_bare base shows entries q is (TimeMap original) =
+    either_bare (length (set.items (shows original)) == 0) _ _ _ _ (bare (is_head q) is _ _ _) (bare (is_head q) is _ _ _)
+
+allowed : (g h : Bool) → h ≡ true → (refused route : Route) → (if not g && not h then refused else route) ≡ route
+allowed true h is refused route = refl
+allowed false true is refused route = refl
+allowed false false is refused route = absurd (true≢false (sym is))
+
+same_route : (q : Request) → is_head q ≡ true → route_of q ≡ route_of (as_get q)
+unfolding route_of
+same_route q is = allowed (is_get q) (is_head q) is _ _
+
+pub head_is_bare : (base : List ℕ) (known : List Harvested) (q : Request) → q.method ≡ codes "HEAD" → reply base known q ≡ without_body (reply base known (as_get q))
+unfolding reply
+head_is_bare base known q is =
+    let head : is_head q ≡ true = (bytes_eq-Decides q.method (codes "HEAD")).1 is in
+    ap (λ (route : Route). routed base (shown known) (lat known) q route) (same_route q head)
+    ∙ routed_bare base (shown known) (lat known) q head (route_of (as_get q))
+
+-- ---- the headers
+
+-- a target that is no TimeGate's
+abbrev Elsewhere : Request → Route → Type 0
+Elsewhere q BadMethod = ⊤
+Elsewhere q State = is_timegate q ≡ false
+Elsewhere q NoRoute = ⊤
+Elsewhere q BadOriginal = ⊤
+Elsewhere q BadDatetime = ⊤
+Elsewhere q (TimeGate original asked) = ⊤
+Elsewhere q (TimeMap original) = is_timegate q ≡ false
+
+gate_elsewhere : (q : Request) (original : List ℕ) (second : Option ℕ) → Elsewhere q (datetime_route original second)
+gate_elsewhere q original None = tt
+gate_elsewhere q original (Some second) = tt
+
+gates_elsewhere : (q : Request) (asked : List (List ℕ)) (original : Option (List ℕ)) → Elsewhere q (original_route (timegate_route asked) original)
+gates_elsewhere q asked None = tt
+gates_elsewhere q [] (Some original) = tt
+gates_elsewhere q (value ∷ []) (Some original) = gate_elsewhere q original (asked_of value)
+gates_elsewhere q (value ∷ next ∷ values) (Some original) = tt
+
+map_elsewhere : (q : Request) → is_timegate q ≡ false → (original : Option (List ℕ)) → Elsewhere q (original_route TimeMap original)
+map_elsewhere q other None = tt
+map_elsewhere q other (Some original) = other
+
+state_elsewhere : (q : Request) → is_state q ≡ true → is_timegate q ≡ false
+state_elsewhere q is = ap (λ (target : List ℕ). starts_with nat_eq target timegates) ((bytes_eq-Decides q.target (codes "/state")).0 is)
+
+first_fit : (q : Request) (refused state gate map_here : Bool) (gate_route map_route : Route) → is_timegate q ≡ gate
+    → (state ≡ true → is_timegate q ≡ false) → Elsewhere q gate_route → (is_timegate q ≡ false → Elsewhere q map_route)
+    → Elsewhere q (if refused then BadMethod else if state then State else if gate then gate_route else if map_here then map_route else NoRoute)
+first_fit q true state gate map_here gate_route map_route is at_state gates maps = tt
+first_fit q false true gate map_here gate_route map_route is at_state gates maps = at_state refl
+first_fit q false false true map_here gate_route map_route is at_state gates maps = gates
+first_fit q false false false true gate_route map_route is at_state gates maps = maps is
+first_fit q false false false false gate_route map_route is at_state gates maps = tt
+
+elsewhere : (q : Request) → Elsewhere q (route_of q)
+unfolding route_of
+elsewhere q =
+    first_fit q (not (is_get q) && not (is_head q)) (is_state q) (is_timegate q) (is_timemap q) _ _ refl (state_elsewhere q)
+    (gates_elsewhere q q.asked _) (λ other. map_elsewhere q other _)
+
+-- what stands in the header fields of a TimeGate's reply, or of another's
+abbrev gate_values : Bool → List (List ℕ)
+gate_values gate = if gate then codes "accept-datetime" ∷ [] else []
+
+abbrev gate_fields : Bool → Headers
+gate_fields gate = if gate then (Vary, codes "accept-datetime") ∷ [] else []
+
+record Keeps (gate : Bool) (headers : Headers) : Type 0 where
+  varied : vary_values headers ≡ gate_values gate
+  ordered : AreInOrder headers
+
+keeps_told : (gate : Bool) → Keeps gate (gate_fields gate ++ (ContentType, codes "text/plain") ∷ [])
+keeps_told true = record { varied = refl; ordered = (omega arith, tt) }
+keeps_told false = record { varied = refl; ordered = tt }
+
+keeps_refused : (gate : Bool) → Keeps gate (((Allow, codes "GET, HEAD") ∷ []) ++ gate_fields gate ++ (ContentType, codes "text/plain") ∷ [])
+keeps_refused true = record { varied = refl; ordered = (omega arith, (omega arith, tt)) }
+keeps_refused false = record { varied = refl; ordered = (omega arith, tt) }
+
+keeps_alone : (gate : Bool) → gate ≡ false → (kind : List ℕ) → Keeps gate ((ContentType, kind) ∷ [])
+keeps_alone true other kind = absurd (true≢false other)
+keeps_alone false other kind = record { varied = refl; ordered = tt }
+
+keeps_either : (gate b : Bool) (x y : Reply) → Keeps gate x.headers → Keeps gate y.headers → Keeps gate (if b then x else y).headers
+keeps_either gate true x y left right = left
+keeps_either gate false x y left right = right
+
+keeps_links : (gate : Bool) (uri links : List ℕ) → Keeps gate (gate_fields gate ++ (Location, uri) ∷ (Link, links) ∷ [])
+keeps_links true uri links = record { varied = refl; ordered = (omega arith, (omega arith, tt)) }
+keeps_links false uri links = record { varied = refl; ordered = (omega arith, tt) }
+
+keeps_redirect : (base : List ℕ) (q : Request) (original : List ℕ) (mementos : Mementos) (c : Option Memento) → Keeps (is_timegate q) (redirect base q original mementos c).headers
+keeps_redirect base q original mementos None = keeps_told (is_timegate q)
+keeps_redirect base q original mementos (Some m) = keeps_links (is_timegate q) m.uri (gate_links base original (set.items mementos))
+
+keeps_routed : (base : List ℕ) (shows : List ℕ → Mementos) (entries : Entries) (q : Request) (route : Route) → Elsewhere q route
+    → Keeps (is_timegate q) (routed base shows entries q route).headers
+keeps_routed base shows entries q BadMethod here = keeps_refused (is_timegate q)
+keeps_routed base shows entries q State here = keeps_alone (is_timegate q) here (codes "text/plain")
+keeps_routed base shows entries q NoRoute here = keeps_told (is_timegate q)
+keeps_routed base shows entries q BadOriginal here = keeps_told (is_timegate q)
+keeps_routed base shows entries q BadDatetime here = keeps_told (is_timegate q)
+keeps_routed base shows entries q (TimeGate original asked) here = keeps_redirect base q original (shows original) (chosen (shows original) asked)
+keeps_routed base shows entries q (TimeMap original) here =
+    keeps_either (is_timegate q) (length (set.items (shows original)) == 0) _ _ (keeps_told (is_timegate q)) (keeps_alone (is_timegate q) here (codes "application/link-format"))
+
+keeps : (base : List ℕ) (known : List Harvested) (q : Request) → Keeps (is_timegate q) (reply base known q).headers
+unfolding reply
+keeps base known q = keeps_routed base (shown known) (lat known) q (route_of q) (elsewhere q)
+
+pub vary_once : (base : List ℕ) (known : List Harvested) (q : Request) → vary_values (reply base known q).headers ≡ (if is_timegate q then codes "accept-datetime" ∷ [] else [])
+vary_once base known q = (keeps base known q).varied
+
+pub in_order : (base : List ℕ) (known : List Harvested) (q : Request) → AreInOrder (reply base known q).headers
+in_order base known q = (keeps base known q).ordered
+
+-- ---- what stands at the addresses that are told
+
+gate_at : (asked : List (List ℕ)) (original : List ℕ)
+    → route_of (record { method = codes "GET"; target = codes "/timegate/" ++ original; asked = asked }) ≡ original_route (timegate_route asked) (original_at original)
+unfolding route_of
+gate_at asked original = refl
+
+map_at : (asked : List (List ℕ)) (original : List ℕ)
+    → route_of (record { method = codes "GET"; target = codes "/timemap/link/" ++ original; asked = asked }) ≡ original_route TimeMap (original_at original)
+unfolding route_of
+map_at asked original = refl
+
+abbrev asking : List ℕ → List ℕ → List (List ℕ) → Request
+asking method target asked = record { method = method; target = target; asked = asked }
+
+at_target : (q : Request) (target : List ℕ) → q.method ≡ codes "GET" → q.target ≡ target → route_of q ≡ route_of (asking (codes "GET") target q.asked)
+at_target q target method same =
+    ap (λ (m : List ℕ). route_of (asking m q.target q.asked)) method ∙ ap (λ (t : List ℕ). route_of (asking (codes "GET") t q.asked)) same
+
+pub gate_served : (base original : List ℕ) (q : Request) → original_at original ≡ Some original → q.method ≡ codes "GET"
+    → base ++ q.target ≡ timegate_address base original → route_of q ≡ timegate_route q.asked original
+gate_served base original q names method told =
+    let target : q.target ≡ codes "/timegate/" ++ original = append_cancel_left base q.target (codes "/timegate/" ++ original) (told ∙ append_assoc base (codes "/timegate/") original) in
+    at_target q (codes "/timegate/" ++ original) method target ∙ gate_at q.asked original ∙ ap (original_route (timegate_route q.asked)) names
+
+pub map_served : (base original : List ℕ) (q : Request) → original_at original ≡ Some original → q.method ≡ codes "GET"
+    → base ++ q.target ≡ timemap_address base original → route_of q ≡ TimeMap original
+map_served base original q names method told =
+    let target : q.target ≡ codes "/timemap/link/" ++ original = append_cancel_left base q.target (codes "/timemap/link/" ++ original) (told ∙ append_assoc base (codes "/timemap/link/") original) in
+    at_target q (codes "/timemap/link/" ++ original) method target ∙ map_at q.asked original ∙ ap (original_route TimeMap) names
