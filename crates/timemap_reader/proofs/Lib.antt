@@ -7,3 +7,4 @@ mod FirstLemmas
 mod SetLemmas
 mod Named
 mod SameLists
+mod PageOrFault

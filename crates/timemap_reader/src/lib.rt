@@ -13,6 +13,6 @@ mod role;
 #[cfg(test)]
 mod tests;
 
-pub use laws::one_page;
+pub use laws::{no_fault_beside_a_page, one_page};
 pub use original::{OriginalFault, read_original};
 pub use page::{Page, PageFault, read_page};

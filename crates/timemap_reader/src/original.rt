@@ -1,7 +1,7 @@
 //! Originals: the addresses that clients and archives are asked for.
-ghost use Rattle.std.specs.Prelude.{◌≡◌, ◌⊎◌, ◌<◌, IfOk, IfErr, Ok, Err, length};
+ghost use Rattle.std.specs.Prelude.{◌≡◌, ◌⊎◌, ◌<◌, Some, IfOk, IfErr, Ok, Err, length};
 ghost use Rattle.timemap_reader.specs.Address.{clean_text};
-ghost use Rattle.timemap_reader.specs.Original.{original_reading, within_limit};
+ghost use Rattle.timemap_reader.specs.Original.{original_reading, within_limit, words_of};
 
 use crate::address::{cleaned, is_http};
 use memento_time::{CleanFault, Original};
@@ -24,12 +24,14 @@ pub enum OriginalFault {
 }
 
 impl fmt::Display for OriginalFault {
+    ghost output = { λ fault. Some (words_of fault) };
+
     fn fmt<W: fmt::Write>(&self, f: &mut fmt::Formatter<W>) -> fmt::Result {
         match self {
-            OriginalFault::NotUrl => write!(f, "not a URL"),
-            OriginalFault::NotHttp => write!(f, "not an http or https URL"),
-            OriginalFault::TooLong => write!(f, "an original of more than 4,096 bytes"),
-            OriginalFault::NoMemory => write!(f, "no memory"),
+            OriginalFault::NotUrl => f.write_str("not a URL"),
+            OriginalFault::NotHttp => f.write_str("not an http or https URL"),
+            OriginalFault::TooLong => f.write_str("an original of more than 4,096 bytes"),
+            OriginalFault::NoMemory => f.write_str("no memory"),
         }
     }
 }
@@ -75,7 +77,8 @@ fn clean_original(alloc: Global, written: &[u8]) -> Result<Original, OriginalFau
 /// of more than 4,096 bytes.
 pub fn read_original(alloc: Global, text: &str) -> Result<Original, OriginalFault>
     ensures read { IfOk result (λ original. original_reading text.now ≡ Ok original) }
-    // Want of memory may come at any place.
+    ensures too_long { 4096 < length text.now → result ≡ Err OriginalFault.TooLong }
+    // Want of memory may come at any later place.
     ensures refused { IfErr result (λ fault.
         (original_reading text.now ≡ Err fault) ⊎ (fault ≡ OriginalFault.NoMemory)) }
 {

@@ -1,6 +1,6 @@
 //! Pages of TimeMaps.
 ghost use Rattle.std.specs.Prelude.{◌≡◌, ◌≤◌, ◌<◌, ◌+◌, ◌^◌, ◌⊎◌, ◌++◌, [], ◌∷◌, Some, None, IfOk, OnOk, MatchResult, length};
-ghost use Rattle.timemap_reader.specs.Answer.{IsAnswer, base_of};
+ghost use Rattle.timemap_reader.specs.Answer.{IsAnswer, base_of, words_of};
 ghost use Rattle.timemap_reader.specs.Found.{IsFoundIn};
 ghost use Rattle.timemap_reader.specs.Page.{IsPageOf, IsSetOf, left_out, named};
 ghost use Rattle.timemap_reader.specs.Role.{further_of, is_further_link, is_memento_link, memento_of, rel_of};
@@ -39,17 +39,19 @@ pub enum PageFault {
     Links(LinkFault),
     /// The base is no http or https URL, or has more than 8,192 bytes.
     BadBase,
-    /// The allocator refused a growth, which may come at any place.
+    /// The allocator refused a growth, which may come at any place once the body is known to be short.
     NoMemory,
 }
 
 impl fmt::Display for PageFault {
+    ghost output = { λ fault. Some (words_of fault) };
+
     fn fmt<W: fmt::Write>(&self, f: &mut fmt::Formatter<W>) -> fmt::Result {
         match self {
-            PageFault::TooLong => write!(f, "a page of more than 8,388,608 bytes"),
+            PageFault::TooLong => f.write_str("a page of more than 8,388,608 bytes"),
             PageFault::Links(fault) => write!(f, "{fault}"),
-            PageFault::BadBase => write!(f, "a base that is no http or https URL"),
-            PageFault::NoMemory => write!(f, "no memory"),
+            PageFault::BadBase => f.write_str("a base that is no http or https URL"),
+            PageFault::NoMemory => f.write_str("no memory"),
         }
     }
 }
