@@ -5,3 +5,4 @@ pub mod StandardFacts
 pub mod SecondOfLemmas
 pub mod MementoLemmas
 pub mod TrimLemmas
+pub mod EarlyLemmas

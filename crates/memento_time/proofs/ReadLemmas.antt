@@ -26,7 +26,7 @@ tail_of p =
 pub imf_fixdate-tail_of : (p : Parts) → imf_fixdate p ≡ day_name p.wday ++ tail_of p
 imf_fixdate-tail_of p = simp append_assoc
 
-length-day_name : (n : ℕ) → IsInRange 1 7 n → length (day_name n) ≡ 3
+pub length-day_name : (n : ℕ) → IsInRange 1 7 n → length (day_name n) ≡ 3
 length-day_name (suc zero) h = refl
 length-day_name (suc (suc zero)) h = refl
 length-day_name (suc (suc (suc zero))) h = refl
@@ -48,7 +48,7 @@ length-day_name_rest (suc (suc (suc (suc (suc (suc (suc zero))))))) h = lit≤ t
 length-day_name_rest zero h = absurd (omega arith)
 length-day_name_rest (suc (suc (suc (suc (suc (suc (suc (suc k)))))))) h = absurd (omega arith)
 
-length-month_name : (n : ℕ) → IsInRange 1 12 n → length (month_name n) ≡ 3
+pub length-month_name : (n : ℕ) → IsInRange 1 12 n → length (month_name n) ≡ 3
 length-month_name (suc zero) h = refl
 length-month_name (suc (suc zero)) h = refl
 length-month_name (suc (suc (suc zero))) h = refl

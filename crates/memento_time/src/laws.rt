@@ -1,9 +1,10 @@
 //! Laws of the definitions.
-ghost use Rattle.std.specs.Prelude.{◌≡◌, ℕ, List, codes};
+ghost use Rattle.std.specs.Prelude.{◌≡◌, ◌↔◌, ℕ, IsTrue, List, codes};
 ghost use Rattle.std.specs.Cmp.{IsTotalOrder};
 ghost use Rattle.std.specs.Ordering.{nat_cmp};
 ghost use Rattle.std.specs.declared.cmp.Ordering.TheVariants.{Equal};
 ghost use Rattle.httpdate.specs.Valid.{IsValid, parts_secs};
+ghost use Rattle.memento_time.specs.BeforeEpoch.{IsBeforeEpoch, is_before_epoch};
 ghost use Rattle.memento_time.specs.Blanks.{IsTrimmed, trim_blanks};
 ghost use Rattle.memento_time.specs.Civil.{civil_time};
 ghost use Rattle.memento_time.specs.Mementos.{text_cmp, memento_cmp};
@@ -50,4 +51,9 @@ pub fn dates_are_of_the_calendar()
 /// Trimming takes away blanks alone, and all that stand at an end.
 pub fn blanks_are_cut()
     ensures { (text : List ℕ) → IsTrimmed text (trim_blanks text) }
+{}
+
+/// The dates before 1970, tested byte by byte, are the IMF-fixdates of those years.
+pub fn early_dates_are_dates()
+    ensures { (text : List ℕ) → IsTrue (is_before_epoch text) ↔ IsBeforeEpoch text }
 {}
