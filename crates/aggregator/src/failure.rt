@@ -1,7 +1,7 @@
 //! How the program fails: its one line on standard error, and its exit status.
 ghost use Rattle.std.specs.Prelude.{◌≡◌, Some};
 ghost use Rattle.std.specs.Process.{exit_status};
-ghost use Rattle.aggregator.specs.Ending.{message_of, status_of};
+ghost use Rattle.aggregator.specs.Ending.{failure_of, message_of, status_of};
 
 use replica_world::ReplayFault;
 use std::process::ExitCode;
@@ -51,6 +51,8 @@ impl fmt::Display for Failure {
 }
 
 impl From<ReplayFault> for Failure {
+    ghost from_gives = { λ fault failure. failure ≡ failure_of fault };
+
     fn from(fault: ReplayFault) -> Failure {
         match fault {
             ReplayFault::BadLine { number } => Failure::BadLine { number },

@@ -4,17 +4,15 @@
 #![tactic(auto)]
 
 mod failure;
+mod words;
 
 use crate::failure::Failure;
+use crate::words::{Command, command_named};
 use replica_world::replay;
 use std::env::{self, Env};
 use std::process::ExitCode;
 
-/// What the words of the command line ask for.
-enum Command {
-    Replay,
-}
-
+// What the words of the command line ask for.
 fn command_of(rt: &(impl Env + Alloc)) -> Result<Command, Failure> {
     let mut words = env::args(rt)?.skip(1);
     let Some(word) = words.next() else {
@@ -23,10 +21,7 @@ fn command_of(rt: &(impl Env + Alloc)) -> Result<Command, Failure> {
     if words.next().is_some() {
         return Err(Failure::Usage);
     }
-    match word.as_str() {
-        "replay" => Ok(Command::Replay),
-        _ => Err(Failure::Usage),
-    }
+    command_named(word.as_str())
 }
 
 fn run(rt: &HostRuntime) -> Result<(), Failure> {
