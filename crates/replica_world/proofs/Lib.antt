@@ -10,3 +10,7 @@ mod Progress
 mod Happenings
 mod LaidOut
 mod WholeScript
+mod Histories
+mod Explained
+mod Outcomes
+mod Deliveries

@@ -1,5 +1,6 @@
 pub mod Places
 pub mod World
+pub mod History
 pub mod Faults
 pub mod Stands
 pub mod Agreement

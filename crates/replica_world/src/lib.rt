@@ -8,6 +8,7 @@
 mod agreement;
 mod asked;
 mod event;
+mod history;
 mod replaying;
 #[cfg(test)]
 mod tests;
@@ -16,6 +17,7 @@ mod world;
 pub use agreement::replicas_agree;
 pub use asked::{Asked, asked_after};
 pub use event::{Answer, Event, Refused, Said};
+pub use history::{deliveries_in_any_order, one_outcome, what_replicas_have_taken};
 pub use replaying::fault::ReplayFault;
 pub use replaying::laws::{one_output, script_is_its_layout};
 pub use replaying::run::replay;

@@ -1,4 +1,5 @@
 use Rattle.replica_world.proofs.Replies.{given, gives_reply, same_state, agreement, serves_timemaps, redirects_well}
+use Rattle.replica_world.proofs.Explained.{same_harvests}
 use Rattle.replica_world.proofs.agreement.replicas_agree.Goals as goal
 
 pub returns-clause-replies : goal.returns-clause-replies
@@ -15,3 +16,7 @@ returns-clause-redirects c base count events answers world run i known is = redi
 
 pub returns-clause-timemaps : goal.returns-clause-timemaps
 returns-clause-timemaps c base count events answers world run i known is = serves_timemaps base world i known is
+
+pub returns-clause-learnt : goal.returns-clause-learnt
+returns-clause-learnt c base count events answers world run i j known other i_is j_is alike =
+    agreement base world i j known other i_is j_is (same_state known other (same_harvests base count events answers world run i j known other i_is j_is alike))
