@@ -387,12 +387,7 @@ effect_explained base history w (Ask i q) answer new explains effect =
 step_explained : (base : List ℕ) (history : History) (w : World) (event : Event) (answer : Answer) (new : World) → Explains history w → Step base w event answer new
     → Explains (history ++ (event, answer) ∷ []) new
 step_explained base history w event answer new explains (inl effect) = effect_explained base history w event answer new explains effect
-step_explained base history w (Take i g) answer new explains (inr out) = explained_as history (Take i g) answer (Err NoMemory) new w out.0 out.1 (refused history (Take i g) NoMemory w explains)
-step_explained base history w (Send i) answer new explains (inr out) = explained_as history (Send i) answer (Err NoMemory) new w out.0 out.1 (refused history (Send i) NoMemory w explains)
-step_explained base history w (Deliver i k) answer new explains (inr out) = explained_as history (Deliver i k) answer (Err NoMemory) new w out.0 out.1 (refused history (Deliver i k) NoMemory w explains)
-step_explained base history w (Receive i bytes) answer new explains (inr out) = explained_as history (Receive i bytes) answer (Err NoMemory) new w out.0 out.1 (refused history (Receive i bytes) NoMemory w explains)
-step_explained base history w (Restart i) answer new explains (inr out) = absurd out
-step_explained base history w (Ask i q) answer new explains (inr out) = explained_as history (Ask i q) answer (Err NoMemory) new w out.0 out.1 (refused history (Ask i q) NoMemory w explains)
+step_explained base history w event answer new explains (inr out) = explained_as history event answer (Err NoMemory) new w out.0 out.1 (refused history event NoMemory w explains)
 
 -- ---- runs
 

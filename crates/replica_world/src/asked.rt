@@ -17,7 +17,7 @@ pub struct Asked {
     pub second: Answer,
 }
 
-/// Runs these events in a new world, and then asks two replicas the same. Where both have taken the same harvests,
+/// Runs these events in a new world, and then asks two replicas the same. Where both have learnt the same harvests,
 /// their replies are the same.
 pub fn asked_after(
     alloc: Global,
