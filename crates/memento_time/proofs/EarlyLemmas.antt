@@ -8,7 +8,7 @@ use Rattle.std.specs.Int.{IsInRange}
 use Rattle.std.specs.List.{list_any, list_all, zip}
 use Rattle.std.specs.Str.{bytes_eq}
 use Rattle.httpdate.specs.declared.parts.Parts.{Parts}
-use Rattle.httpdate.specs.Text.{imf_fixdate, day_name, month_name, two_digits, four_digits}
+use Rattle.httpdate.specs.Text.{day_name, month_name, two_digits, four_digits}
 use Rattle.memento_time.specs.BeforeEpoch.{date_form, fits, is_name, is_year_before_1970, is_before_epoch, IsBeforeEpoch}
 use Rattle.memento_time.specs.Names.{day_names, month_names}
 use Rattle.memento_time.proofs.ReadLemmas.{tail_of, imf_fixdate-tail_of, length-day_name, length-month_name}
