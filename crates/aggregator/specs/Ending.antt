@@ -13,6 +13,7 @@ failure_of fault.Read = Device
 failure_of fault.Write = Device
 failure_of fault.NoMemory = NoMemory
 
+-- the line on standard error
 abbrev pub message_of : Failure → List ℕ
 message_of Usage = codes "usage: aggregator [replay | serve FILE | check FILE]"
 message_of (BadLine number) = codes "bad line " ++ decimal number

@@ -36,8 +36,10 @@ abbrev pub least_by : (Memento → Memento → Ordering) → List Memento → Op
 least_by cmp [] = None
 least_by cmp (m ∷ ms) = join_values (λ a b. cond (is_gt (cmp a b)) b a) (Some m) (least_by cmp ms)
 
+-- the memento nearest to a second, if there is any: a second before the first names the first, one after the last the last (RFC 7089, section 4.5.3), and ties go by this project's rule
 unfoldable pub nearest : Mementos → ℕ → Option Memento
 nearest mementos t = least_by (nearness_cmp t) (set.items mementos)
 
+-- the most recent memento, if there is any
 unfoldable pub last : Mementos → Option Memento
 last mementos = least_by recency_cmp (set.items mementos)

@@ -20,9 +20,11 @@ pub record Harvested : Type 0 where
   pub revision : ℕ
   pub mementos : Mementos
 
+-- the archive and original of a harvest
 abbrev pub key_of : Harvested → Key
 key_of h = (h.archive, h.original)
 
+-- the harvest is of this archive and original
 abbrev pub has_key : Key → Harvested → Bool
 has_key k h = eq_by_cmp key_cmp k (key_of h)
 
@@ -31,14 +33,16 @@ abbrev pub latest : List Harvested → Key → Option ℕ
 latest [] k = None
 latest (h ∷ hs) k = join_values max (cond (has_key k h) (Some h.revision) None) (latest hs k)
 
--- no harvest of its archive and original is later
+-- the revision is no less than the latest, if there is one
 abbrev pub not_before : Option ℕ → ℕ → Bool
 not_before None r = true
 not_before (Some l) r = nat_le l r
 
+-- no harvest of its archive and original is later
 abbrev pub is_current : List Harvested → Harvested → Bool
 is_current hs h = not_before (latest hs (key_of h)) h.revision
 
+-- the union of all
 abbrev pub union_all : List Mementos → Mementos
 union_all [] = set.empty
 union_all (s ∷ ss) = set.union s (union_all ss)
@@ -55,6 +59,7 @@ entry_of hs k = option_map (λ r. record { revision = r; mementos = union_all (m
 unfoldable pub lat : List Harvested → Entries
 lat hs = tabulate (map key_of hs) (entry_of hs)
 
+-- an entry as a harvest
 abbrev pub harvest_at : Key × Kept → Harvested
 harvest_at e = record { archive = e.0.0; original = e.0.1; revision = e.1.revision; mementos = e.1.mementos }
 
@@ -66,7 +71,7 @@ adds entries = map harvest_at (map.entries entries)
 unfoldable pub shown_of : Entries → List ℕ → Mementos
 shown_of entries original = union_all (map (λ e. e.1.mementos) (filter (λ e. eq_by_cmp text_cmp original e.0.1) (map.entries entries)))
 
--- as a tuple
+-- a harvest as a tuple of its parts
 abbrev pub coded_harvested : Coded Harvested
 coded_harvested =
     code_by (Key × Kept) (coded× coded_key coded_kept) (λ h. (key_of h, record { revision = h.revision; mementos = h.mementos })) harvest_at (λ _. refl)

@@ -19,6 +19,7 @@ Mementos = set.Set memento_cmp
 abbrev pub Key : Type 0
 Key = List ℕ × List ℕ
 
+-- keys in order: by archive, then by original, each by its bytes
 abbrev pub key_cmp : Key → Key → Ordering
 key_cmp x y = ordering_then (text_cmp x.0 y.0) (text_cmp x.1 y.1)
 
@@ -27,9 +28,11 @@ pub record Kept : Type 0 where
   pub revision : ℕ
   pub mementos : Mementos
 
+-- a state: a finite map from archive and original to what is kept of them
 abbrev pub Entries : Type 0
 Entries = map.FinMap key_cmp Kept
 
+-- each memento of the one is in the other
 abbrev pub IsSubset : Mementos → Mementos → Type 0
 IsSubset a b = (m : Memento) → set.contains a m ≡ true → set.contains b m ≡ true
 
@@ -56,6 +59,7 @@ join_kept a b =
     let r = max a.revision b.revision in
     record { revision = r; mementos = set.union (mementos_at r a) (mementos_at r b) }
 
+-- the least state that both are at most
 abbrev pub join : Entries → Entries → Entries
 join x y = join_by join_kept x y
 
@@ -63,12 +67,14 @@ join x y = join_by join_kept x y
 abbrev pub joined_kept : Entries → Key × Kept → Kept
 joined_kept x e = unwrap_or (join_values join_kept (map.get x e.0) (Some e.1)) e.1
 
+-- an entry as it stands in the join
 abbrev pub joined_with : Entries → Key × Kept → Key × Kept
 joined_with x e = (e.0, joined_kept x e)
 
--- as a pair
+-- an entry as a pair of its revision and its mementos
 abbrev pub coded_kept : Coded Kept
 coded_kept = code_by (ℕ × Mementos) (coded× coded_ℕ (set.code coded_memento)) (λ e. (e.revision, e.mementos)) (λ p. record { revision = p.0; mementos = p.1 }) (λ _. refl)
 
+-- a key as a pair of its texts
 abbrev pub coded_key : Coded Key
 coded_key = coded× (coded_list coded_ℕ) (coded_list coded_ℕ)

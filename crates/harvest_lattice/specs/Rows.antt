@@ -10,9 +10,11 @@ use Rattle.harvest_lattice.specs.Sets as set
 use Rattle.harvest_lattice.specs.Lattice.{Key, key_cmp, Kept, Entries, IsAtMostAt, joined_with}
 use Rattle.harvest_lattice.specs.declared.row.Row.{Row}
 
+-- the archive and original of a row
 abbrev pub row_key : Row → Key
 row_key row = (row.archive, row.original)
 
+-- a row as an entry
 abbrev pub row_entry : Row → Key × Kept
 row_entry row = (row_key row, row.latest)
 
@@ -34,6 +36,7 @@ IsStaged x e old new =
 abbrev pub mementos_rise : List Memento → Bool
 mementos_rise ms = fmap.is_sorted memento_cmp (set.marked ms)
 
+-- the keys stand in order, each once
 abbrev pub keys_rise : List (Key × Kept) → Bool
 keys_rise es = fmap.is_sorted key_cmp es
 

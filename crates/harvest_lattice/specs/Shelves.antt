@@ -11,6 +11,7 @@ use Rattle.harvest_lattice.specs.Lattice.{Key, Kept, Entries, coded_kept}
 abbrev pub Slots : Type 0
 Slots = fmap.FinMap text_cmp (Option Kept)
 
+-- slots as pairs of an original and what is kept, if anything
 abbrev pub coded_slots : Coded Slots
 coded_slots = fmap.code (coded_list coded_ℕ) (coded_option coded_kept)
 
@@ -32,6 +33,7 @@ abbrev pub filled : Option (Option Kept) → Option Kept
 filled None = None
 filled (Some kept) = kept
 
+-- the rows of the filled slots of an archive
 abbrev pub slot_rows : List ℕ → List ℕ → Option Kept → List (Key × Kept)
 slot_rows archive original None = []
 slot_rows archive original (Some kept) = ((archive, original), kept) ∷ []

@@ -4,6 +4,7 @@ use Rattle.std.specs.Fmt.{decimal}
 use Rattle.link_format.specs.declared.fault.LinkFault.{LinkFault}
 use Rattle.link_format.specs.declared.fault.LinkFault.TheVariants.{NotLinkFormat, TooManyLinks, TooManyParams, TargetTooLong, NoMemory}
 
+-- what a fault is printed as
 abbrev pub words_of : LinkFault → List ℕ
 words_of (NotLinkFormat at) = codes "not link-format, at byte " ++ decimal at
 words_of TooManyLinks = codes "more than 200,000 links"

@@ -7,6 +7,7 @@ use Rattle.harvest_lattice.specs.Lattice.{Key, Kept}
 use Rattle.replica_exchange.specs.StateText.{memento_line, entry_line, entry_text, entries_text, IsEntryLine, IsEntry, AreEntries}
 use Rattle.replica_exchange.specs.Spelling.{Spelling}
 
+-- the line of a memento
 abbrev pub memento : Spelling Memento
 memento = record { Is = IsMemento; spelled = memento_line }
 
@@ -14,6 +15,7 @@ memento = record { Is = IsMemento; spelled = memento_line }
 abbrev pub head : Spelling (Key × (ℕ × ℕ))
 head = record { Is = λ h. IsEntryLine h.0 h.1.0 h.1.1; spelled = λ h. entry_line h.0 h.1.0 h.1.1 }
 
+-- an entry's line and the lines of its mementos
 abbrev pub entry : Spelling (Key × Kept)
 entry = record { Is = IsEntry; spelled = entry_text }
 

@@ -46,10 +46,12 @@ pub record IsEntryLine (key : Key) (revision count : ℕ) : Type 0 where
   pub revision_fits : revision < 2 ^ 64
   pub count_fits : count < 2 ^ 64
 
+-- an archive's name, an original, a revision below 2^64, and mementos that can be written
 pub record IsEntry (e : Key × Kept) : Type 0 where
   pub line : IsEntryLine e.0 e.1.revision (length (set.items e.1.mementos))
   pub mementos : All IsMemento (set.items e.1.mementos)
 
+-- fewer than 2^64 entries, each of which can be written
 pub record AreEntries (es : List (Key × Kept)) : Type 0 where
   pub each : All IsEntry es
   pub count : length es < 2 ^ 64

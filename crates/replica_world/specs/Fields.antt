@@ -4,6 +4,7 @@ use Rattle.std.specs.Option.{option_map}
 use Rattle.std.specs.Str.{is_utf8}
 
 infixl 10 ◌>>=◌
+-- one reading after another: none where either has none
 abbrev pub ◌>>=◌ : {A B : Type 0} → Option A → (A → Option B) → Option B
 None >>= f = None
 (Some x) >>= f = f x
@@ -66,6 +67,7 @@ abbrev pub after_line_end : List ℕ → Option (List ℕ)
 after_line_end [] = Some []
 after_line_end (b ∷ rest) = if b == 10 then Some rest else None
 
+-- 300,000,000 bytes
 abbrev pub longest_block : ℕ
 longest_block = 300000000
 
@@ -75,6 +77,7 @@ block_of len text =
     if nat_lt longest_block len || nat_lt (length text) len then None
     else option_map (λ rest. (take len text, rest)) (after_line_end (drop len text))
 
+-- 65,536 bytes
 abbrev pub longest_line : ℕ
 longest_line = 65536
 

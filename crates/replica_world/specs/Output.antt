@@ -27,6 +27,7 @@ use Rattle.replica_world.specs.Devices.{AppendsBeginning}
 
 -- ---- the texts
 
+-- a text ended by LF
 abbrev pub line : List ℕ → List ℕ
 line text = text ++ 10 ∷ []
 
@@ -34,9 +35,11 @@ line text = text ++ 10 ∷ []
 abbrev pub counted : List ℕ → ℕ → List ℕ
 counted word number = line (word ++ codes " " ++ decimal number)
 
+-- the line that a refused command writes
 abbrev pub refused : List ℕ → List ℕ
 refused why = line (codes "refused " ++ why)
 
+-- the line of a header field
 abbrev pub header_line : Header × List ℕ → List ℕ
 header_line h = line (header_name h.0 ++ codes ": " ++ h.1)
 
@@ -65,6 +68,7 @@ accepted_line (event.Receive replica bytes) = line (codes "received")
 accepted_line (event.Restart replica) = line (codes "restarted")
 accepted_line (event.Ask replica request) = []
 
+-- what an answer writes
 abbrev pub answer_text : List ℕ → Answer → List ℕ
 answer_text accepted (Ok Taken) = accepted
 answer_text accepted (Ok Joined) = accepted
@@ -94,6 +98,7 @@ RefusedAs why world text next = (text ≡ refused why) × (next ≡ world)
 abbrev pub IsPage : List ℕ → List ℕ → Page → Type 0
 IsPage address body page = MatchOption (utf8_text address) ⊥ (λ base. IsAnswer base body (Ok page))
 
+-- the harvest that a page makes
 abbrev pub harvest_of : Taking → List ℕ → Page → Harvested
 harvest_of t original page = record { archive = t.archive; original = original; revision = t.revision; mementos = set.from_list page.mementos }
 

@@ -26,6 +26,7 @@ pub data Command : Type 0 where
 abbrev pub Found : Type 0
 Found = Option (Command × List ℕ)
 
+-- what the line of a `take` says
 unfoldable pub take_of : List ℕ → List ℕ → Found
 take_of fields rest = do
   replica ← number_field fields
@@ -40,6 +41,7 @@ take_of fields rest = do
 abbrev pub get : List ℕ → List (List ℕ) → Request
 get target asked = record { method = codes "GET"; target = target; asked = asked }
 
+-- what the line of a `map` says
 unfoldable pub map_of : List ℕ → List ℕ → Found
 map_of fields rest = do
   replica ← number_field fields
@@ -50,11 +52,13 @@ abbrev pub gate_request : List ℕ → Option (List ℕ × List ℕ) → Request
 gate_request original None = get (codes "/timegate/" ++ original) []
 gate_request fields (Some parts) = get (codes "/timegate/" ++ parts.0) (parts.1 ∷ [])
 
+-- what the line of a `gate` says
 unfoldable pub gate_of : List ℕ → List ℕ → Found
 gate_of fields rest = do
   replica ← number_field fields
   Some (Step (Ask replica.0 (gate_request replica.1 (field replica.1))), rest)
 
+-- 16 values of `Accept-Datetime`
 abbrev pub most_asked : ℕ
 most_asked = 16
 
@@ -65,6 +69,7 @@ pub record Asking : Type 0 where
   pub count : ℕ
   pub target : List ℕ
 
+-- what the line of an `ask` says
 abbrev pub asking_of : List ℕ → Option Asking
 asking_of fields = do
   replica ← number_field fields
@@ -72,17 +77,20 @@ asking_of fields = do
   count ← number_field method.1
   if list_all is_visible method.0 && nat_le count.0 most_asked then Some (record { replica = replica.0; method = method.0; count = count.0; target = count.1 }) else None
 
+-- an `ask` with the lines that follow it
 unfoldable pub ask_of : List ℕ → List ℕ → Found
 ask_of fields rest = do
   asking ← asking_of fields
   asked ← lines_of asking.count rest
   Some (Step (Ask asking.replica (record { method = asking.method; target = asking.target; asked = asked.0 })), asked.1)
 
+-- what the line of a `send` says
 unfoldable pub send_of : List ℕ → List ℕ → Found
 send_of fields rest = do
   replica ← number_of fields
   Some (Step (Send replica), rest)
 
+-- what the line of a `deliver` says
 unfoldable pub deliver_of : List ℕ → List ℕ → Found
 deliver_of fields rest = do
   replica ← number_field fields
@@ -97,11 +105,13 @@ received_of fields rest = do
   body ← block_of len rest
   Some (replica.0, body)
 
+-- what a `receive` says, with its block
 unfoldable pub receive_of : List ℕ → List ℕ → Found
 receive_of fields rest = do
   received ← received_of fields rest
   Some (Step (Receive received.0 received.1.0), received.1.1)
 
+-- what the line of a `restart` says
 unfoldable pub restart_of : List ℕ → List ℕ → Found
 restart_of fields rest = do
   replica ← number_of fields
@@ -143,6 +153,7 @@ replicas_of line = do
 abbrev pub service_of : List ℕ → Option (List ℕ)
 service_of bytes = option_and_then base_of (utf8_text bytes)
 
+-- what the first line says: the number of replicas and the base
 unfoldable pub start_of : List ℕ → Option Start
 start_of line = do
   count ← replicas_of line
@@ -161,15 +172,19 @@ pub record Commands : Type 0 where
   pub list : List Command
   pub bad : Option (List ℕ)
 
+-- nothing is left
 abbrev pub no_more : Commands
 no_more = record { list = []; bad = None }
 
+-- the script has a bad line from here on
 abbrev pub bad_from : List ℕ → Commands
 bad_from text = record { list = []; bad = Some text }
 
+-- a command before those that follow
 abbrev pub command_before : Command → Commands → Commands
 command_before command later = record { list = command ∷ later.list; bad = later.bad }
 
+-- the script from a command on
 abbrev pub onward : List ℕ → Found → (List ℕ → Commands) → Commands
 onward text None next = bad_from text
 onward text (Some found) next = command_before found.0 (next found.1)
@@ -180,6 +195,7 @@ commands_within zero text = no_more
 commands_within (suc bytes) [] = no_more
 commands_within (suc bytes) (b ∷ text) = onward (b ∷ text) (command_at (b ∷ text)) (λ rest. commands_within bytes (after_empty_lines rest))
 
+-- the commands of a text, up to a bad line
 unfoldable pub commands_of : List ℕ → Commands
 commands_of text = commands_within (length text) (after_empty_lines text)
 
@@ -188,14 +204,17 @@ pub record Script : Type 0 where
   pub start : Option Start
   pub commands : Commands
 
+-- the script that its first line begins
 abbrev pub begun : List ℕ → Option (Start × List ℕ) → Script
 begun text None = record { start = None; commands = bad_from text }
 begun text (Some found) = record { start = Some found.0; commands = commands_of found.1 }
 
+-- the script from its first line that is not empty
 abbrev pub script_from : List ℕ → Script
 script_from [] = record { start = None; commands = no_more }
 script_from (b ∷ text) = begun (b ∷ text) (start_at (b ∷ text))
 
+-- a text as a script
 unfoldable pub script_of : List ℕ → Script
 script_of text = script_from (after_empty_lines text)
 

@@ -14,15 +14,17 @@ pub record Kept : Type 0 where
   pub states : List Entries
   pub messages : List (List ℕ)
 
--- as a tuple
+-- what is kept of a world, as a tuple of its parts
 abbrev pub coded_kept_world : Coded Kept
 coded_kept_world =
     code_by (List ℕ × (List Entries × List (List ℕ))) (coded× (coded_list coded_ℕ) (coded× (coded_list (fmap.code {R = key_cmp} coded_key coded_kept)) (coded_list (coded_list coded_ℕ))))
     (λ k. (k.base, (k.states, k.messages))) (λ p. record { base = p.0; states = p.1.0; messages = p.1.1 }) (λ _. refl)
 
+-- the state of what a replica has taken
 abbrev pub state_of : Replica → Entries
 state_of r = lat r.taken
 
+-- the bytes of a message
 abbrev pub bytes_of : Message → List ℕ
 bytes_of m = m.bytes
 

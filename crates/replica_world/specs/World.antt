@@ -48,9 +48,11 @@ abbrev pub numbered : {X : Type 0} → List X → ℕ → Option X
 numbered all zero = None
 numbered all (suc place) = slice_get all place
 
+-- the replica of that number, if there is one
 abbrev pub replica : World → ℕ → Option Replica
 replica w i = numbered w.replicas i
 
+-- the message of that number, if there is one
 abbrev pub message : World → ℕ → Option Message
 message w k = numbered w.messages k
 
@@ -67,6 +69,7 @@ taking r more = record { taken = r.taken ++ more }
 abbrev pub sent_by : ℕ → Replica → Message
 sent_by i r = record { sender = i; taken = r.taken; bytes = state_text (lat r.taken) }
 
+-- the world with one message more
 abbrev pub with_message : World → Message → World
 with_message w m = record w { messages = w.messages ++ m ∷ [] }
 
@@ -86,11 +89,11 @@ Refuses why w answer new = (answer ≡ Err why) × (new ≡ w)
 abbrev pub AtReplica : World → ℕ → (Replica → Outcome) → Outcome
 AtReplica w i happens answer new = MatchOption (replica w i) (Refuses NoReplica w answer new) (λ r. happens r answer new)
 
--- and with the message of this number
+-- what comes of an event with the message of this number, if there is one
 abbrev pub WithMessage : World → ℕ → (Message → Outcome) → Outcome
 WithMessage w k happens answer new = MatchOption (message w k) (Refuses NoMessage w answer new) (λ m. happens m answer new)
 
--- with bytes of at most 268,435,456, or with more
+-- what comes of an event with bytes of at most 268,435,456, or else with more
 abbrev pub IfWithinLimit : List ℕ → Outcome → Outcome → Outcome
 IfWithinLimit bytes happens otherwise answer new = ((length bytes ≤ longest_text) × happens answer new) ⊎ ((longest_text < length bytes) × otherwise answer new)
 
@@ -100,7 +103,7 @@ pub record IsText (bytes : List ℕ) (s : Entries) : Type 0 where
   pub text : bytes ≡ state_text s
   pub within : length bytes ≤ longest_text
 
--- with bytes that are the text of a state, or with others
+-- what comes of an event with bytes that are the text of a state, or else with others
 abbrev pub IfText : List ℕ → (Entries → Outcome) → Outcome → Outcome
 IfText bytes happens otherwise answer new = ((s : Entries) × IsText bytes s × happens s answer new) ⊎ (((s : Entries) → ¬ IsText bytes s) × otherwise answer new)
 

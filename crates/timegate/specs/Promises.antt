@@ -33,6 +33,7 @@ Rise (n ∷ next ∷ ns) = (n < next) × Rise (next ∷ ns)
 abbrev pub AreInOrder : Headers → Type 0
 AreInOrder headers = Rise (map (λ field. place field.0) headers)
 
+-- the header field is Vary
 abbrev pub is_vary : Header → Bool
 is_vary Allow = false
 is_vary Vary = true

@@ -40,12 +40,12 @@ is_timemap q = starts_with nat_eq q.target timemaps
 abbrev pub original_at : List ℕ → Option (List ℕ)
 original_at bytes = if is_utf8 bytes then original_of bytes else None
 
--- a TimeGate is asked for one datetime that can be read (a date before 1970 asks for the first second), or for none
+-- a TimeGate at the second that a value asks for, if it can be read; a date before 1970 asks for the first second
 abbrev pub datetime_route : List ℕ → Option ℕ → Route
 datetime_route original None = BadDatetime
 datetime_route original (Some second) = TimeGate original (Some second)
 
--- by the values of Accept-Datetime (RFC 7089, sections 2.1.1 and 4.5.3)
+-- a TimeGate, by the values of Accept-Datetime: none, one that can be read, or a refusal (RFC 7089, sections 2.1.1 and 4.5.3)
 abbrev pub timegate_route : List (List ℕ) → List ℕ → Route
 timegate_route [] original = TimeGate original None
 timegate_route (value ∷ []) original = datetime_route original (asked_of value)

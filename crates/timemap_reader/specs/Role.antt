@@ -34,7 +34,7 @@ unfoldable pub trim_start : Blanks → List ℕ → List ℕ
 trim_start blanks [] = []
 trim_start blanks (b ∷ text) = if is_blank blanks b then trim_start blanks text else b ∷ text
 
--- without those at its end
+-- a text without the blanks at its end
 abbrev pub trim_end : Blanks → List ℕ → List ℕ
 trim_end blanks text = reverse (trim_start blanks (reverse text))
 
