@@ -14,3 +14,4 @@ mod Histories
 mod Explained
 mod Outcomes
 mod Deliveries
+mod Reached

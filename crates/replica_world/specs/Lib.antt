@@ -12,3 +12,4 @@ pub mod Output
 pub mod Spelled
 pub mod Performing
 pub mod Devices
+pub mod Reached

@@ -1,9 +1,16 @@
 //! Laws of scripts.
 ghost use Rattle.std.specs.Prelude.{◌≡◌, ℕ, List};
 ghost use Rattle.replica_world.specs.Fields.{cut_at, number_of, line_of, block_of, after_empty_lines};
-ghost use Rattle.replica_world.specs.Script.{commands_of};
+ghost use Rattle.timegate.specs.declared.request.Request.{Request};
+ghost use Rattle.timegate.specs.Reply.{reply};
+ghost use Rattle.replica_world.specs.declared.event.Event.TheVariants.{Ask};
+ghost use Rattle.replica_world.specs.Script.{Command, commands_of};
+ghost use Rattle.replica_world.specs.Script as script;
+ghost use Rattle.replica_world.specs.World.{Knowledge, World};
+ghost use Rattle.replica_world.specs.Agreement.{SameHarvests, HasTaken};
+ghost use Rattle.replica_world.specs.Reached.{IsReached};
 ghost use Rattle.replica_world.specs.Layout.{Finds, IsNumber, IsCut, IsLine, IsBlock, IsBehindEmptyLines, IsReadAs};
-ghost use Rattle.replica_world.specs.Output.{IsOutput};
+ghost use Rattle.replica_world.specs.Output.{IsOutput, Performs, Says, reply_text};
 
 use timemap_reader::one_page;
 
@@ -23,4 +30,24 @@ pub fn script_is_its_layout()
     ensures block { (len : ℕ) (text : List ℕ) → Finds (block_of len text) (IsBlock len text) }
     ensures empty_lines { (text : List ℕ) → IsBehindEmptyLines text (after_empty_lines text) }
     ensures commands { (text : List ℕ) → IsReadAs text (commands_of text).list (commands_of text).bad }
+{}
+
+/// The world that commands lead to is one that events lead to. So what holds of all replicas of a world, whatever has
+/// happened in it, holds of those of a script.
+pub fn scripts_are_runs()
+    ensures { (base : List ℕ) (world : World) (commands : List Command) (text : List ℕ) (end : World) →
+        Says base world commands text end → IsReached base world end }
+{}
+
+/// A `map`, a `gate` or an `ask` writes the reply of what its replica has taken, and changes nothing. So two replicas
+/// that have taken the same harvests write the same text for the same request.
+pub fn same_text_from_both()
+    ensures own { (base : List ℕ) (world : World) (i : ℕ) (known : Knowledge) → HasTaken world i known →
+        (q : Request) (text : List ℕ) (next : World) → Performs base world (script.Step (Ask i q)) text next →
+        (text ≡ reply_text (reply base known q)) × (next ≡ world) }
+    ensures same { (base : List ℕ) (world : World) (i j : ℕ) (known other : Knowledge) →
+        HasTaken world i known → HasTaken world j other → SameHarvests known other →
+        (q : Request) (text again : List ℕ) (next after : World) →
+        Performs base world (script.Step (Ask i q)) text next →
+        Performs base world (script.Step (Ask j q)) again after → text ≡ again }
 {}

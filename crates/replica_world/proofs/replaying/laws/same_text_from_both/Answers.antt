@@ -1,0 +1,8 @@
+use Rattle.replica_world.proofs.Reached.{question_writes, questions_agree}
+use Rattle.replica_world.proofs.replaying.laws.same_text_from_both.Goals as goal
+
+pub returns : goal.returns
+returns c = record {
+  own = λ base world i known taken q text next performs. question_writes base world i known q text next taken performs;
+  same = questions_agree;
+}
