@@ -76,7 +76,7 @@ takes_harvest_once base w t original page =
     (either_once _ _ _ _ (λ many few. omega (arith, few, many)) (named_once _ _) (happens_once base w (taken_line page) (Take t.replica (harvest_of t original page))))
 
 -- also at an address that need not be UTF-8
-one_page_is : OnePage → (address body : List ℕ) (p q : Page) → IsPage address body p → IsPage address body q → p ≡ q
+pub one_page_is : OnePage → (address body : List ℕ) (p q : Page) → IsPage address body p → IsPage address body q → p ≡ q
 one_page_is one address body p q = both (utf8_text address) where
   both : (o : Option (List ℕ)) → MatchOption o ⊥ (λ base. IsAnswer base body (Ok p)) → MatchOption o ⊥ (λ base. IsAnswer base body (Ok q)) → p ≡ q
   both None x y = absurd x

@@ -1,5 +1,5 @@
--- The commands of a script lead to worlds that events lead to; replicas that have taken the same write the same.
-use Rattle.std.proofs.Common.{◌≡◌, ℕ, ◌⊎◌, List, [], ◌∷◌, Option, Some, None, inl, inr, sym, ap, ◌∙◌, subst}
+-- The commands of a script come to events that lead to its world; replicas that have taken the same write the same.
+use Rattle.std.proofs.Common.{◌≡◌, ℕ, ◌<◌, ◌≤◌, ◌⊎◌, List, [], ◌∷◌, length, Option, Some, None, inl, inr, refl, sym, ap, ◌∙◌, subst, arith}
 use Rattle.std.specs.Prelude.{MatchOption, codes}
 use Rattle.timemap_reader.specs.declared.page.Page.{Page}
 use Rattle.timegate.specs.declared.request.Request.{Request}
@@ -10,54 +10,84 @@ use Rattle.replica_world.specs.declared.event.Event.{Event}
 use Rattle.replica_world.specs.declared.event.Event.TheVariants.{Take, Ask}
 use Rattle.replica_world.specs.declared.event.Said.TheVariants.{Replied}
 use Rattle.replica_world.specs.declared.event.Refused.TheVariants.{NoReplica}
-use Rattle.replica_world.specs.World.{Knowledge, World, Replica, Refuses, Accepts}
+use Rattle.replica_world.specs.World.{Knowledge, World, Replica, Refuses, Accepts, Run}
 use Rattle.replica_world.specs.Agreement.{SameHarvests, HasTaken}
 use Rattle.replica_world.specs.Script as script
 use Rattle.replica_world.specs.Script.{Command, Taking}
 use Rattle.replica_world.specs.Output.{Happens, RefusedAs, IsPage, TakesHarvest, TakesPage, Performs, Says, answer_text, reply_text, taken_line, harvest_of}
-use Rattle.replica_world.specs.Reached.{IsReached}
+use Rattle.replica_world.specs.Reached.{IsHarvestTaking, ComesTo, IsRunOf}
+use Rattle.replica_world.proofs.Once.{OnePage, one_page_is}
 use Rattle.replica_world.proofs.Replies.{same_state}
 
 -- ---- from the world after a command on, and so from the world before it
 
-happening_first : (base : List ℕ) (w : World) (accepted : List ℕ) (event : Event) (text : List ℕ) (next end : World) → Happens base w accepted event text next → IsReached base next end → IsReached base w end
-happening_first base w accepted event text next end (answer, effect, is) (events, answers, run) = (event ∷ events, answer ∷ answers, (next, inl effect, run))
+happening_first : (base : List ℕ) (w : World) (accepted : List ℕ) (command : Command) (commands : List Command) (event : Event) (text : List ℕ) (next end : World)
+    → ComesTo command (event ∷ []) → Happens base w accepted event text next → IsRunOf base next commands end → IsRunOf base w (command ∷ commands) end
+happening_first base w accepted command commands event text next end comes (answer, effect, is) r = record {
+  events = event ∷ r.events;
+  answers = answer ∷ r.answers;
+  come = (event ∷ [], r.events, comes, r.come, refl);
+  run = (next, inl effect, r.run);
+}
 
--- a refused command is no event
-refusal_first : (base why : List ℕ) (w : World) (text : List ℕ) (next end : World) → RefusedAs why w text next → IsReached base next end → IsReached base w end
-refusal_first base why w text next end refusal reached = subst (λ (w : World). IsReached base w end) refusal.1 reached
+refusal_first : (base : List ℕ) (w : World) (command : Command) (commands : List Command) (next end : World)
+    → ComesTo command [] → next ≡ w → IsRunOf base next commands end → IsRunOf base w (command ∷ commands) end
+refusal_first base w command commands next end comes same r = record {
+  events = r.events;
+  answers = r.answers;
+  come = ([], r.events, comes, r.come, refl);
+  run = subst (λ (w : World). Run base w r.events r.answers end) same r.run;
+}
 
-harvest_first : (base : List ℕ) (w : World) (t : Taking) (original : List ℕ) (page : Page) (text : List ℕ) (next end : World)
-    → TakesHarvest base w t original page text next → IsReached base next end → IsReached base w end
-harvest_first base w t original page text next end (inl (name, refusal)) reached = refusal_first base (codes "bad archive") w text next end refusal reached
-harvest_first base w t original page text next end (inr (name, inl (many, refusal))) reached = refusal_first base (codes "too many") w text next end refusal reached
-harvest_first base w t original page text next end (inr (name, inr (few, happens))) reached =
-    happening_first base w (taken_line page) (Take t.replica (harvest_of t original page)) text next end happens reached
+-- a page of too many mementos has no harvest, since the bytes are one page at most
+too_many : OnePage → (t : Taking) (page : Page) (event : Event) → IsPage t.address t.body page → 100000 < length page.mementos → IsHarvestTaking t event → ⊥
+too_many one t page event read many h =
+    let few : length page.mementos ≤ 100000 = subst (λ (p : Page). length p.mementos ≤ 100000) (one_page_is one t.address t.body h.page page h.read read) h.few in
+    absurd (omega (arith, many, few))
 
-page_first : (base : List ℕ) (w : World) (t : Taking) (text : List ℕ) (next end : World) → TakesPage base w t text next → IsReached base next end → IsReached base w end
-page_first base w t text next end takes reached = of_original (original_at t.original) takes where
-  of_page : (original : List ℕ)
-      → (((page : Page) → ¬ (IsPage t.address t.body page)) × RefusedAs (codes "bad page") w text next) ⊎ ((page : Page) × IsPage t.address t.body page × TakesHarvest base w t original page text next)
-      → IsReached base w end
-  of_page original (inl (none, refusal)) = refusal_first base (codes "bad page") w text next end refusal reached
-  of_page original (inr (page, is, harvest)) = harvest_first base w t original page text next end harvest reached
+harvest_first : OnePage → (base : List ℕ) (w : World) (t : Taking) (commands : List Command) (original : List ℕ) (page : Page) (text : List ℕ) (next end : World)
+    → original_at t.original ≡ Some original → IsPage t.address t.body page → TakesHarvest base w t original page text next → IsRunOf base next commands end → IsRunOf base w (script.Take t ∷ commands) end
+harvest_first one base w t commands original page text next end named read (inl (no_name, refusal)) r =
+    refusal_first base w (script.Take t) commands next end (inr (λ event h. no_name h.archive, refl)) refusal.1 r
+harvest_first one base w t commands original page text next end named read (inr (name, inl (many, refusal))) r =
+    refusal_first base w (script.Take t) commands next end (inr (λ event h. too_many one t page event read many h, refl)) refusal.1 r
+harvest_first one base w t commands original page text next end named read (inr (name, inr (few, happens))) r =
+    let taking : IsHarvestTaking t (Take t.replica (harvest_of t original page)) = record { original = original; page = page; named = named; read = read; archive = name; few = few; taken = refl } in
+    happening_first base w (taken_line page) (script.Take t) commands (Take t.replica (harvest_of t original page)) text next end (inl (Take t.replica (harvest_of t original page), taking, refl)) happens r
 
-  of_original : (o : Option (List ℕ))
+no_original : (t : Taking) (event : Event) → original_at t.original ≡ None → IsHarvestTaking t event → ⊥
+no_original t event is h = let no = sym is ∙ h.named in absurd cc
+
+-- what comes of bytes that are a page, or none
+abbrev OfPage : List ℕ → World → Taking → List ℕ → World → List ℕ → Type 0
+OfPage base w t text next original = (((page : Page) → ¬ (IsPage t.address t.body page)) × RefusedAs (codes "bad page") w text next) ⊎ ((page : Page) × IsPage t.address t.body page × TakesHarvest base w t original page text next)
+
+page_first : OnePage → (base : List ℕ) (w : World) (t : Taking) (commands : List Command) (text : List ℕ) (next end : World)
+    → TakesPage base w t text next → IsRunOf base next commands end → IsRunOf base w (script.Take t ∷ commands) end
+page_first one base w t commands text next end takes r = of_original (original_at t.original) refl takes where
+  of_page : (original : List ℕ) → original_at t.original ≡ Some original
+      → OfPage base w t text next original
+      → IsRunOf base w (script.Take t ∷ commands) end
+  of_page original named (inl (none, refusal)) = refusal_first base w (script.Take t) commands next end (inr (λ event h. none h.page h.read, refl)) refusal.1 r
+  of_page original named (inr (page, read, harvest)) = harvest_first one base w t commands original page text next end named read harvest r
+
+  of_original : (o : Option (List ℕ)) → original_at t.original ≡ o
       → MatchOption o (RefusedAs (codes "bad original") w text next)
-      (λ original. (((page : Page) → ¬ (IsPage t.address t.body page)) × RefusedAs (codes "bad page") w text next) ⊎ ((page : Page) × IsPage t.address t.body page × TakesHarvest base w t original page text next))
-      → IsReached base w end
-  of_original None refusal = refusal_first base (codes "bad original") w text next end refusal reached
-  of_original (Some original) of_this = of_page original of_this
+      (OfPage base w t text next)
+      → IsRunOf base w (script.Take t ∷ commands) end
+  of_original None is refusal = refusal_first base w (script.Take t) commands next end (inr (λ event h. no_original t event is h, refl)) refusal.1 r
+  of_original (Some original) is of_this = of_page original is of_this
 
-command_first : (base : List ℕ) (w : World) (command : Command) (text : List ℕ) (next end : World) → Performs base w command text next → IsReached base next end → IsReached base w end
-command_first base w (script.Take t) text next end takes reached = page_first base w t text next end takes reached
-command_first base w (script.Step event) text next end happens reached = happening_first base w _ event text next end happens reached
+command_first : OnePage → (base : List ℕ) (w : World) (command : Command) (commands : List Command) (text : List ℕ) (next end : World)
+    → Performs base w command text next → IsRunOf base next commands end → IsRunOf base w (command ∷ commands) end
+command_first one base w (script.Take t) commands text next end takes r = page_first one base w t commands text next end takes r
+command_first one base w (script.Step event) commands text next end happens r = happening_first base w _ (script.Step event) commands event text next end refl happens r
 
--- so commands in turn lead to such a world
-pub commands_reach : (base : List ℕ) (w : World) (commands : List Command) (text : List ℕ) (end : World) → Says base w commands text end → IsReached base w end
-commands_reach base w [] text end (is, same) = ([], [], same)
-commands_reach base w (command ∷ commands) text end (first, next, later, performs, says, is) =
-    command_first base w command first next end performs (commands_reach base next commands later end says)
+-- so the events of commands in turn lead to the world that they end in
+pub commands_run : OnePage → (base : List ℕ) (w : World) (commands : List Command) (text : List ℕ) (end : World) → Says base w commands text end → IsRunOf base w commands end
+commands_run one base w [] text end (is, same) = record { events = []; answers = []; come = refl; run = same }
+commands_run one base w (command ∷ commands) text end (first, next, later, performs, says, is) =
+    command_first one base w command commands first next end performs (commands_run one base next commands later end says)
 
 -- ---- questions
 

@@ -8,7 +8,7 @@ ghost use Rattle.replica_world.specs.Script.{Command, commands_of};
 ghost use Rattle.replica_world.specs.Script as script;
 ghost use Rattle.replica_world.specs.World.{Knowledge, World};
 ghost use Rattle.replica_world.specs.Agreement.{SameHarvests, HasTaken};
-ghost use Rattle.replica_world.specs.Reached.{IsReached};
+ghost use Rattle.replica_world.specs.Reached.{IsRunOf};
 ghost use Rattle.replica_world.specs.Layout.{Finds, IsNumber, IsCut, IsLine, IsBlock, IsBehindEmptyLines, IsReadAs};
 ghost use Rattle.replica_world.specs.Output.{IsOutput, Performs, Says, reply_text};
 
@@ -32,12 +32,14 @@ pub fn script_is_its_layout()
     ensures commands { (text : List ℕ) → IsReadAs text (commands_of text).list (commands_of text).bad }
 {}
 
-/// The world that commands lead to is one that events lead to. So what holds of all replicas of a world, whatever has
-/// happened in it, holds of those of a script.
+/// The commands of a script come to events, and these lead to its world. So what holds of all replicas of a world
+/// holds of those of a script, whatever has happened in it.
 pub fn scripts_are_runs()
     ensures { (base : List ℕ) (world : World) (commands : List Command) (text : List ℕ) (end : World) →
-        Says base world commands text end → IsReached base world end }
-{}
+        Says base world commands text end → IsRunOf base world commands end }
+{
+    one_page();
+}
 
 /// A `map`, a `gate` or an `ask` writes the reply of what its replica has taken, and changes nothing. So two replicas
 /// that have taken the same harvests write the same text for the same request.
