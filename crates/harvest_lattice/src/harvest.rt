@@ -1,3 +1,4 @@
+//! Harvests: what an archive had of an original.
 ghost use Rattle.std.specs.Prelude.{◌≡◌, ◌<◌, ◌≤◌, IfOk, IsErrOf, Some, length};
 ghost use Rattle.memento_time.specs.Mementos.{memento_cmp};
 ghost use Rattle.harvest_lattice.specs.Faults.{words_of};
@@ -85,18 +86,21 @@ impl Harvest {
         })
     }
 
+    /// The archive that was asked.
     pub fn archive(&self) -> ArchiveName
         ensures { result ≡ self.now.archive }
     {
         self.archive
     }
 
+    /// The original that it was asked for.
     pub fn original(&self) -> &Original
         ensures { result.now ≡ self.now.original }
     {
         &self.original
     }
 
+    /// Which of the archive's answers this is: a greater one is newer.
     pub fn revision(&self) -> u64
         ensures { result ≡ self.now.revision }
     {
@@ -117,6 +121,7 @@ impl Harvest {
         &self.latest
     }
 
+    /// The same harvest once more.
     pub fn try_clone(&self) -> Result<Harvest, NoMemory>
         ensures { IfOk result (λ copy. copy ≡ self.now) }
     {

@@ -23,6 +23,7 @@ pub enum Merge {
 }
 
 impl Merge {
+    /// The same merge once more.
     pub fn try_clone(&self) -> Result<Merge, NoMemory>
         ensures { IfOk result (λ copy. copy ≡ self.now) }
     {
@@ -66,6 +67,7 @@ impl Index {
     ghost use Rattle.std.specs.FinMap as map;
     ghost use Rattle.harvest_lattice.specs.Merges.{adds_of};
 
+    /// The index of no harvests. Takes no memory.
     pub fn new(alloc: Global) -> Index
         ensures { result ≡ map.empty }
     {
@@ -129,6 +131,7 @@ impl Index {
         last_of(self.list(original))
     }
 
+    /// The state of all that was taken in.
     pub fn state(&self) -> &State
         ensures { result.now ≡ self.now }
     {

@@ -1,3 +1,4 @@
+//! What is kept of one archive and original.
 ghost use Rattle.std.specs.Prelude.{◌≡◌, ◌↔◌, IsTrue, IfOk, length};
 ghost use Rattle.harvest_lattice.specs.Sets as set;
 ghost use Rattle.harvest_lattice.specs.Lattice.{join_kept, KeptAtMost};
@@ -42,18 +43,21 @@ impl Latest {
         Some(Latest { revision, mementos })
     }
 
+    /// The latest revision.
     pub fn revision(&self) -> u64
         ensures { result ≡ self.now.revision }
     {
         self.revision
     }
 
+    /// The mementos, in order.
     pub fn mementos(&self) -> &[Memento]
         ensures { result.now ≡ set.items self.now.mementos }
     {
         &self.mementos
     }
 
+    /// How many mementos there are.
     pub fn len(&self) -> usize
         ensures { result ≡ length (set.items self.now.mementos) }
     {
@@ -68,6 +72,7 @@ impl Latest {
         Ok(Latest { revision, mementos })
     }
 
+    /// The same once more.
     pub fn try_clone(&self) -> Result<Latest, NoMemory>
         ensures { IfOk result (λ copy. copy ≡ self.now) }
     {

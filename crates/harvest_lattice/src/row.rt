@@ -1,3 +1,4 @@
+//! Entries of a state, owned and lent.
 ghost use Rattle.std.specs.Prelude.{◌≡◌, IfOk, map as map_list};
 ghost use Rattle.std.specs.Option.{option_map};
 ghost use Rattle.harvest_lattice.specs.Sets as set;
@@ -35,6 +36,7 @@ impl Row {
         })
     }
 
+    /// The same row once more.
     pub fn try_clone(&self) -> Result<Row, NoMemory>
         ensures { IfOk result (λ copy. copy ≡ self.now) }
     {
@@ -71,6 +73,7 @@ impl<'a> Entry<'a> {
         Entry { latest }
     }
 
+    /// The latest revision.
     pub fn revision(&self) -> u64
         ensures { result ≡ self.now.revision }
     {

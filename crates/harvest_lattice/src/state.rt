@@ -1,3 +1,4 @@
+//! States: of each archive and original the latest revision and its mementos.
 ghost use Rattle.std.specs.Prelude.{◌≡◌, ◌<◌, ◌∷◌, [], ◌↔◌, IsTrue, IsSome, OnOk, OnErr, IfOk, Some, slice_get, map as map_list};
 ghost use Rattle.std.specs.FinMap as map;
 ghost use Rattle.harvest_lattice.specs.Sets as set;
@@ -49,6 +50,7 @@ impl Model for State {
 }
 
 impl State {
+    /// The state of no harvests. Takes no memory.
     pub fn new(alloc: Global) -> State
         ensures { result ≡ map.empty }
     {
@@ -209,6 +211,7 @@ impl State {
         }
     }
 
+    /// The same state once more.
     pub fn try_clone(&self) -> Result<State, NoMemory>
         ensures { IfOk result (λ copy. copy ≡ self.now) }
     {
@@ -234,6 +237,7 @@ impl State {
         self.len
     }
 
+    /// Whether nothing is kept.
     pub fn is_empty(&self) -> bool
         ensures { IsTrue result ↔ (self.now ≡ map.empty) }
     {

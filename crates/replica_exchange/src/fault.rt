@@ -1,3 +1,4 @@
+//! Why bytes aren't read as a state.
 ghost use Rattle.std.specs.Prelude.{◌≡◌, Some};
 ghost use Rattle.replica_exchange.specs.declared.fault.StateFault.TheVariants.{NoMemory as OutOfMemory};
 ghost use Rattle.replica_exchange.specs.Faults.{fault_of, words_of};

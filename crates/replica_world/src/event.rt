@@ -1,3 +1,4 @@
+//! What happens in a world, and what is said to it.
 ghost use Rattle.std.specs.Prelude.{◌≡◌, Some};
 ghost use Rattle.replica_world.specs.declared.event.Refused.TheVariants.{NoMemory as OutOfMemory};
 ghost use Rattle.replica_world.specs.Faults.{refusal, words_of};

@@ -1,3 +1,4 @@
+//! Replies, as they stand in the head and the body of an HTTP response.
 ghost use Rattle.std.specs.Prelude.{◌≡◌, Some};
 ghost use Rattle.timegate.specs.Reply.{header_name};
 

@@ -1,3 +1,4 @@
+//! Requests.
 use memento_time::{Items, Octets};
 
 /// What a client asks, as it stands in the head of an HTTP request.

@@ -132,6 +132,7 @@ impl Service {
         self.base.as_slice()
     }
 
+    /// The same service once more.
     pub fn try_clone(&self) -> Result<Service, NoMemory>
         ensures { IfOk result (λ copy. copy ≡ self.now) }
     {
