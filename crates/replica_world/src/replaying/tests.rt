@@ -204,6 +204,19 @@ fn bad_lines(rt: HostRuntime) -> Result<(), Fail> {
     Ok(())
 }
 
+// A reader may give a byte at a time for as long as it likes, below the limit of a thousand million reads.
+#[test]
+fn many_reads(rt: HostRuntime) -> Result<(), Fail> {
+    let lines = vec![in rt.alloc(); b'\n'; 1_000_001]?;
+    let rest = lines.as_slice();
+    let reads = 1_000_002;
+    let mut output = Vec::new(rt.alloc());
+    let result = replay(rt.alloc(), &mut FailingReader { rest, reads }, &mut output);
+    assert_eq!(rt; result, Ok(()));
+    assert!(rt; output.is_empty());
+    Ok(())
+}
+
 #[test]
 fn failing_devices(rt: HostRuntime) -> Result<(), Fail> {
     for reads in 0..=EXCHANGE.len() {
