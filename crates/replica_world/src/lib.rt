@@ -19,6 +19,8 @@ pub use asked::{Asked, asked_after};
 pub use event::{Answer, Event, Refused, Said};
 pub use history::{deliveries_in_any_order, one_outcome, what_replicas_have_taken};
 pub use replaying::fault::ReplayFault;
-pub use replaying::laws::{one_output, script_is_its_layout};
+pub use replaying::laws::{
+    one_output, same_text_from_both, script_is_its_layout, scripts_are_runs,
+};
 pub use replaying::run::replay;
 pub use world::World;
