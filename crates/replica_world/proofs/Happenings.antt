@@ -12,7 +12,7 @@ use Rattle.harvest_lattice.specs.Sets as set
 use Rattle.harvest_lattice.specs.Knowledge.{Harvested}
 use Rattle.harvest_lattice.proofs.Ordered.{items_in_order}
 use Rattle.replica_world.specs.declared.event.Event.{Event}
-use Rattle.replica_world.specs.declared.event.Event.TheVariants.{Take, Send, Deliver, Receive, Restart, Ask}
+use Rattle.replica_world.specs.declared.event.Event.TheVariants.{Take}
 use Rattle.replica_world.specs.declared.event.Refused.TheVariants.{NoMemory}
 use Rattle.replica_world.specs.World.{World, Answer, Effect, RunsOut}
 use Rattle.replica_world.specs.Stands.{Kept, Steps}

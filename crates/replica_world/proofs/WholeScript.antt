@@ -1,10 +1,10 @@
 -- A script is read to its end or to a bad line.
-use Rattle.std.proofs.Common.{◌≡◌, ℕ, zero, suc, ◌+◌, ◌<◌, ◌≤◌, inl, inr, Bool, true, false, if◌then◌else◌, List, [], ◌∷◌, ◌++◌, length, replicate, Option, Some, None, refl, sym, ap, subst, ◌∙◌, arith}
+use Rattle.std.proofs.Common.{◌≡◌, ℕ, zero, suc, ◌+◌, ◌<◌, ◌≤◌, inl, inr, Bool, true, false, if◌then◌else◌, List, [], ◌∷◌, length, replicate, Option, Some, None, refl, ap, subst, ◌∙◌, arith}
 use Rattle.std.specs.Prelude.{IfSome, codes, bytes_eq}
 use Rattle.std.proofs.lemmas.List.{length-append}
 use Rattle.replica_world.specs.Fields.{◌>>=◌, after_empty_lines, field, number_of, number_field, word_field, block_of, line_of, lines_of}
-use Rattle.replica_world.specs.Script.{Command, Commands, Found, take_of, map_of, gate_of, asking_of, ask_of, send_of, deliver_of, received_of, receive_of, restart_of, named, command_at, commands_within, commands_of, onward}
-use Rattle.replica_world.specs.Layout.{IsEnded, IsLine, IsBlock, IsBehindEmptyLines, IsReadAs}
+use Rattle.replica_world.specs.Script.{Commands, Found, take_of, map_of, gate_of, asking_of, ask_of, send_of, deliver_of, received_of, receive_of, restart_of, named, command_at, commands_within, commands_of, onward}
+use Rattle.replica_world.specs.Layout.{IsEnded, IsLine, IsReadAs}
 use Rattle.replica_world.proofs.LaidOut.{line_is, block_is, after_empty_lines_is}
 
 -- ---- what is left gets shorter

@@ -1,6 +1,6 @@
 -- What a client may rely on, by what is asked for.
-use Rattle.std.proofs.Common.{◌≡◌, ℕ, ◌<◌, ◌++◌, ◌&&◌, ◌==◌, Bool, true, false, not, length, drop, List, [], ◌∷◌, Option, Some, None, refl, ap, append_assoc, sym, subst, ◌∙◌, inl, inr, arith}
-use Rattle.std.specs.Prelude.{⊤, codes, bytes_eq, nat_eq, if◌then◌else◌}
+use Rattle.std.proofs.Common.{◌≡◌, ℕ, ◌++◌, ◌&&◌, ◌==◌, Bool, true, false, not, length, List, [], ◌∷◌, Option, Some, None, refl, ap, append_assoc, sym, ◌∙◌, arith}
+use Rattle.std.specs.Prelude.{⊤, codes, nat_eq, if◌then◌else◌}
 use Rattle.std.specs.List.{starts_with}
 use Rattle.std.proofs.lemmas.List.{append_cancel_left}
 use Rattle.std.proofs.lemmas.Bool.{true≢false}
@@ -10,14 +10,14 @@ use Rattle.memento_time.specs.SecondOf.{asked_of}
 use Rattle.harvest_lattice.specs.Sets as set
 use Rattle.harvest_lattice.specs.Lattice.{Mementos, Entries}
 use Rattle.harvest_lattice.specs.Knowledge.{Harvested, lat, shown}
-use Rattle.timemap_writer.specs.TimeMap.{timegate_address, timemap_address, timemap_text, gate_links}
+use Rattle.timemap_writer.specs.TimeMap.{timegate_address, timemap_address, gate_links}
 use Rattle.timegate.specs.declared.reply.Reply.{Reply}
 use Rattle.timegate.specs.declared.reply.Header.TheVariants.{Allow, Vary, Location, Link, ContentType}
 use Rattle.timegate.specs.declared.request.Request.{Request}
 use Rattle.timegate.specs.declared.route.Route.{Route}
 use Rattle.timegate.specs.declared.route.Route.TheVariants.{BadMethod, State, NoRoute, BadOriginal, BadDatetime, TimeGate, TimeMap}
-use Rattle.timegate.specs.Route.{is_get, is_head, is_state, is_timegate, is_timemap, timegates, timemaps, original_at, datetime_route, timegate_route, original_route, route_of}
-use Rattle.timegate.specs.Reply.{Headers, routed, reply, redirect, timemap, chosen, vary, answered, told}
+use Rattle.timegate.specs.Route.{is_get, is_head, is_state, is_timegate, is_timemap, timegates, original_at, datetime_route, timegate_route, original_route, route_of}
+use Rattle.timegate.specs.Reply.{Headers, routed, reply, redirect, chosen, told}
 use Rattle.timegate.specs.Promises.{as_get, without_body, vary_values, AreInOrder}
 
 -- ---- HEAD
