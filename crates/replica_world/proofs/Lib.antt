@@ -2,6 +2,7 @@ pub mod Places
 pub mod Worlds
 pub mod Replies
 pub mod Questions
+mod ReadBack
 mod Lines
 mod Written
 mod Once

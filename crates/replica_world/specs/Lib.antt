@@ -5,6 +5,7 @@ pub mod Faults
 pub mod Stands
 pub mod Agreement
 pub mod Asked
+pub mod ReadBack
 pub mod Fields
 pub mod Script
 pub mod Layout

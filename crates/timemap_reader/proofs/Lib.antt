@@ -1,8 +1,9 @@
 mod Escapes
-mod Cleans
+pub mod Cleans
 mod Starts
 mod Found
 mod Trims
+pub mod Datetimes
 mod FirstLemmas
 mod SetLemmas
 mod Named
