@@ -174,6 +174,17 @@ fn refusals(rt: HostRuntime) -> Result<(), Fail> {
 }
 
 #[test]
+fn each_event_has_an_answer(rt: HostRuntime) -> Result<(), Fail> {
+    let mut world = World::new(rt.alloc(), 1, service(&rt)?)?;
+    let events = vec![in rt.alloc(); Event::Restart(2), Event::Restart(1)]?;
+    let answers = world.run(&events)?;
+    assert_eq!(rt; answers.len(), 2);
+    assert!(rt; matches!(answers.first(), Some(Err(Refused::NoReplica))));
+    assert!(rt; matches!(answers.last(), Some(Ok(Said::Restarted))));
+    Ok(())
+}
+
+#[test]
 fn received_bytes(rt: HostRuntime) -> Result<(), Fail> {
     let state =
         b"memento-state 1\nentries 1\nentry arc.example 7 1 http://a.example/\n946684800 http://arc.example/web/20000101000000/http://a.example/\nend\n";
