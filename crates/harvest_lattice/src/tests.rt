@@ -1,3 +1,4 @@
+use crate::latest::Latest;
 use crate::*;
 use memento_time::{ArchiveName, Clean, Memento, Moment, Original};
 use std::alloc::Global;
@@ -61,8 +62,9 @@ fn only_the_greatest_revision_counts(rt: HostRuntime) -> Result<(), Fail> {
     let root = Original::new(alloc, b"http://a.example/")?;
     let mut index = indexed(alloc, &[("a1", 7, &[FIRST]), ("a1", 3, &[SECOND])])?;
     let asked = Moment::from_secs(946_771_200).ok_or("a second")?;
-    let first = memento(alloc, FIRST)?;
-    assert!(rt; index.nearest(&root, asked) == Some(&first));
+    let first = mementos(alloc, &[FIRST])?;
+    assert!(rt; index.list(&root) == first.as_slice());
+    assert!(rt; index.nearest(&root, asked) == first.first());
     index.absorb(&Merge::Harvest(harvest(alloc, "a1", 8, &[])?))?;
     assert!(rt; index.list(&root).is_empty());
     assert!(rt; index.nearest(&root, asked).is_none());
@@ -96,6 +98,31 @@ fn another_archive_still_shows_it(rt: HostRuntime) -> Result<(), Fail> {
     assert!(rt; copy.shown(&root)?.as_slice() == first.as_slice());
     index.absorb(&Merge::Harvest(harvest(alloc, "b1", 2, &[])?))?;
     assert!(rt; index.list(&root).is_empty());
+    Ok(())
+}
+
+#[test]
+fn a_lesser_revision_adds_nothing(rt: HostRuntime) -> Result<(), Fail> {
+    let alloc = rt.alloc();
+    let newer = Latest::of(7, mementos(alloc, &[FIRST])?)?;
+    let older = Latest::of(3, mementos(alloc, &[SECOND])?)?;
+    for both in [newer.joined(alloc, &older)?, older.joined(alloc, &newer)?] {
+        assert!(rt; both.revision() == 7);
+        assert!(rt; both.mementos() == newer.mementos());
+    }
+    Ok(())
+}
+
+#[test]
+fn archives_are_listed_as_one(rt: HostRuntime) -> Result<(), Fail> {
+    let alloc = rt.alloc();
+    let root = Original::new(alloc, b"http://a.example/")?;
+    let index = indexed(
+        alloc,
+        &[("b1", 1, &[FIRST, SECOND]), ("a1", 1, &[FIRST, THIRD])],
+    )?;
+    let all = mementos(alloc, &[FIRST, SECOND, THIRD])?;
+    assert!(rt; index.list(&root) == all.as_slice());
     Ok(())
 }
 
