@@ -1,5 +1,5 @@
 -- The page that the TimeMap of an original makes for its readers.
-use Rattle.std.specs.Prelude.{ℕ, List, [], All, IsTrue}
+use Rattle.std.specs.Prelude.{List, [], All, IsTrue}
 use Rattle.std.specs.List.Sorted.{IsStrictlySortedBy}
 use Rattle.memento_time.specs.declared.mementos.Memento.{Memento}
 use Rattle.memento_time.specs.Mementos.{IsMemento, memento_cmp}
