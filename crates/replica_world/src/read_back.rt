@@ -8,8 +8,10 @@ ghost use Rattle.timemap_writer.specs.Service.{IsBase};
 ghost use Rattle.timemap_writer.specs.TimeMap.{timemap_text};
 ghost use Rattle.replica_world.specs.ReadBack.{AreOnWeb, page_of};
 
-/// What is written as a TimeMap is read as a page of just the mementos that it lists, at whatever address it stands:
-/// so one aggregator can harvest another.
+/// A TimeMap of at most 8,388,608 bytes, whose mementos have addresses that begin with `http://` or `https://`, may be
+/// answered as a page of just these mementos, whatever http or https URL it was fetched from: so one aggregator can
+/// harvest another. No other page may be answered, by `one_page`, and no fault but want of memory, by
+/// `no_fault_beside_a_page`.
 pub fn timemaps_are_pages()
     ensures { (base original address : List ℕ) (url : Parts) (mementos : List Memento) → IsBase base → IsOriginal original → AreOnWeb mementos
         → base_of address ≡ Some url → IsShort (timemap_text base original mementos)
