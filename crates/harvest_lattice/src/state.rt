@@ -1,21 +1,16 @@
 //! States: of each archive and original the latest revision and its mementos.
-ghost use Rattle.std.specs.Prelude.{◌≡◌, ◌<◌, ◌∷◌, [], ◌↔◌, IsTrue, IsSome, OnOk, OnErr, IfOk, Some, slice_get, map as map_list};
+ghost use Rattle.std.specs.Prelude.{◌≡◌, ◌<◌, ◌∷◌, [], ◌↔◌, IsTrue, OnOk, OnErr, IfOk, Some, slice_get, map as map_list};
 ghost use Rattle.std.specs.FinMap as map;
 ghost use Rattle.harvest_lattice.specs.Sets as set;
-ghost use Rattle.std.specs.BTreeMap as tree;
-ghost use Rattle.std.specs.List.{All};
-ghost use Rattle.memento_time.specs.Mementos.{text_cmp};
-ghost use Rattle.harvest_lattice.specs.Lists.{AreLists};
 ghost use Rattle.harvest_lattice.specs.Lattice.{AtMost, IsAtMostAt, join, joined_kept, joined_with};
 ghost use Rattle.harvest_lattice.specs.Knowledge.{lat, shown_of};
 ghost use Rattle.harvest_lattice.specs.Rows.{row_entry, map_with, put_all, RowsRise, IsStaged};
 
 use crate::harvest::Harvest;
 use crate::latest::Latest;
-use crate::lists::Lists;
 use crate::row::{Entry, Row, rows_rise};
 use crate::shelves::{Shelves, fill_all, held, make_rooms};
-use crate::staged::{lists_with, shown_with};
+use crate::shown::shown_in;
 use crate::walk::Rows;
 use memento_time::{ArchiveName, Memento, NoMemory, Original};
 use std::alloc::Global;
@@ -266,25 +261,7 @@ impl State {
     pub fn shown(&self, original: &Original) -> Result<Vec<Memento>, NoMemory>
         ensures { IfOk result (λ list. list.items ≡ set.items (shown_of self.now original.now)) }
     {
-        let list = shown_with(&self.shelves, self.alloc, &[], original)?;
+        let list = shown_in(&self.shelves, self.alloc, original)?;
         Ok(list)
-    }
-
-    // Puts the rows, and gives the lists of their originals as they are then.
-    pub(crate) fn put_listed(&mut self, rows: Vec<Row>) -> Result<Lists, NoMemory>
-        requires { RowsRise rows.items }
-        ensures ok { OnOk result (self.new ≡ put_all (map_list row_entry rows.items) self.old) }
-        ensures lists { IfOk result (λ lists. AreLists (put_all (map_list row_entry rows.items) self.old) lists) }
-        ensures whole { IfOk result (λ lists. All (λ row. IsSome (tree.get text_cmp lists row.original)) rows.items) }
-        ensures err { OnErr result (self.new ≡ self.old) }
-    {
-        make_rooms(&mut self.shelves, self.alloc, &rows)?;
-        let lists = lists_with(&self.shelves, self.alloc, &rows)?;
-        // No memory has room for more keys than a usize counts.
-        if self.len.checked_add(rows.len()).is_none() {
-            return Err(NoMemory);
-        }
-        self.len += fill_all(&mut self.shelves, rows);
-        Ok(lists)
     }
 }
