@@ -15,3 +15,4 @@ pub mod Searched
 pub mod ShelfLemmas
 pub mod Rising
 pub mod Made
+pub mod NewsLemmas

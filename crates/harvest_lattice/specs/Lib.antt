@@ -3,6 +3,7 @@ pub mod Sets
 pub mod Lattice
 pub mod Knowledge
 pub mod Rows
+pub mod News
 pub mod Choice
 pub mod Lists
 pub mod Merges
