@@ -11,3 +11,4 @@ pub mod Searched
 pub mod ShelfLemmas
 pub mod Rising
 pub mod Made
+pub mod NewsLemmas

@@ -3,5 +3,6 @@ pub mod Sets
 pub mod Lattice
 pub mod Knowledge
 pub mod Rows
+pub mod News
 pub mod Shelves
 pub mod Faults

@@ -4,8 +4,10 @@ ghost use Rattle.std.specs.FinMap as map;
 ghost use Rattle.harvest_lattice.specs.Sets as set;
 ghost use Rattle.harvest_lattice.specs.Lattice.{AtMost, IsAtMostAt, join, joined_kept, joined_with};
 ghost use Rattle.harvest_lattice.specs.Knowledge.{lat, shown_of};
+ghost use Rattle.harvest_lattice.specs.News.{IsNews, IsNoted, news_at};
 ghost use Rattle.harvest_lattice.specs.Rows.{row_entry, map_with, put_all, RowsRise, IsStaged};
 
+use crate::changes::Changes;
 use crate::harvest::Harvest;
 use crate::latest::Latest;
 use crate::row::{Entry, Row, rows_rise};
@@ -119,6 +121,79 @@ impl State {
             self.stage(&mut rows, archive, original, entry.latest())?;
         }
         Ok(rows)
+    }
+
+    /// What comes with another state and is news to this one. Nothing here is changed.
+    pub fn changes(&self, other: &State) -> Result<Changes, NoMemory>
+        ensures { IfOk result (λ changes. IsNews self.now other.now changes) }
+    {
+        let mut rows = Vec::new(self.alloc);
+        for row in other.rows() {
+            let ((archive, original), entry) = row;
+            self.note(&mut rows, archive, original, entry.latest())?;
+        }
+        Ok(Changes::of(rows))
+    }
+
+    /// What comes with a harvest and is news to this state. Nothing here is changed.
+    pub fn changes_by(&self, harvest: &Harvest) -> Result<Changes, NoMemory>
+        ensures { IfOk result (λ changes. IsNews self.now (lat (harvest.now ∷ [])) changes) }
+    {
+        let mut rows = Vec::new(self.alloc);
+        self.note(
+            &mut rows,
+            harvest.archive(),
+            harvest.original(),
+            harvest.latest(),
+        )?;
+        Ok(Changes::of(rows))
+    }
+
+    // Adds the part of an entry that is news here, if there is any.
+    fn note(
+        &self,
+        rows: &mut Vec<Row>,
+        archive: ArchiveName,
+        original: &Original,
+        latest: &Latest,
+    ) -> Result<(), NoMemory>
+        ensures { OnOk result (IsNoted self.now ((archive, original.now), latest.now) rows.old.items rows.new.items) }
+    {
+        if !self.has_at_least(archive, original, latest) {
+            let latest = self.news(archive, original, latest)?;
+            let original = original.try_clone()?;
+            rows.push(Row {
+                archive,
+                original,
+                latest,
+            })?;
+        }
+        Ok(())
+    }
+
+    fn news(
+        &self,
+        archive: ArchiveName,
+        original: &Original,
+        latest: &Latest,
+    ) -> Result<Latest, NoMemory>
+        ensures { IfOk result (λ l. l ≡ news_at (map.get self.now (archive, original.now)) latest.now) }
+    {
+        match self.entry(archive, original) {
+            Some(entry) => latest.news(self.alloc, entry.latest()),
+            None => latest.try_clone(),
+        }
+    }
+
+    /// Takes changes in: what stands at their keys is joined with them.
+    pub fn put(&mut self, changes: Changes) -> Result<(), NoMemory>
+        ensures ok { OnOk result (self.new ≡ join self.old changes) }
+        ensures err { OnErr result (self.new ≡ self.old) }
+    {
+        match State::of_rows(self.alloc, changes.into_rows())? {
+            Some(other) => self.join(&other),
+            None => Ok(()),
+        }
     }
 
     // Adds what stands in the join with an entry, unless that stands here already.
