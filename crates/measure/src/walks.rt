@@ -84,7 +84,7 @@ where
     for _ in 0..count {
         let outcome = walk(rt, &fetch, &job);
         let fetched = outcome.fetched.as_slice().len();
-        match outcome.result {
+        match &outcome.result {
             Ok(harvest) => println!(rt; "{fetched} {}", harvest.mementos().len())?,
             Err(fault) => bail!("{fault}"),
         }
