@@ -1,8 +1,8 @@
 use Rattle.std.proofs.Common.{ℕ, Option, ◌<◌, ◌^◌, sym, subst}
 use Rattle.std.specs.Option.{SomeIff}
 use Rattle.std.specs.Str.Parse.{AllDigits, digits_value}
-use Rattle.replica_exchange.proofs.DecimalLemmas.{reads_more, reads_no_more, reads_all}
-use Rattle.replica_exchange.proofs.fields.read_digits.Goals as goal
+use Rattle.text_fields.proofs.DecimalLemmas.{reads_more, reads_no_more, reads_all}
+use Rattle.text_fields.proofs.decimals.read_digits.Goals as goal
 
 pub returns-in_err-number : goal.returns-in_err-number
 returns-in_err-number c =
