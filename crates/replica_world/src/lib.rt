@@ -6,6 +6,7 @@
 #![tactic(auto)]
 
 mod asked;
+mod message;
 mod read_back;
 mod replaying;
 #[cfg(test)]

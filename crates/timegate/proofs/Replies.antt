@@ -1,7 +1,12 @@
 -- What a reply depends on, and which memento a redirect names.
 use Rattle.std.proofs.Common.{◌≡◌, ℕ, ◌<◌, ◌≤◌, ◌⊎◌, ◌↔◌, ◌==◌, Bool, true, false, length, Result, List, [], ◌∷◌, Option, Some, None, refl, ap, sym, subst, ◌∙◌, inl, inr, arith}
 use Rattle.std.specs.Prelude.{MatchOption, Contains, IfOk, if◌then◌else◌}
+use Rattle.std.specs.List.{list_any}
+use Rattle.std.specs.Ordering.{eq_by_cmp}
+use Rattle.std.specs.FinMap.{contains_key-keys}
+use Rattle.std.proofs.lemmas.Bool.{true≢false}
 use Rattle.memento_time.specs.declared.faults.NoMemory.{NoMemory}
+use Rattle.memento_time.specs.Mementos.{memento_cmp}
 use Rattle.std.proofs.lemmas.List.Elements.{Contains-append_right}
 use Rattle.memento_time.specs.declared.mementos.Memento.{Memento}
 use Rattle.harvest_lattice.specs.Sets as set
@@ -19,7 +24,7 @@ use Rattle.timegate.specs.declared.route.Route.{Route}
 use Rattle.timegate.specs.declared.route.Route.TheVariants.{BadMethod, State, NoRoute, BadOriginal, BadDatetime, TimeGate, TimeMap}
 use Rattle.timegate.specs.Route.{route_of}
 use Rattle.timegate.specs.Reply.{routed, reply, reply_of, redirect, timemap, chosen, vary}
-use Rattle.timegate.specs.Redirect.{Redirects}
+use Rattle.timegate.specs.Redirect.{Redirects, IsGateReply}
 
 routed_from_state : (base : List ℕ) (known : List Harvested) (q : Request) (route : Route) → routed base (shown known) (lat known) q route ≡ routed base (shown_of (lat known)) (lat known) q route
 routed_from_state base known q BadMethod = refl
@@ -91,6 +96,33 @@ redirected base known q original asked (Some m) is status =
       shown = c.shown;
       nearest = c.nearest;
     }
+
+-- nothing is shown where no memento can be chosen
+nothing_in : (ms : Mementos) (m : Memento) → set.items ms ≡ [] → ¬ (set.contains ms m ≡ true)
+nothing_in ms m none held =
+    let found : list_any (eq_by_cmp memento_cmp m) (set.items ms) ≡ true = sym (contains_key-keys ms m) ∙ held in
+    let lost : list_any (eq_by_cmp memento_cmp m) [] ≡ true = subst (λ (xs : List Memento). list_any (eq_by_cmp memento_cmp m) xs ≡ true) none found in
+    absurd (true≢false (sym lost))
+
+nothing_shown : (known : List Harvested) (original : List ℕ) (asked : Option ℕ) → chosen (shown known original) asked ≡ None → (m : Memento) → ¬ IsShown known original m
+nothing_shown known original None is m there =
+    let none : set.items (shown known original) ≡ [] = subst (λ (o : Option Memento). MatchOption o (set.items (shown known original) ≡ []) (IsLast (shown known original))) is (last-is (shown known original)) in
+    nothing_in (shown known original) m none ((shown-is known original m).1 there)
+nothing_shown known original (Some second) is m there =
+    let none : set.items (shown known original) ≡ [] = subst (λ (o : Option Memento). MatchOption o (set.items (shown known original) ≡ []) (IsNearest (shown known original) second)) is (nearest-is (shown known original) second) in
+    nothing_in (shown known original) m none ((shown-is known original m).1 there)
+
+gate_at : (base : List ℕ) (known : List Harvested) (q : Request) (original : List ℕ) (asked : Option ℕ) (c : Option Memento) → chosen (shown known original) asked ≡ c
+    → IsGateReply known original asked (redirect base q original (shown known original) c)
+gate_at base known q original asked None is = inl (nothing_shown known original asked is, refl)
+gate_at base known q original asked (Some m) is = inr ((m, (choice known original asked m is).shown), refl, redirected base known q original asked (Some m) is refl)
+
+-- a TimeGate redirects where anything is shown
+pub gate_reply : (base : List ℕ) (known : List Harvested) (q : Request) (original : List ℕ) (asked : Option ℕ) → route_of q ≡ TimeGate original asked
+    → IsGateReply known original asked (reply base known q)
+unfolding reply
+gate_reply base known q original asked is =
+    subst (λ (route : Route). IsGateReply known original asked (routed base (shown known) (lat known) q route)) (sym is) (gate_at base known q original asked _ refl)
 
 -- one of two replies, neither of them a redirect
 not_found : (b : Bool) (x y : Reply) → x.status ≡ 404 → y.status ≡ 200 → (if b then x else y).status ≡ 302 → ⊥
