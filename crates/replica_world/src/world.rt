@@ -138,8 +138,8 @@ impl World {
         let Some(sent) = place_of(message, self.messages.len()) else {
             return Err(Refused::NoMessage);
         };
-        let state = read_state(self.alloc, self.messages[sent].bytes.as_slice())?;
-        self.absorb(place, &Merge::State(state))?;
+        let theirs = read_state(self.alloc, self.messages[sent].bytes.as_slice())?;
+        self.absorb(place, &Merge::State(theirs))?;
         Ok(Said::Joined)
     }
 
