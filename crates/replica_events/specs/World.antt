@@ -75,11 +75,11 @@ sent_by i r = record { sender = i; taken = r.taken; bytes = state_text (lat r.ta
 abbrev pub replica_reply : List ℕ → Replica → Request → Reply
 replica_reply base r q = reply base r.taken q
 
--- the world with one message more
+-- the world with one more message
 abbrev pub with_message : World → Message → World
 with_message w m = record w { messages = w.messages ++ m ∷ [] }
 
--- what may come of an event: the answer, and the world after it
+-- an outcome of an event: the answer, and the world after it
 abbrev pub Outcome : Type 1
 Outcome = Answer → World → Type 0
 
@@ -91,15 +91,15 @@ Accepts result next answer new = (answer ≡ Ok result) × (new ≡ next)
 abbrev pub Refuses : Refused → World → Outcome
 Refuses why w answer new = (answer ≡ Err why) × (new ≡ w)
 
--- what comes of an event at the replica of this number, if there is one
+-- the outcome of an event at the replica of this number, if there is one
 abbrev pub AtReplica : World → ℕ → (Replica → Outcome) → Outcome
 AtReplica w i happens answer new = MatchOption (replica w i) (Refuses NoReplica w answer new) (λ r. happens r answer new)
 
--- what comes of an event with the message of this number, if there is one
+-- the outcome of an event with the message of this number, if there is one
 abbrev pub WithMessage : World → ℕ → (Message → Outcome) → Outcome
 WithMessage w k happens answer new = MatchOption (message w k) (Refuses NoMessage w answer new) (λ m. happens m answer new)
 
--- what comes of an event with bytes of at most 268,435,456, or else with more
+-- the outcome of an event with bytes of at most 268,435,456, or else with more
 abbrev pub IfWithinLimit : List ℕ → Outcome → Outcome → Outcome
 IfWithinLimit bytes happens otherwise answer new = ((length bytes ≤ longest_text) × happens answer new) ⊎ ((longest_text < length bytes) × otherwise answer new)
 
@@ -109,15 +109,15 @@ pub record IsText (bytes : List ℕ) (s : Entries) : Type 0 where
   pub text : bytes ≡ state_text s
   pub within : length bytes ≤ longest_text
 
--- what comes of an event with bytes that are the text of a state, or else with others
+-- the outcome of an event with bytes that are the text of a state, or else with others
 abbrev pub IfText : List ℕ → (Entries → Outcome) → Outcome → Outcome
 IfText bytes happens otherwise answer new = ((s : Entries) × IsText bytes s × happens s answer new) ⊎ (((s : Entries) → ¬ IsText bytes s) × otherwise answer new)
 
--- what comes of an event by which the replica of this number sends what it has taken
+-- the outcome of an event by which a replica sends what it has taken
 abbrev pub Sends : World → ℕ → Outcome
 Sends w i = AtReplica w i (λ r. Accepts (Sent (length w.messages + 1)) (with_message w (sent_by i r)))
 
--- what comes of an event where there is memory
+-- the outcome of an event where there is memory
 abbrev pub Effect : List ℕ → World → Event → Outcome
 Effect base w (Take i h) = AtReplica w i (λ r. Accepts Taken (with_replica w i (taking r (h ∷ []))))
 Effect base w (Send i) = Sends w i
@@ -145,7 +145,7 @@ TakesMemory w (Receive i bytes) = HasReplica w i × (length bytes ≤ longest_te
 TakesMemory w (Restart i) = ⊥
 TakesMemory w (Ask i q) = HasReplica w i
 
--- what comes of an event where memory is refused: it is refused, and changes nothing
+-- the outcome of an event whose memory is refused: it changes nothing
 abbrev pub RunsOut : World → Event → Outcome
 RunsOut w event answer new = (answer ≡ Err NoMemory) × (new ≡ w) × TakesMemory w event
 

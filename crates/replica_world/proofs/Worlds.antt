@@ -67,7 +67,7 @@ ran_out kept number place event number_is below takes =
     stays kept event (Err NoMemory)
     (λ w stands. inr (refl, refl, takes w stands (get_or w.replicas place fresh, (replica_at kept w number place fmap.empty stands number_is below).there)))
 
--- an answer for want of memory, after which all is as it was
+-- a refusal of memory, after which all is as it was
 pub out_as : (old new : Kept) (event : Event) (answer : Answer) → Steps old event (Err NoMemory) old → new ≡ old → answer ≡ Err NoMemory → Steps old event answer new
 out_as old new event answer steps new_is answer_is = subst (λ (k : Kept). Steps old event answer k) (sym new_is) (subst (λ (a : Answer). Steps old event a old) (sym answer_is) steps)
 
@@ -106,10 +106,10 @@ pub record Absorbed (old new : Kept) (place : ℕ) (more : Knowledge) : Type 0 w
   pub states : new.states ≡ slice_set old.states place (join (get_or old.states place fmap.empty) (lat more))
 
 -- where a replica's state has joined that of more harvests, each world is followed by one in which the replica has taken harvests of that state
-told : (old new : Kept) (number place : ℕ) (event : Event) (answer : Answer) (more : Knowledge) → number ≡ place + 1 → place < length old.states → Absorbed old new place more
+world_follows : (old new : Kept) (number place : ℕ) (event : Event) (answer : Answer) (more : Knowledge) → number ≡ place + 1 → place < length old.states → Absorbed old new place more
     → ((w : World) (r : Replica) → Stands old w → replica w number ≡ Some r → (added : Knowledge) × (lat more ≡ lat added) × Step old.base w event answer (with_replica w number (taking r added)))
     → Steps old event answer new
-told old new number place event answer more number_is below a happens = record {
+world_follows old new number place event answer more number_is below a happens = record {
   base = a.base;
   leads = λ w stands.
       let x = replica_at old w number place fmap.empty stands number_is below in
@@ -124,7 +124,7 @@ told old new number place event answer more number_is below a happens = record {
 
 pub took : (old new : Kept) (number place : ℕ) (h copy : Harvested) → copy ≡ h → number ≡ place + 1 → place < length old.states → Absorbed old new place (copy ∷ []) → Steps old (Take number h) (Ok Taken) new
 took old new number place h copy copy_is number_is below a =
-    told old new number place (Take number h) (Ok Taken) (copy ∷ []) number_is below a (λ w r stands there. (h ∷ [], ap (λ (h : Harvested). lat (h ∷ [])) copy_is, inl (rw there (refl, refl))))
+    world_follows old new number place (Take number h) (Ok Taken) (copy ∷ []) number_is below a (λ w r stands there. (h ∷ [], ap (λ (h : Harvested). lat (h ∷ [])) copy_is, inl (rw there (refl, refl))))
 
 pub restarted : (old new : Kept) (number place : ℕ) → number ≡ place + 1 → place < length old.states
     → new.base ≡ old.base → new.messages ≡ old.messages → new.states ≡ slice_set old.states place fmap.empty → Steps old (Restart number) (Ok Restarted) new
@@ -142,7 +142,7 @@ restarted old new number place number_is below base messages states = record {
 pub received : (old new : Kept) (number place : ℕ) (bytes : List ℕ) (s : Entries) → number ≡ place + 1 → place < length old.states
     → IsText bytes s → Absorbed old new place (adds s) → Steps old (Receive number bytes) (Ok Joined) new
 received old new number place bytes s number_is below text a =
-    told old new number place (Receive number bytes) (Ok Joined) (adds s) number_is below a (λ w r stands there. (adds s, refl, inl (rw there (inl (s, text, (refl, refl))))))
+    world_follows old new number place (Receive number bytes) (Ok Joined) (adds s) number_is below a (λ w r stands there. (adds s, refl, inl (rw there (inl (s, text, (refl, refl))))))
 
 -- bytes that are refused are no state's text within the limit
 no_text : (bytes : List ℕ) (s : Entries) → IsCause TooLong bytes ⊎ IsCause NotState bytes → IsText bytes s → ⊥
@@ -199,7 +199,7 @@ no_message kept number place k count number_is below count_is none =
 pub delivered : (old new : Kept) (number place k slot : ℕ) (m : SentMessage) (s : Entries) → number ≡ place + 1 → place < length old.states
     → k ≡ slot + 1 → slot < length old.messages → m ≡ get_or old.messages slot m → IsText m.bytes s → Absorbed old new place (adds s) → Steps old (Deliver number k) (Ok Joined) new
 delivered old new number place k slot m s number_is below k_is slot_below m_is text a =
-    told old new number place (Deliver number k) (Ok Joined) (adds s) number_is below a
+    world_follows old new number place (Deliver number k) (Ok Joined) (adds s) number_is below a
     (λ w r stands there.
     let sent = message_at old w k slot m stands k_is slot_below m_is in
     let same : s ≡ lat sent.found.taken = one_text s (lat sent.found.taken) text.state sent.sent.state (sym text.text ∙ sent.bytes_is ∙ sent.sent.text) in

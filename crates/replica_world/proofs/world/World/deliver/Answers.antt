@@ -1,4 +1,5 @@
-use Rattle.std.proofs.Common.{rules, ◌≡◌, ◌<◌, length, get_or}
+use Rattle.std.proofs.Common.{rules, ◌≡◌, ℕ, ◌<◌, ◌≤◌, List, length, get_or, sym, subst, ◌∙◌}
+use Rattle.replica_exchange.specs.Faults.{longest_text}
 use Rattle.replica_world.proofs.Worlds.{delivered, not_delivered, out_as, deliver_ran_out}
 use Rattle.replica_world.proofs.world.World.deliver.Goals as goal
 
@@ -26,7 +27,8 @@ returns-clause-steps c =
     let sent : c.in-Some-place_of.sent < length c.args.self.now.messages = search rules in
     let m : c.index.result.now ≡ get_or c.args.self.now.messages c.in-Some-place_of.sent c.index.result.now = search rules in
     let read = c.in_ok-theirs.ensures in
+    let same : c.as_slice.result.now ≡ c.index.result.now.bytes = search rules in
     delivered c.args.self.now c.absorb.new.self c.args.number c.in-Some.place c.args.message c.in-Some-place_of.sent c.index.result.now c.in_ok-theirs.theirs
     c.in-Some.ensures.found.0 below c.in-Some-place_of.ensures.found.0 sent m
-    (record { state = read.found.0; text = read.found.1; within = read.within })
+    (record { state = read.found.0; text = sym same ∙ read.found.1; within = subst (λ (bytes : List ℕ). length bytes ≤ longest_text) same read.within })
     (record { base = c.absorb.ensures.base; messages = c.absorb.ensures.messages; states = c.in_ok-absorb.ensures.ok })
