@@ -5,17 +5,17 @@ use Rattle.harvest_lattice.specs.Knowledge.{lat}
 use Rattle.timegate.specs.declared.request.Request.{Request}
 use Rattle.timegate.specs.declared.reply.Reply.{Reply}
 use Rattle.timegate.specs.Reply.{reply}
-use Rattle.replica_world.specs.declared.event.Event.{Event}
-use Rattle.replica_world.specs.declared.event.Event.TheVariants.{Ask}
-use Rattle.replica_world.specs.declared.event.Said.TheVariants.{Replied}
-use Rattle.replica_world.specs.declared.event.Refused.TheVariants.{NoReplica}
+use Rattle.replica_events.specs.declared.event.Event.{Event}
+use Rattle.replica_events.specs.declared.event.Event.TheVariants.{Ask}
+use Rattle.replica_events.specs.declared.event.Said.TheVariants.{Replied}
+use Rattle.replica_events.specs.declared.event.Refused.TheVariants.{NoReplica}
 use Rattle.replica_world.specs.declared.asked.Asked.{Asked}
-use Rattle.replica_world.specs.World.{Knowledge, World, Replica, Answer, Run, Step, Refuses, Accepts, replica, start}
+use Rattle.replica_events.specs.World.{Knowledge, World, Replica, Answer, Run, Step, Refuses, Accepts, replica, start}
 use Rattle.replica_world.specs.Stands.{Kept, Stands, Steps, Runs}
-use Rattle.replica_world.specs.Agreement.{HasTaken, Gives}
+use Rattle.replica_events.specs.Agreement.{HasTaken, Gives}
 use Rattle.replica_world.specs.Asked.{AgreeAfter, RepliesWell}
-use Rattle.replica_world.proofs.Explained.{same_harvests}
-use Rattle.replica_world.proofs.Replies.{given, same_state, agreement, serves_timemaps, redirects_well}
+use Rattle.replica_events.proofs.Explained.{same_harvests}
+use Rattle.replica_events.proofs.Replies.{given, same_state, agreement, serves_timemaps, redirects_well}
 
 -- a question leaves the world as it is
 effect_stays : (base : List ℕ) (w : World) (q : Request) (answer : Answer) (next : World) (o : Option Replica)

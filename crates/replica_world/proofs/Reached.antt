@@ -6,18 +6,18 @@ use Rattle.timegate.specs.declared.request.Request.{Request}
 use Rattle.timegate.specs.Route.{original_at}
 use Rattle.timegate.specs.Reply.{reply}
 use Rattle.timegate.proofs.Replies.{same_reply}
-use Rattle.replica_world.specs.declared.event.Event.{Event}
-use Rattle.replica_world.specs.declared.event.Event.TheVariants.{Take, Ask}
-use Rattle.replica_world.specs.declared.event.Said.TheVariants.{Replied}
-use Rattle.replica_world.specs.declared.event.Refused.TheVariants.{NoReplica}
-use Rattle.replica_world.specs.World.{Knowledge, World, Replica, Refuses, Accepts, Run}
-use Rattle.replica_world.specs.Agreement.{SameHarvests, HasTaken}
+use Rattle.replica_events.specs.declared.event.Event.{Event}
+use Rattle.replica_events.specs.declared.event.Event.TheVariants.{Take, Ask}
+use Rattle.replica_events.specs.declared.event.Said.TheVariants.{Replied}
+use Rattle.replica_events.specs.declared.event.Refused.TheVariants.{NoReplica}
+use Rattle.replica_events.specs.World.{Knowledge, World, Replica, Refuses, Accepts, Run}
+use Rattle.replica_events.specs.Agreement.{SameHarvests, HasTaken}
 use Rattle.replica_world.specs.Script as script
 use Rattle.replica_world.specs.Script.{Command, Taking}
 use Rattle.replica_world.specs.Output.{Happens, RefusedAs, IsPage, TakesHarvest, TakesPage, Performs, Says, answer_text, reply_text, taken_line, harvest_of}
 use Rattle.replica_world.specs.Reached.{IsHarvestTaking, ComesTo, IsRunOf}
 use Rattle.replica_world.proofs.Once.{OnePage, one_page_is}
-use Rattle.replica_world.proofs.Replies.{same_state}
+use Rattle.replica_events.proofs.Replies.{same_state}
 
 -- ---- from the world after a command on, and so from the world before it
 

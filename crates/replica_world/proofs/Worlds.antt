@@ -17,13 +17,13 @@ use Rattle.timegate.specs.declared.request.Request.{Request}
 use Rattle.timegate.specs.declared.reply.Reply.{Reply}
 use Rattle.timegate.specs.Reply.{reply, reply_of}
 use Rattle.timegate.proofs.Replies.{reply_from_state}
-use Rattle.replica_world.specs.declared.event.Event.{Event}
-use Rattle.replica_world.specs.declared.event.Event.TheVariants.{Take, Send, Deliver, Receive, Restart, Ask}
-use Rattle.replica_world.specs.declared.event.Said.TheVariants.{Taken, Sent, Joined, Restarted, Replied}
-use Rattle.replica_world.specs.declared.event.Refused.TheVariants.{NoReplica, NoMessage, BadState, NoMemory}
-use Rattle.replica_world.specs.Faults.{refusal}
+use Rattle.replica_events.specs.declared.event.Event.{Event}
+use Rattle.replica_events.specs.declared.event.Event.TheVariants.{Take, Send, Deliver, Receive, Restart, Ask}
+use Rattle.replica_events.specs.declared.event.Said.TheVariants.{Taken, Sent, Joined, Restarted, Replied}
+use Rattle.replica_events.specs.declared.event.Refused.TheVariants.{NoReplica, NoMessage, BadState, NoMemory}
+use Rattle.replica_events.specs.Faults.{refusal}
 use Rattle.replica_world.specs.Places.{IsNoNumber}
-use Rattle.replica_world.specs.World.{Knowledge, World, Replica, Message, Answer, Step, Run, Effect, HasReplica, TakesMemory, IsText, replica, message, with_replica, with_message, taking, sent_by, fresh, start}
+use Rattle.replica_events.specs.World.{Knowledge, World, Replica, Message, Answer, Step, Run, Effect, HasReplica, TakesMemory, IsText, replica, message, with_replica, with_message, taking, sent_by, fresh, start}
 use Rattle.replica_world.specs.Stands.{Kept, Stands, IsSent, Steps, Runs, state_of, bytes_of}
 use Rattle.replica_world.proofs.Places.{At, at_place, no_number}
 

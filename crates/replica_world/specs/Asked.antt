@@ -6,13 +6,13 @@ use Rattle.timegate.specs.declared.request.Request.{Request}
 use Rattle.timegate.specs.declared.route.Route.TheVariants.{TimeMap}
 use Rattle.timegate.specs.Route.{route_of}
 use Rattle.timegate.specs.Reply.{reply}
-use Rattle.replica_world.specs.declared.event.Event.{Event}
-use Rattle.replica_world.specs.declared.event.Event.TheVariants.{Ask}
-use Rattle.replica_world.specs.declared.event.Said.TheVariants.{Replied}
+use Rattle.replica_events.specs.declared.event.Event.{Event}
+use Rattle.replica_events.specs.declared.event.Event.TheVariants.{Ask}
+use Rattle.replica_events.specs.declared.event.Said.TheVariants.{Replied}
 use Rattle.replica_world.specs.declared.asked.Asked.{Asked}
-use Rattle.replica_world.specs.World.{Knowledge, World, Answer, Step, Run, start}
-use Rattle.replica_world.specs.History.{LearntAlike}
-use Rattle.replica_world.specs.Agreement.{HasTaken, SameHarvests, Shows, NamesNearest, timemap_at}
+use Rattle.replica_events.specs.World.{Knowledge, World, Answer, Step, Run, start}
+use Rattle.replica_events.specs.History.{LearntAlike}
+use Rattle.replica_events.specs.Agreement.{HasTaken, SameHarvests, Shows, NamesNearest, timemap_at}
 
 -- a replica's reply is that of what it has taken: the bytes of a TimeMap or a 404 where a TimeMap is asked for, and a redirect names a nearest memento
 pub record RepliesWell (base : List ℕ) (world : World) (i : ℕ) (q : Request) (answer : Answer) : Type 0 where

@@ -5,8 +5,8 @@ use Rattle.std.specs.FinMap as fmap
 use Rattle.harvest_lattice.specs.Lattice.{Entries, key_cmp, coded_key, coded_kept}
 use Rattle.harvest_lattice.specs.Knowledge.{lat}
 use Rattle.replica_exchange.specs.StateText.{IsState, state_text}
-use Rattle.replica_world.specs.declared.event.Event.{Event}
-use Rattle.replica_world.specs.World.{World, Replica, Message, Answer, Step, Run}
+use Rattle.replica_events.specs.declared.event.Event.{Event}
+use Rattle.replica_events.specs.World.{World, Replica, Message, Answer, Step, Run}
 
 -- the service's base, the state of each replica, and the bytes of each message: no set of harvests
 pub record Kept : Type 0 where

@@ -2,9 +2,9 @@
 ghost use Rattle.std.specs.Prelude.{◌≤◌, IfOk};
 ghost use Rattle.replica_world.specs.Asked.{AgreeAfter};
 
-use crate::event::{Answer, Event};
 use crate::world::World;
 use memento_time::NoMemory;
+use replica_events::{Answer, Event};
 use std::alloc::Global;
 use timegate::Request;
 use timemap_writer::Service;

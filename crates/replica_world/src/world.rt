@@ -2,10 +2,10 @@
 ghost use Rattle.std.specs.Prelude.{◌≡◌, ◌+◌, ◌<◌, ◌≤◌, IfSome, IfNone};
 ghost use Rattle.replica_world.specs.Places.{IsNoNumber};
 
-use crate::event::{Answer, Event, Refused, Said};
 use harvest_lattice::Harvest;
 use memento_index::{Index, Merge};
 use memento_time::{NoMemory, Octets};
+use replica_events::{Answer, Event, Refused, Said};
 use replica_exchange::{read_state, write_state};
 use std::alloc::Global;
 use std::marker::Model;
@@ -48,9 +48,9 @@ impl World {
     ghost use Rattle.harvest_lattice.specs.Lattice.{join};
     ghost use Rattle.harvest_lattice.specs.Knowledge.{lat};
     ghost use Rattle.memento_index.specs.Merges.{adds_of};
-    ghost use Rattle.replica_world.specs.World.{start};
+    ghost use Rattle.replica_events.specs.World.{start};
     ghost use Rattle.replica_world.specs.Stands.{Stands, Steps, Runs};
-    ghost use Rattle.replica_world.specs.declared.event.Event.TheVariants as event;
+    ghost use Rattle.replica_events.specs.declared.event.Event.TheVariants as event;
 
     /// So many replicas that have taken nothing, of this service.
     pub fn new(alloc: Global, replicas: usize, service: Service) -> Result<World, NoMemory>

@@ -4,10 +4,10 @@ ghost use Rattle.harvest_lattice.specs.Knowledge.{lat};
 ghost use Rattle.timegate.specs.declared.reply.Reply.{Reply};
 ghost use Rattle.timegate.specs.declared.request.Request.{Request};
 ghost use Rattle.timegate.specs.Reply.{reply};
-ghost use Rattle.replica_world.specs.declared.event.Event.{Event};
-ghost use Rattle.replica_world.specs.World.{Knowledge, World, Answer, Run, start};
-ghost use Rattle.replica_world.specs.History.{LearntAlike};
-ghost use Rattle.replica_world.specs.Agreement.{HasTaken, Gives, SameHarvests, Agree, ServesTimeMaps, RedirectsWell};
+ghost use Rattle.replica_events.specs.declared.event.Event.{Event};
+ghost use Rattle.replica_events.specs.World.{Knowledge, World, Answer, Run, start};
+ghost use Rattle.replica_events.specs.History.{LearntAlike};
+ghost use Rattle.replica_events.specs.Agreement.{HasTaken, Gives, SameHarvests, Agree, ServesTimeMaps, RedirectsWell};
 
 /// After every list of harvests taken, states sent, restarts, and deliveries that were lost, delayed, repeated or
 /// reordered, two replicas that have learnt the same harvests since their last restart, directly or through each

@@ -3,11 +3,11 @@ use Rattle.std.proofs.Common.{◌≡◌, ◌↔◌, ℕ, ◌⊎◌, List, [], �
 use Rattle.std.proofs.lemmas.List.Elements.{Contains-append_left, Contains-append_right, Contains-push, Contains-push_cases}
 use Rattle.harvest_lattice.specs.Lattice.{Entries}
 use Rattle.harvest_lattice.specs.Knowledge.{Harvested, adds}
-use Rattle.replica_world.specs.declared.event.Event.{Event}
-use Rattle.replica_world.specs.declared.event.Event.TheVariants.{Take, Send, Deliver, Receive, Restart}
-use Rattle.replica_world.specs.declared.event.Said.TheVariants.{Taken, Sent, Joined, Restarted}
-use Rattle.replica_world.specs.World.{Answer, IsText}
-use Rattle.replica_world.specs.History.{Happened, History, NoRestart, Learnt, took, received, through}
+use Rattle.replica_events.specs.declared.event.Event.{Event}
+use Rattle.replica_events.specs.declared.event.Event.TheVariants.{Take, Send, Deliver, Receive, Restart}
+use Rattle.replica_events.specs.declared.event.Said.TheVariants.{Taken, Sent, Joined, Restarted}
+use Rattle.replica_events.specs.World.{Answer, IsText}
+use Rattle.replica_events.specs.History.{Happened, History, NoRestart, Learnt, took, received, through}
 
 -- ---- lists and one element more
 

@@ -2,10 +2,10 @@
 use Rattle.std.specs.Prelude.{◌≡◌, ◌↔◌, ℕ, List, ◌∷◌, ◌++◌, Ok, Contains}
 use Rattle.harvest_lattice.specs.Lattice.{Entries}
 use Rattle.harvest_lattice.specs.Knowledge.{Harvested, adds}
-use Rattle.replica_world.specs.declared.event.Event.{Event}
-use Rattle.replica_world.specs.declared.event.Event.TheVariants.{Take, Send, Deliver, Receive, Restart}
-use Rattle.replica_world.specs.declared.event.Said.TheVariants.{Taken, Sent, Joined, Restarted}
-use Rattle.replica_world.specs.World.{Answer, IsText}
+use Rattle.replica_events.specs.declared.event.Event.{Event}
+use Rattle.replica_events.specs.declared.event.Event.TheVariants.{Take, Send, Deliver, Receive, Restart}
+use Rattle.replica_events.specs.declared.event.Said.TheVariants.{Taken, Sent, Joined, Restarted}
+use Rattle.replica_events.specs.World.{Answer, IsText}
 
 -- an event, and what was said to it
 abbrev pub Happened : Type 0

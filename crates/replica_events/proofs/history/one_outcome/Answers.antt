@@ -1,6 +1,5 @@
-use Rattle.replica_world.proofs.Once.{effect_once}
-use Rattle.replica_world.proofs.Outcomes.{effect_happens}
-use Rattle.replica_world.proofs.history.one_outcome.Goals as goal
+use Rattle.replica_events.proofs.Outcomes.{effect_once, effect_happens}
+use Rattle.replica_events.proofs.history.one_outcome.Goals as goal
 
 pub returns-clause-once : goal.returns-clause-once
 returns-clause-once c base world event answer other next last one two = effect_once base world event answer next other last one two

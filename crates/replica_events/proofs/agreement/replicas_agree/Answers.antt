@@ -1,6 +1,6 @@
-use Rattle.replica_world.proofs.Replies.{given, gives_reply, same_state, agreement, serves_timemaps, redirects_well}
-use Rattle.replica_world.proofs.Explained.{same_harvests}
-use Rattle.replica_world.proofs.agreement.replicas_agree.Goals as goal
+use Rattle.replica_events.proofs.Replies.{given, gives_reply, same_state, agreement, serves_timemaps, redirects_well}
+use Rattle.replica_events.proofs.Explained.{same_harvests}
+use Rattle.replica_events.proofs.agreement.replicas_agree.Goals as goal
 
 pub returns-clause-replies : goal.returns-clause-replies
 returns-clause-replies c base count events answers world run i known is q r = (given base world i known q r is, gives_reply base world i known q r is)

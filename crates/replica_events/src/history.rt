@@ -1,12 +1,12 @@
 //! What replicas have taken, by the events that were accepted.
 ghost use Rattle.std.specs.Prelude.{◌≡◌, ◌↔◌, ◌++◌, ℕ, List, ◌∷◌, Ok, Contains, zip};
 ghost use Rattle.harvest_lattice.specs.Knowledge.{Harvested};
-ghost use Rattle.replica_world.specs.declared.event.Event.{Event};
-ghost use Rattle.replica_world.specs.declared.event.Event.TheVariants.{Send, Deliver};
-ghost use Rattle.replica_world.specs.declared.event.Said.TheVariants.{Sent, Joined};
-ghost use Rattle.replica_world.specs.World.{Knowledge, World, Answer, Effect, Run, start};
-ghost use Rattle.replica_world.specs.Agreement.{HasTaken};
-ghost use Rattle.replica_world.specs.History.{Happened, History, NoRestart, IsLocal, Learnt};
+ghost use Rattle.replica_events.specs.declared.event.Event.{Event};
+ghost use Rattle.replica_events.specs.declared.event.Event.TheVariants.{Send, Deliver};
+ghost use Rattle.replica_events.specs.declared.event.Said.TheVariants.{Sent, Joined};
+ghost use Rattle.replica_events.specs.World.{Knowledge, World, Answer, Effect, Run, start};
+ghost use Rattle.replica_events.specs.Agreement.{HasTaken};
+ghost use Rattle.replica_events.specs.History.{Happened, History, NoRestart, IsLocal, Learnt};
 
 /// After every list of events, what a replica has taken is what it has learnt since its last restart: the harvests
 /// that it took itself, those of the states that it received, and those that the sender of a message that it was

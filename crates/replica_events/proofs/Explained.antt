@@ -8,15 +8,15 @@ use Rattle.replica_exchange.proofs.StateLemmas.{one_text}
 use Rattle.timegate.specs.declared.reply.Reply.{Reply}
 use Rattle.timegate.specs.declared.request.Request.{Request}
 use Rattle.timegate.specs.Reply.{reply}
-use Rattle.replica_world.specs.declared.event.Event.{Event}
-use Rattle.replica_world.specs.declared.event.Event.TheVariants.{Take, Send, Deliver, Receive, Restart, Ask}
-use Rattle.replica_world.specs.declared.event.Said.TheVariants.{Taken, Sent, Joined, Restarted, Replied}
-use Rattle.replica_world.specs.declared.event.Refused.{Refused}
-use Rattle.replica_world.specs.declared.event.Refused.TheVariants.{NoReplica, NoMessage, BadState, NoMemory}
-use Rattle.replica_world.specs.World.{Knowledge, World, Replica, Message, Answer, Outcome, Step, Run, Effect, Accepts, Refuses, WithMessage, IfWithinLimit, IsText, IfText, numbered, replica, message, with_replica, with_message, taking, sent_by, fresh, start}
-use Rattle.replica_world.specs.Agreement.{HasTaken, SameHarvests}
-use Rattle.replica_world.specs.History.{Happened, History, Learnt, LearntAlike}
-use Rattle.replica_world.proofs.Histories.{IsRestart, Gains, Carries, Sends, carries_still, carries_now, carries_before, carries_sent, learnt_push, nothing_after_restart, nothing_at_first}
+use Rattle.replica_events.specs.declared.event.Event.{Event}
+use Rattle.replica_events.specs.declared.event.Event.TheVariants.{Take, Send, Deliver, Receive, Restart, Ask}
+use Rattle.replica_events.specs.declared.event.Said.TheVariants.{Taken, Sent, Joined, Restarted, Replied}
+use Rattle.replica_events.specs.declared.event.Refused.{Refused}
+use Rattle.replica_events.specs.declared.event.Refused.TheVariants.{NoReplica, NoMessage, BadState, NoMemory}
+use Rattle.replica_events.specs.World.{Knowledge, World, Replica, Message, Answer, Outcome, Step, Run, Effect, Accepts, Refuses, WithMessage, IfWithinLimit, IsText, IfText, numbered, replica, message, with_replica, with_message, taking, sent_by, fresh, start}
+use Rattle.replica_events.specs.Agreement.{HasTaken, SameHarvests}
+use Rattle.replica_events.specs.History.{Happened, History, Learnt, LearntAlike}
+use Rattle.replica_events.proofs.Histories.{IsRestart, Gains, Carries, Sends, carries_still, carries_now, carries_before, carries_sent, learnt_push, nothing_after_restart, nothing_at_first}
 
 -- ---- places
 

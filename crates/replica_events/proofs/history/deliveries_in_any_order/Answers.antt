@@ -1,5 +1,5 @@
-use Rattle.replica_world.proofs.Deliveries.{lost_message, repeated_delivery, reordered_events}
-use Rattle.replica_world.proofs.history.deliveries_in_any_order.Goals as goal
+use Rattle.replica_events.proofs.Deliveries.{lost_message, repeated_delivery, reordered_events}
+use Rattle.replica_events.proofs.history.deliveries_in_any_order.Goals as goal
 
 pub returns-clause-lost : goal.returns-clause-lost
 returns-clause-lost c before after sender k none i h = lost_message before after sender k none i h

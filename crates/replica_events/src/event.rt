@@ -1,7 +1,7 @@
 //! What happens in a world, and what is said to it.
 ghost use Rattle.std.specs.Prelude.{◌≡◌, Some};
-ghost use Rattle.replica_world.specs.declared.event.Refused.TheVariants.{NoMemory as OutOfMemory};
-ghost use Rattle.replica_world.specs.Faults.{refusal, words_of};
+ghost use Rattle.replica_events.specs.declared.event.Refused.TheVariants.{NoMemory as OutOfMemory};
+ghost use Rattle.replica_events.specs.Faults.{refusal, words_of};
 
 use harvest_lattice::Harvest;
 use memento_time::{NoMemory, Octets};

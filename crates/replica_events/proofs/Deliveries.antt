@@ -2,12 +2,12 @@
 use Rattle.std.proofs.Common.{◌≡◌, ◌↔◌, ℕ, ◌⊎◌, List, [], ◌∷◌, ◌++◌, Ok, Contains, refl, sym, ap, subst, ◌∙◌, append_assoc, append-nil, inl, inr}
 use Rattle.std.proofs.lemmas.List.Elements.{Contains-append_left, Contains-append_right, Contains-push}
 use Rattle.harvest_lattice.specs.Knowledge.{Harvested}
-use Rattle.replica_world.specs.declared.event.Event.{Event}
-use Rattle.replica_world.specs.declared.event.Event.TheVariants.{Send, Deliver}
-use Rattle.replica_world.specs.declared.event.Said.TheVariants.{Sent, Joined}
-use Rattle.replica_world.specs.World.{Answer}
-use Rattle.replica_world.specs.History.{Happened, History, NoRestart, Learnt, through, IsLocal}
-use Rattle.replica_world.proofs.Histories.{IsRestart, Gains, After, Carries, Sends, carries_still, carries_now, carries_before, learnt_still, learnt_now, learnt_after}
+use Rattle.replica_events.specs.declared.event.Event.{Event}
+use Rattle.replica_events.specs.declared.event.Event.TheVariants.{Send, Deliver}
+use Rattle.replica_events.specs.declared.event.Said.TheVariants.{Sent, Joined}
+use Rattle.replica_events.specs.World.{Answer}
+use Rattle.replica_events.specs.History.{Happened, History, NoRestart, Learnt, through, IsLocal}
+use Rattle.replica_events.proofs.Histories.{IsRestart, Gains, After, Carries, Sends, carries_still, carries_now, carries_before, learnt_still, learnt_now, learnt_after}
 
 -- ---- histories that say the same
 

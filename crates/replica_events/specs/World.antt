@@ -5,12 +5,12 @@ use Rattle.harvest_lattice.specs.Knowledge.{Harvested, lat, adds}
 use Rattle.replica_exchange.specs.StateText.{IsState, state_text}
 use Rattle.replica_exchange.specs.Faults.{longest_text}
 use Rattle.timegate.specs.Reply.{reply}
-use Rattle.replica_world.specs.declared.event.Event.{Event}
-use Rattle.replica_world.specs.declared.event.Event.TheVariants.{Take, Send, Deliver, Receive, Restart, Ask}
-use Rattle.replica_world.specs.declared.event.Said.{Said}
-use Rattle.replica_world.specs.declared.event.Said.TheVariants.{Taken, Sent, Joined, Restarted, Replied}
-use Rattle.replica_world.specs.declared.event.Refused.{Refused}
-use Rattle.replica_world.specs.declared.event.Refused.TheVariants.{NoReplica, NoMessage, BadState, NoMemory}
+use Rattle.replica_events.specs.declared.event.Event.{Event}
+use Rattle.replica_events.specs.declared.event.Event.TheVariants.{Take, Send, Deliver, Receive, Restart, Ask}
+use Rattle.replica_events.specs.declared.event.Said.{Said}
+use Rattle.replica_events.specs.declared.event.Said.TheVariants.{Taken, Sent, Joined, Restarted, Replied}
+use Rattle.replica_events.specs.declared.event.Refused.{Refused}
+use Rattle.replica_events.specs.declared.event.Refused.TheVariants.{NoReplica, NoMessage, BadState, NoMemory}
 
 -- a set of harvests, as a list of which only the members matter
 abbrev pub Knowledge : Type 0

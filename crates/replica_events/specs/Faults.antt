@@ -2,8 +2,8 @@
 use Rattle.std.specs.Prelude.{ℕ, List, codes}
 use Rattle.replica_exchange.specs.declared.fault.StateFault.{StateFault}
 use Rattle.replica_exchange.specs.declared.fault.StateFault.TheVariants.{TooLong, NotState, NoMemory}
-use Rattle.replica_world.specs.declared.event.Refused.{Refused}
-use Rattle.replica_world.specs.declared.event.Refused.TheVariants as refused
+use Rattle.replica_events.specs.declared.event.Refused.{Refused}
+use Rattle.replica_events.specs.declared.event.Refused.TheVariants as refused
 
 -- too many bytes, or none of a state: a bad state
 abbrev pub refusal : StateFault → Refused

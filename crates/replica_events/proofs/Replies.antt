@@ -12,11 +12,11 @@ use Rattle.timegate.specs.declared.route.Route.TheVariants.{TimeMap}
 use Rattle.timegate.specs.Route.{route_of, is_head}
 use Rattle.timegate.specs.Reply.{reply, timemap_of}
 use Rattle.timegate.proofs.Replies.{same_reply, timemap_reply, redirects}
-use Rattle.replica_world.specs.declared.event.Event.TheVariants.{Ask}
-use Rattle.replica_world.specs.declared.event.Said.TheVariants.{Replied}
-use Rattle.replica_world.specs.declared.event.Refused.TheVariants.{NoReplica}
-use Rattle.replica_world.specs.World.{Knowledge, World, Replica, Step, Refuses, Accepts}
-use Rattle.replica_world.specs.Agreement.{SameHarvests, HasTaken, Gives, Agree, Shows, ServesTimeMaps, NamesNearest, RedirectsWell, timemap_at}
+use Rattle.replica_events.specs.declared.event.Event.TheVariants.{Ask}
+use Rattle.replica_events.specs.declared.event.Said.TheVariants.{Replied}
+use Rattle.replica_events.specs.declared.event.Refused.TheVariants.{NoReplica}
+use Rattle.replica_events.specs.World.{Knowledge, World, Replica, Step, Refuses, Accepts}
+use Rattle.replica_events.specs.Agreement.{SameHarvests, HasTaken, Gives, Agree, Shows, ServesTimeMaps, NamesNearest, RedirectsWell, timemap_at}
 
 pub same_state : (known other : Knowledge) → SameHarvests known other → lat known ≡ lat other
 same_state known other same = lat_same known other (λ h. (same h).0) (λ h. (same h).1)

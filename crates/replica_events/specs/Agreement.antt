@@ -8,9 +8,9 @@ use Rattle.timegate.specs.declared.route.Route.TheVariants.{TimeGate, TimeMap}
 use Rattle.timegate.specs.Route.{route_of, is_head}
 use Rattle.timegate.specs.Reply.{timemap_of}
 use Rattle.timegate.specs.Redirect.{Redirects}
-use Rattle.replica_world.specs.declared.event.Event.TheVariants.{Ask}
-use Rattle.replica_world.specs.declared.event.Said.TheVariants.{Replied}
-use Rattle.replica_world.specs.World.{Knowledge, World, Step, replica}
+use Rattle.replica_events.specs.declared.event.Event.TheVariants.{Ask}
+use Rattle.replica_events.specs.declared.event.Said.TheVariants.{Replied}
+use Rattle.replica_events.specs.World.{Knowledge, World, Step, replica}
 
 -- the same harvests, in whatever order and however often
 abbrev pub SameHarvests : Knowledge → Knowledge → Type 0

@@ -1,0 +1,5 @@
+mod Histories
+pub mod Explained
+mod Deliveries
+pub mod Outcomes
+pub mod Replies

@@ -1,0 +1,4 @@
+pub mod World
+pub mod History
+pub mod Faults
+pub mod Agreement
