@@ -4,12 +4,16 @@
 //! - `measure pages COUNT < PAGE`: reads what the page says so many times.
 //! - `measure keys COUNT`: merges one memento for each of so many originals into a state, one by one.
 //! - `measure states COUNT < TEXT`: reads the text of a state and writes it again, so many times.
+//! - `measure hostile COUNT < TEXT`: reads the text of a state and absorbs it in an index of nothing, so many times.
+//! - `measure memory COUNT`: fills an index with so many mementos, ten of each original.
 //!
 //! Each time it prints some counts, which must be those of the plain program. With no words it does nothing.
 #![tactic(auto)]
 
+mod hostile;
 mod keys;
 mod links;
+mod memory;
 mod pages;
 mod states;
 
@@ -29,6 +33,8 @@ fn measure(rt: &HostRuntime, kind: &str, count: u32) -> Result<()> {
         "links" => links::read(rt, &input(rt)?, count),
         "pages" => pages::read(rt, &input(rt)?, count),
         "keys" => keys::merge(rt, count),
+        "hostile" => hostile::read_and_absorb(rt, &input(rt)?, count),
+        "memory" => memory::fill(rt, count),
         "states" => states::read_and_write(rt, &input(rt)?, count),
         _ => bail!("nothing of that name is measured"),
     }
