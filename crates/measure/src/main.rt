@@ -6,6 +6,9 @@
 //! - `measure states COUNT < TEXT`: reads the text of a state and writes it again, so many times.
 //! - `measure hostile COUNT < TEXT`: reads the text of a state and absorbs it in an index of nothing, so many times.
 //! - `measure memory COUNT`: fills an index with so many mementos, ten of each original.
+//! - `measure walk COUNT`: walks over 64 pages of 1,500 mementos each, so many times.
+//! - `measure read COUNT`: fetches and reads these pages so many times, and does no more with them.
+//! - `measure round WORKERS`: a round of 1,000 jobs, each of a page that takes a millisecond.
 //!
 //! Each time it prints some counts, which must be those of the plain program. With no words it does nothing.
 #![tactic(auto)]
@@ -16,6 +19,7 @@ mod links;
 mod memory;
 mod pages;
 mod states;
+mod walks;
 
 use anyhow::{Context, Result, bail};
 use std::env;
@@ -36,6 +40,9 @@ fn measure(rt: &HostRuntime, kind: &str, count: u32) -> Result<()> {
         "hostile" => hostile::read_and_absorb(rt, &input(rt)?, count),
         "memory" => memory::fill(rt, count),
         "states" => states::read_and_write(rt, &input(rt)?, count),
+        "walk" => walks::walk_pages(rt, count),
+        "read" => walks::read_pages(rt, count),
+        "round" => walks::round(rt, count as usize),
         _ => bail!("nothing of that name is measured"),
     }
 }
