@@ -224,6 +224,7 @@ fn nearest_in_asks_few_datetimes(rt: HostRuntime) -> Result<(), Fail> {
 }
 
 // Numbers that are the same in each run.
+#[derive(Drop)]
 struct Generator {
     seed: u64,
 }
