@@ -34,18 +34,22 @@ fn measure(rt: &HostRuntime, kind: &str, count: u32) -> Result<()> {
         "pages" => pages::read(rt, &input(rt)?, count),
         "keys" => keys::merge(rt, count),
         "states" => states::read_and_write(rt, &input(rt)?, count),
-        "walk" => walks::walk_pages(rt, count),
-        "read" => walks::read_pages(rt, count),
-        "round" => walks::round(rt, count as usize),
         _ => bail!("nothing of that name is measured"),
     }
 }
 
+// Only `main` may wait and start threads.
 fn main(rt: HostRuntime) -> Result<()> {
     let mut words = env::args(&rt)?.skip(1);
     let Some(kind) = words.next() else {
         return Ok(());
     };
     let count = words.next().context("how often?")?;
-    measure(&rt, &kind, count.parse::<u32>().context("how often?")?)
+    let count = count.parse::<u32>().context("how often?")?;
+    match kind.as_str() {
+        "walk" => walks::walk_pages(&rt, count),
+        "read" => walks::read_pages(&rt, count),
+        "round" => walks::round(&rt, count as usize),
+        kind => measure(&rt, kind, count),
+    }
 }

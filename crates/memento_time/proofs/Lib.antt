@@ -9,3 +9,4 @@ pub mod EarlyLemmas
 pub mod CleanLemmas
 pub mod FirstLemmas
 pub mod SetLemmas
+pub mod BuilderLemmas

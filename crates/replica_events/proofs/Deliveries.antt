@@ -3,11 +3,11 @@ use Rattle.std.proofs.Common.{◌≡◌, ◌↔◌, ℕ, ◌⊎◌, List, [], �
 use Rattle.std.proofs.lemmas.List.Elements.{Contains-append_left, Contains-append_right, Contains-push}
 use Rattle.harvest_lattice.specs.Knowledge.{Harvested}
 use Rattle.replica_events.specs.declared.event.Event.{Event}
-use Rattle.replica_events.specs.declared.event.Event.TheVariants.{Send, Deliver}
+use Rattle.replica_events.specs.declared.event.Event.TheVariants.{Deliver}
 use Rattle.replica_events.specs.declared.event.Said.TheVariants.{Sent, Joined}
 use Rattle.replica_events.specs.World.{Answer}
-use Rattle.replica_events.specs.History.{Happened, History, NoRestart, Learnt, through, IsLocal}
-use Rattle.replica_events.proofs.Histories.{IsRestart, Gains, After, Carries, Sends, carries_still, carries_now, carries_before, learnt_still, learnt_now, learnt_after}
+use Rattle.replica_events.specs.History.{Happened, History, NoRestart, Learnt, through, Carries, IsLocal}
+use Rattle.replica_events.proofs.Histories.{IsRestart, Gains, After, Sends, carries_still, carries_now, carries_before, learnt_still, learnt_now, learnt_after}
 
 -- ---- histories that say the same
 
@@ -44,9 +44,7 @@ carries_alike one other event answer k h a named c = from (carries_before one ev
     from : Carries one k h ⊎ Sends one event answer k h → Carries (other ++ (event, answer) ∷ []) k h
     from (inl before) = carries_still other event answer k h ((a.carries k h named).0 before)
     from (inr s) =
-        let event_is : Send s.sender ≡ event = sym s.event_is in
-        let answer_is : (let said : Answer = Ok (Sent k) in said) ≡ answer = sym s.answer_is in
-        subst (λ (x : Happened). Carries (other ++ x ∷ []) k h) (λ j. (event_is j, answer_is j)) (carries_now other s.sender k h ((a.learnt s.sender h).0 s.learnt))
+        subst (λ (said : Answer). Carries (other ++ (event, said) ∷ []) k h) (sym s.answer_is) (carries_now other event s.sender k h s.sends ((a.learnt s.sender h).0 s.learnt))
 
 alike_push : {Names : ℕ → Type 0} (one other : History) (event : Event) (answer : Answer) → Alike Names one other → Delivers Names event answer
     → Alike Names (one ++ (event, answer) ∷ []) (other ++ (event, answer) ∷ [])
@@ -68,30 +66,30 @@ alike_append {Names} one other ((event, answer) ∷ after) a named =
 
 -- ---- a message that no delivery names
 
-sent_alike : (before : History) (sender k : ℕ) → Alike (λ n. ¬ (n ≡ k)) (before ++ (Send sender, Ok (Sent k)) ∷ []) before
-sent_alike before sender k = record {
-  learnt = λ i h. (λ learnt. from i h (learnt_after before (Send sender) (Ok (Sent k)) refl learnt), λ learnt. learnt_still (Send sender) (Ok (Sent k)) learnt (no_restart i));
-  carries = λ n h other. (λ c. old n h other (carries_before before (Send sender) (Ok (Sent k)) n h c), λ c. carries_still before (Send sender) (Ok (Sent k)) n h c);
+sent_alike : (before : History) (sending : Event) (k : ℕ) → Alike (λ n. ¬ (n ≡ k)) (before ++ (sending, Ok (Sent k)) ∷ []) before
+sent_alike before sending k = record {
+  learnt = λ i h. (λ learnt. from i h (learnt_after before sending (Ok (Sent k)) refl learnt), λ learnt. learnt_still sending (Ok (Sent k)) learnt (no_restart i));
+  carries = λ n h other. (λ c. old n h other (carries_before before sending (Ok (Sent k)) n h c), λ c. carries_still before sending (Ok (Sent k)) n h c);
 }
   where
-    no_restart : (i : ℕ) → ¬ IsRestart (Send sender) (Ok (Sent k)) i
+    no_restart : (i : ℕ) → ¬ IsRestart sending (Ok (Sent k)) i
     no_restart i (event_is, answer_is) = cc
 
-    from : (i : ℕ) (h : Harvested) → After before (Send sender) (Ok (Sent k)) i h → Learnt before i h
+    from : (i : ℕ) (h : Harvested) → After before sending (Ok (Sent k)) i h → Learnt before i h
     from i h (inl (learnt, still)) = learnt
     from i h (inr (inl (event_is, answer_is))) = cc
     from i h (inr (inr (inl (bytes, state, event_is, answer_is, text, at)))) = cc
     from i h (inr (inr (inr (message, event_is, answer_is, c)))) = cc
 
-    old : (n : ℕ) (h : Harvested) → ¬ (n ≡ k) → Carries before n h ⊎ Sends before (Send sender) (Ok (Sent k)) n h → Carries before n h
+    old : (n : ℕ) (h : Harvested) → ¬ (n ≡ k) → Carries before n h ⊎ Sends before sending (Ok (Sent k)) n h → Carries before n h
     old n h other (inl c) = c
     old n h other (inr s) = let said : (let answer : Answer = Ok (Sent k) in answer) ≡ Ok (Sent n) = s.answer_is in let is : n ≡ k = cc in absurd (other is)
 
-pub lost_message : (before after : History) (sender k : ℕ) → ((i : ℕ) → ¬ Contains after (Deliver i k, Ok Joined))
-    → (i : ℕ) (h : Harvested) → Learnt (before ++ (Send sender, Ok (Sent k)) ∷ after) i h ↔ Learnt (before ++ after) i h
-lost_message before after sender k lost i h =
-    let x : Happened = (Send sender, Ok (Sent k)) in
-    let both = alike_append (before ++ x ∷ []) before after (sent_alike before sender k) (λ j n at same. lost j (subst (λ (n : ℕ). Contains after (Deliver j n, Ok Joined)) same at)) in
+pub lost_message : (before after : History) (sending : Event) (k : ℕ) → ((i : ℕ) → ¬ Contains after (Deliver i k, Ok Joined))
+    → (i : ℕ) (h : Harvested) → Learnt (before ++ (sending, Ok (Sent k)) ∷ after) i h ↔ Learnt (before ++ after) i h
+lost_message before after sending k lost i h =
+    let x : Happened = (sending, Ok (Sent k)) in
+    let both = alike_append (before ++ x ∷ []) before after (sent_alike before sending k) (λ j n at same. lost j (subst (λ (n : ℕ). Contains after (Deliver j n, Ok Joined)) same at)) in
     subst (λ (l : History). Learnt l i h ↔ Learnt (before ++ after) i h) (append_assoc before (x ∷ []) after) (both.learnt i h)
 
 -- ---- a delivery once more
@@ -114,22 +112,22 @@ part (z ∷ before) after (u ∷ front) back x y is = under (part before after f
     under (inr behind) = inr behind
 
 -- the replica of a delivery has learnt all that the message carries
-delivered_already : (before between : History) (i k : ℕ) (h : Harvested) → NoRestart between i → ((sender : ℕ) → ¬ Contains between (Send sender, Ok (Sent k)))
+delivered_already : (before between : History) (i k : ℕ) (h : Harvested) → NoRestart between i → ((sending : Event) → ¬ Contains between (sending, Ok (Sent k)))
     → Carries (before ++ (Deliver i k, Ok Joined) ∷ between) k h → Learnt (before ++ (Deliver i k, Ok Joined) ∷ between) i h
 delivered_already before between i k h none unsent c = from (part before between c.before c.after y x c.sent)
   where
     x : Happened
-    x = (Send c.sender, Ok (Sent k))
+    x = (c.sending, Ok (Sent k))
 
     y : Happened
     y = (Deliver i k, Ok Joined)
 
     from : ((rest : History) × (before ≡ c.before ++ x ∷ rest)) ⊎ ((y ≡ x) ⊎ Contains between x) → Learnt (before ++ y ∷ between) i h
-    from (inl (rest, is)) = through c.before rest between c.sender k (ap (λ (l : History). l ++ y ∷ between) is) none c.learnt
-    from (inr (inl same)) = let event_is : Deliver i k ≡ Send c.sender = ap (λ (x : Happened). x.0) same in cc
-    from (inr (inr behind)) = absurd (unsent c.sender behind)
+    from (inl (rest, is)) = through c.before rest between c.sender k c.sending c.sends (ap (λ (l : History). l ++ y ∷ between) is) none c.learnt
+    from (inr (inl same)) = let answer_is : (let said : Answer = Ok Joined in said) ≡ Ok (Sent k) = ap (λ (x : Happened). x.1) same in cc
+    from (inr (inr behind)) = absurd (unsent c.sending behind)
 
-again_alike : (before between : History) (i k : ℕ) → NoRestart between i → ((sender : ℕ) → ¬ Contains between (Send sender, Ok (Sent k)))
+again_alike : (before between : History) (i k : ℕ) → NoRestart between i → ((sending : Event) → ¬ Contains between (sending, Ok (Sent k)))
     → Alike (λ n. Unit {0}) ((before ++ (Deliver i k, Ok Joined) ∷ between) ++ (Deliver i k, Ok Joined) ∷ []) (before ++ (Deliver i k, Ok Joined) ∷ between)
 again_alike before between i k none unsent = record {
   learnt = λ j h. (λ learnt. from j h (learnt_after all (Deliver i k) (Ok Joined) refl learnt), λ learnt. learnt_still (Deliver i k) (Ok Joined) learnt (no_restart j));
@@ -153,9 +151,9 @@ again_alike before between i k none unsent = record {
 
     old : (n : ℕ) (h : Harvested) → Carries all n h ⊎ Sends all (Deliver i k) (Ok Joined) n h → Carries all n h
     old n h (inl c) = c
-    old n h (inr s) = let event_is : Deliver i k ≡ Send s.sender = s.event_is in cc
+    old n h (inr s) = let answer_is : (let said : Answer = Ok Joined in said) ≡ Ok (Sent n) = s.answer_is in cc
 
-pub repeated_delivery : (before between after : History) (i k : ℕ) → NoRestart between i → ((sender : ℕ) → ¬ Contains between (Send sender, Ok (Sent k)))
+pub repeated_delivery : (before between after : History) (i k : ℕ) → NoRestart between i → ((sending : Event) → ¬ Contains between (sending, Ok (Sent k)))
     → (j : ℕ) (h : Harvested)
     → Learnt (before ++ (Deliver i k, Ok Joined) ∷ between ++ (Deliver i k, Ok Joined) ∷ after) j h ↔ Learnt (before ++ (Deliver i k, Ok Joined) ∷ between ++ after) j h
 repeated_delivery before between after i k none unsent j h =
@@ -178,9 +176,8 @@ carries_unsent history event answer k h local c = from (carries_before history e
     from : Carries history k h ⊎ Sends history event answer k h → Carries history k h
     from (inl before) = before
     from (inr s) =
-        let event_is : event ≡ Send s.sender = s.event_is in
         let answer_is : answer ≡ Ok (Sent k) = s.answer_is in
-        absurd (local.no_send s.sender k (λ j. (event_is j, answer_is j)))
+        absurd (local.no_send event k (λ j. (event, answer_is j)))
 
 gains_before : (history : History) (other : Event) (said : Answer) (event : Event) (answer : Answer) (i : ℕ) (h : Harvested) → IsLocal (other, said)
     → Gains (history ++ (other, said) ∷ []) event answer i h → Gains history event answer i h

@@ -1,9 +1,10 @@
 -- After a run, what replicas have taken is what they have learnt.
 use Rattle.std.proofs.Common.{◌≡◌, ◌↔◌, ℕ, zero, suc, ◌+◌, ◌≤◌, ◌⊎◌, List, [], ◌∷◌, ◌++◌, length, Option, Some, None, Ok, Err, Contains, MatchOption, slice_get, slice_set, replicate, zip, refl, sym, ap, subst, ◌∙◌, append_assoc, append-nil, inl, inr, arith}
 use Rattle.std.proofs.lemmas.List.{length_push}
+use Rattle.std.proofs.lemmas.Option.{same_Some}
 use Rattle.std.proofs.lemmas.List.Elements.{Contains-append_left, Contains-append_right, Contains-append_cases, Contains-push, Contains-push_cases}
 use Rattle.harvest_lattice.specs.Lattice.{Entries}
-use Rattle.harvest_lattice.specs.Knowledge.{Harvested, adds}
+use Rattle.harvest_lattice.specs.Knowledge.{Harvested, lat, adds}
 use Rattle.replica_exchange.proofs.StateLemmas.{one_text}
 use Rattle.timegate.specs.declared.reply.Reply.{Reply}
 use Rattle.timegate.specs.declared.request.Request.{Request}
@@ -13,10 +14,12 @@ use Rattle.replica_events.specs.declared.event.Event.TheVariants.{Take, Send, De
 use Rattle.replica_events.specs.declared.event.Said.TheVariants.{Taken, Sent, Joined, Restarted, Replied}
 use Rattle.replica_events.specs.declared.event.Refused.{Refused}
 use Rattle.replica_events.specs.declared.event.Refused.TheVariants.{NoReplica, NoMessage, BadState, NoMemory}
-use Rattle.replica_events.specs.World.{Knowledge, World, Replica, Message, Answer, Outcome, Step, Run, Effect, Accepts, Refuses, WithMessage, IfWithinLimit, IsText, IfText, numbered, replica, message, with_replica, with_message, taking, sent_by, fresh, start}
+use Rattle.replica_exchange.specs.StateText.{state_text}
+use Rattle.replica_events.specs.World as world
+use Rattle.replica_events.specs.World.{Knowledge, World, Replica, Message, Answer, Outcome, Course, Step, Run, Effect, Accepts, Refuses, WithMessage, IfWithinLimit, IsText, IfText, numbered, replica, message, with_replica, with_message, taking, sent_by, replica_reply, fresh, start}
 use Rattle.replica_events.specs.Agreement.{HasTaken, SameHarvests}
-use Rattle.replica_events.specs.History.{Happened, History, Learnt, LearntAlike}
-use Rattle.replica_events.proofs.Histories.{IsRestart, Gains, Carries, Sends, carries_still, carries_now, carries_before, carries_sent, learnt_push, nothing_after_restart, nothing_at_first}
+use Rattle.replica_events.specs.History.{Happened, History, history_of, sender_of, Learnt, LearntAlike, Carries, HasSent}
+use Rattle.replica_events.proofs.Histories.{IsRestart, Gains, Sends, carries_still, carries_now, carries_before, carries_sent, learnt_push, nothing_after_restart, nothing_at_first}
 
 -- ---- places
 
@@ -82,13 +85,19 @@ pushed xs last (suc place) x is = numbers (get_pushed xs last place x is)
 record Explains (history : History) (w : World) : Type 0 where
   pub taken : (i : ℕ) (r : Replica) → replica w i ≡ Some r → (h : Harvested) → Contains r.taken h ↔ Learnt history i h
   pub carried : (k : ℕ) (m : Message) → message w k ≡ Some m → (h : Harvested) → Contains m.taken h ↔ Carries history k h
-  pub numbers : (sender k : ℕ) → Contains history (Send sender, Ok (Sent k)) → k ≤ length w.messages
+  pub numbers : (sending : Event) (k : ℕ) → Contains history (sending, Ok (Sent k)) → k ≤ length w.messages
+  pub sent : (k : ℕ) (m : Message) → message w k ≡ Some m → HasSent history m.sender k
+  pub bytes : (k : ℕ) (m : Message) → message w k ≡ Some m → m.bytes ≡ state_text (lat m.taken)
 
-abbrev IsSent : Event → Answer → Type 0
-IsSent event answer = (sender message : ℕ) → event ≡ Send sender → answer ≡ Ok (Sent message) → ⊥
+-- the answer isn't that a message was sent
+abbrev IsUnsent : Answer → Type 0
+IsUnsent answer = (message : ℕ) → answer ≡ Ok (Sent message) → ⊥
+
+sent_still : (history : History) (happened : Happened) (sender k : ℕ) → HasSent history sender k → HasSent (history ++ happened ∷ []) sender k
+sent_still history happened sender k s = record { sending = s.sending; sends = s.sends; sent = Contains-append_left history (happened ∷ []) (s.sending, Ok (Sent k)) s.sent }
 
 -- an event that sends no message changes none
-without_message : (history : History) (event : Event) (answer : Answer) (w new : World) → Explains history w → new.messages ≡ w.messages → IsSent event answer
+without_message : (history : History) (event : Event) (answer : Answer) (w new : World) → Explains history w → new.messages ≡ w.messages → IsUnsent answer
     → ((i : ℕ) (r : Replica) → replica new i ≡ Some r → (h : Harvested) → Contains r.taken h ↔ Learnt (history ++ (event, answer) ∷ []) i h)
     → Explains (history ++ (event, answer) ∷ []) new
 without_message history event answer w new explains same unsent taken = record {
@@ -96,16 +105,18 @@ without_message history event answer w new explains same unsent taken = record {
   carried = λ k m there h.
       let before = explains.carried k m (subst (λ (ms : List Message). numbered ms k ≡ Some m) same there) h in
       (λ has. carries_still history event answer k h (before.0 has), λ c. before.1 (not_sent k h (carries_before history event answer k h c)));
-  numbers = λ sender k at. subst (λ (ms : List Message). k ≤ length ms) (sym same) (not_last sender k (Contains-push_cases history (event, answer) (Send sender, Ok (Sent k)) at));
+  numbers = λ sending k at. subst (λ (ms : List Message). k ≤ length ms) (sym same) (not_last sending k (Contains-push_cases history (event, answer) (sending, Ok (Sent k)) at));
+  sent = λ k m there. sent_still history (event, answer) m.sender k (explains.sent k m (subst (λ (ms : List Message). numbered ms k ≡ Some m) same there));
+  bytes = λ k m there. explains.bytes k m (subst (λ (ms : List Message). numbered ms k ≡ Some m) same there);
 }
   where
     not_sent : (k : ℕ) (h : Harvested) → Carries history k h ⊎ Sends history event answer k h → Carries history k h
     not_sent k h (inl c) = c
-    not_sent k h (inr s) = absurd (unsent s.sender k s.event_is s.answer_is)
+    not_sent k h (inr s) = absurd (unsent k s.answer_is)
 
-    not_last : (sender k : ℕ) → (Contains history (Send sender, Ok (Sent k))) ⊎ (let x : Happened = (event, answer) in x ≡ (Send sender, Ok (Sent k))) → k ≤ length w.messages
-    not_last sender k (inl before) = explains.numbers sender k before
-    not_last sender k (inr last) = absurd (unsent sender k (ap (λ (x : Happened). x.0) last) (ap (λ (x : Happened). x.1) last))
+    not_last : (sending : Event) (k : ℕ) → (Contains history (sending, Ok (Sent k))) ⊎ (let x : Happened = (event, answer) in x ≡ (sending, Ok (Sent k))) → k ≤ length w.messages
+    not_last sending k (inl before) = explains.numbers sending k before
+    not_last sending k (inr last) = absurd (unsent k (ap (λ (x : Happened). x.1) last))
 
 -- what a replica has learnt stays so, where the event is not about it
 same_learnt : {A : Type 0} (history : History) (event : Event) (answer : Answer) (i : ℕ) (h : Harvested) → A ↔ Learnt history i h → ¬ Gains history event answer i h
@@ -120,13 +131,13 @@ same_learnt {A} history event answer i h before idle other = (λ a. both.0 (inl 
     had (inr none) = absurd none
 
 -- nothing happens
-idles : (history : History) (event : Event) (answer : Answer) (w : World) → Explains history w → IsSent event answer
+idles : (history : History) (event : Event) (answer : Answer) (w : World) → Explains history w → IsUnsent answer
     → ((i : ℕ) → ¬ IsRestart event answer i) → ((i : ℕ) (h : Harvested) → ¬ Gains history event answer i h) → Explains (history ++ (event, answer) ∷ []) w
 idles history event answer w explains unsent other idle =
     without_message history event answer w w explains refl unsent (λ i r there h. same_learnt history event answer i h (explains.taken i r there h) (idle i h) (other i))
 
 refused : (history : History) (event : Event) (why : Refused) (w : World) → Explains history w → Explains (history ++ (event, Err why) ∷ []) w
-refused history event why w explains = idles history event (Err why) w explains (λ sender message event_is answer_is. cc) other none
+refused history event why w explains = idles history event (Err why) w explains (λ message answer_is. cc) other none
   where
     other : (i : ℕ) → ¬ IsRestart event (Err why) i
     other i (event_is, answer_is) = cc
@@ -137,7 +148,7 @@ refused history event why w explains = idles history event (Err why) w explains 
     none i h (inr (inr (message, event_is, answer_is, c))) = cc
 
 replied : (history : History) (i : ℕ) (q : Request) (r : Reply) (w : World) → Explains history w → Explains (history ++ (Ask i q, Ok (Replied r)) ∷ []) w
-replied history i q r w explains = idles history (Ask i q) (Ok (Replied r)) w explains (λ sender message event_is answer_is. cc) other none
+replied history i q r w explains = idles history (Ask i q) (Ok (Replied r)) w explains (λ message answer_is. cc) other none
   where
     other : (j : ℕ) → ¬ IsRestart (Ask i q) (Ok (Replied r)) j
     other j (event_is, answer_is) = cc
@@ -149,7 +160,7 @@ replied history i q r w explains = idles history (Ask i q) (Ok (Replied r)) w ex
 
 -- one replica takes more
 gains : (history : History) (event : Event) (answer : Answer) (w : World) (i : ℕ) (r : Replica) (more : Knowledge) → Explains history w → replica w i ≡ Some r
-    → IsSent event answer → ((j : ℕ) → ¬ IsRestart event answer j)
+    → IsUnsent answer → ((j : ℕ) → ¬ IsRestart event answer j)
     → ((h : Harvested) → Contains more h ↔ Gains history event answer i h) → ((j : ℕ) (h : Harvested) → Gains history event answer j h → j ≡ i)
     → Explains (history ++ (event, answer) ∷ []) (with_replica w i (taking r more))
 gains history event answer w i r more explains there unsent other brings only =
@@ -181,7 +192,7 @@ only_one g h at = last (Contains-push_cases [] g h at)
 taken : (history : History) (w : World) (i : ℕ) (g : Harvested) (r : Replica) → Explains history w → replica w i ≡ Some r
     → Explains (history ++ (Take i g, Ok Taken) ∷ []) (with_replica w i (taking r (g ∷ [])))
 taken history w i g r explains there =
-    gains history (Take i g) (Ok Taken) w i r (g ∷ []) explains there (λ sender message event_is answer_is. cc) other (λ h. (λ at. to h (only_one g h at), from h)) only
+    gains history (Take i g) (Ok Taken) w i r (g ∷ []) explains there (λ message answer_is. cc) other (λ h. (λ at. to h (only_one g h at), from h)) only
   where
     other : (j : ℕ) → ¬ IsRestart (Take i g) (Ok Taken) j
     other j (event_is, answer_is) = cc
@@ -202,7 +213,7 @@ taken history w i g r explains there =
 received : (history : History) (w : World) (i : ℕ) (bytes : List ℕ) (s : Entries) (r : Replica) → Explains history w → replica w i ≡ Some r → IsText bytes s
     → Explains (history ++ (Receive i bytes, Ok Joined) ∷ []) (with_replica w i (taking r (adds s)))
 received history w i bytes s r explains there text =
-    gains history (Receive i bytes) (Ok Joined) w i r (adds s) explains there (λ sender message event_is answer_is. cc) other (λ h. (to h, from h)) only
+    gains history (Receive i bytes) (Ok Joined) w i r (adds s) explains there (λ message answer_is. cc) other (λ h. (to h, from h)) only
   where
     other : (j : ℕ) → ¬ IsRestart (Receive i bytes) (Ok Joined) j
     other j (event_is, answer_is) = cc
@@ -226,7 +237,7 @@ received history w i bytes s r explains there text =
 delivered : (history : History) (w : World) (i k : ℕ) (m : Message) (r : Replica) → Explains history w → replica w i ≡ Some r → message w k ≡ Some m
     → Explains (history ++ (Deliver i k, Ok Joined) ∷ []) (with_replica w i (taking r m.taken))
 delivered history w i k m r explains there sent =
-    gains history (Deliver i k) (Ok Joined) w i r m.taken explains there (λ sender message event_is answer_is. cc) other (λ h. (to h, from h)) only
+    gains history (Deliver i k) (Ok Joined) w i r m.taken explains there (λ message answer_is. cc) other (λ h. (to h, from h)) only
   where
     other : (j : ℕ) → ¬ IsRestart (Deliver i k) (Ok Joined) j
     other j (event_is, answer_is) = cc
@@ -248,7 +259,7 @@ delivered history w i k m r explains there sent =
 
 restarted : (history : History) (w : World) (i : ℕ) (r : Replica) → Explains history w → replica w i ≡ Some r → Explains (history ++ (Restart i, Ok Restarted) ∷ []) (with_replica w i fresh)
 restarted history w i r explains there =
-    without_message history (Restart i) (Ok Restarted) w (with_replica w i fresh) explains (messages_stay w i fresh) (λ sender message event_is answer_is. cc)
+    without_message history (Restart i) (Ok Restarted) w (with_replica w i fresh) explains (messages_stay w i fresh) (λ message answer_is. cc)
     (λ j s is h. at j s h (replica_placed w i r fresh j s there is))
   where
     none : (j : ℕ) (h : Harvested) → ¬ Gains history (Restart i) (Ok Restarted) j h
@@ -271,62 +282,76 @@ restarted history w i r explains there =
         (subst (λ (j : ℕ). Contains [] h ↔ Learnt (history ++ (Restart i, Ok Restarted) ∷ []) j h) (sym j_is) (here h))
     at j s h (inr (elsewhere, is)) = same_learnt history (Restart i) (Ok Restarted) j h (explains.taken j s is h) (none j h) (λ again. elsewhere (same j again))
 
-sent : (history : History) (w : World) (i : ℕ) (r : Replica) → Explains history w → replica w i ≡ Some r
-    → Explains (history ++ (Send i, Ok (Sent (length w.messages + 1))) ∷ []) (with_message w (sent_by i r))
-sent history w i r explains there = record {
-  taken = λ j s is h. same_learnt history (Send i) said j h (explains.taken j s is h) (none j h) (other j);
+sent : (history : History) (w : World) (event : Event) (i : ℕ) (r : Replica) → sender_of event ≡ Some i → Explains history w → replica w i ≡ Some r
+    → Explains (history ++ (event, Ok (Sent (length w.messages + 1))) ∷ []) (with_message w (sent_by i r))
+sent history w event i r sends explains there = record {
+  taken = λ j s is h. same_learnt history event said j h (explains.taken j s is h) (none j h) (other j);
   carried = λ k m is h. at k m h (pushed w.messages (sent_by i r) k m is);
-  numbers = λ sender k has.
+  numbers = λ sending k has.
       let count = length_push w.messages (sent_by i r) in
-      let few : k ≤ length w.messages + 1 = bound sender k (Contains-push_cases history (Send i, said) (Send sender, Ok (Sent k)) has) in
+      let few : k ≤ length w.messages + 1 = bound sending k (Contains-push_cases history (event, said) (sending, Ok (Sent k)) has) in
       omega (arith, count, few);
+  sent = λ k m is. sender k m (pushed w.messages (sent_by i r) k m is);
+  bytes = λ k m is. text k m (pushed w.messages (sent_by i r) k m is);
 }
   where
     said : Answer
     said = Ok (Sent (length w.messages + 1))
 
-    none : (j : ℕ) (h : Harvested) → ¬ Gains history (Send i) said j h
+    none : (j : ℕ) (h : Harvested) → ¬ Gains history event said j h
     none j h (inl (event_is, answer_is)) = cc
     none j h (inr (inl (bytes, state, event_is, answer_is, text, at))) = cc
     none j h (inr (inr (message, event_is, answer_is, c))) = cc
 
-    other : (j : ℕ) → ¬ IsRestart (Send i) said j
+    other : (j : ℕ) → ¬ IsRestart event said j
     other j (event_is, answer_is) = cc
 
-    last : (sender k : ℕ) → (let x : Happened = (Send i, Ok (Sent (length w.messages + 1))) in x ≡ (Send sender, Ok (Sent k))) → k ≡ length w.messages + 1
-    last sender k is = let answer_is : said ≡ Ok (Sent k) = ap (λ (x : Happened). x.1) is in cc
+    last : (sending : Event) (k : ℕ) → (let x : Happened = (event, Ok (Sent (length w.messages + 1))) in x ≡ (sending, Ok (Sent k))) → k ≡ length w.messages + 1
+    last sending k is = let answer_is : said ≡ Ok (Sent k) = ap (λ (x : Happened). x.1) is in cc
 
-    bound : (sender k : ℕ) → (Contains history (Send sender, Ok (Sent k))) ⊎ (let x : Happened = (Send i, said) in x ≡ (Send sender, Ok (Sent k))) → k ≤ length w.messages + 1
-    bound sender k (inl before) = let few = explains.numbers sender k before in omega (arith, few)
-    bound sender k (inr now) = let is = last sender k now in omega (arith, is)
+    bound : (sending : Event) (k : ℕ) → (Contains history (sending, Ok (Sent k))) ⊎ (let x : Happened = (event, said) in x ≡ (sending, Ok (Sent k))) → k ≤ length w.messages + 1
+    bound sending k (inl before) = let few = explains.numbers sending k before in omega (arith, few)
+    bound sending k (inr now) = let is = last sending k now in omega (arith, is)
 
-    new_message : (h : Harvested) → Contains r.taken h ↔ Carries (history ++ (Send i, said) ∷ []) (length w.messages + 1) h
-    new_message h = (λ has. carries_now history i (length w.messages + 1) h ((explains.taken i r there h).0 has), λ c. had (carries_before history (Send i) said (length w.messages + 1) h c))
+    new_message : (h : Harvested) → Contains r.taken h ↔ Carries (history ++ (event, said) ∷ []) (length w.messages + 1) h
+    new_message h = (λ has. carries_now history event i (length w.messages + 1) h sends ((explains.taken i r there h).0 has), λ c. had (carries_before history event said (length w.messages + 1) h c))
       where
-        had : Carries history (length w.messages + 1) h ⊎ Sends history (Send i) said (length w.messages + 1) h → Contains r.taken h
+        had : Carries history (length w.messages + 1) h ⊎ Sends history event said (length w.messages + 1) h → Contains r.taken h
         had (inl c) =
             let before = carries_sent history (length w.messages + 1) h c in
             let few = explains.numbers before.0 (length w.messages + 1) before.1 in
             absurd (omega (arith, few))
         had (inr s) =
-            let event_is : Send i ≡ Send s.sender = s.event_is in
-            let is : s.sender ≡ i = cc in
+            let is : s.sender ≡ i = same_Some s.sender i (sym s.sends ∙ sends) in
             (explains.taken i r there h).1 (subst (λ (j : ℕ). Learnt history j h) is s.learnt)
 
-    old_message : (k : ℕ) (h : Harvested) → k ≤ length w.messages → Carries history k h ⊎ Sends history (Send i) said k h → Carries history k h
+    old_message : (k : ℕ) (h : Harvested) → k ≤ length w.messages → Carries history k h ⊎ Sends history event said k h → Carries history k h
     old_message k h few (inl c) = c
     old_message k h few (inr s) =
         let answer_is : said ≡ Ok (Sent k) = s.answer_is in
         let is : k ≡ length w.messages + 1 = cc in
         absurd (omega (arith, is, few))
 
-    at : (k : ℕ) (m : Message) (h : Harvested) → Pushed w.messages (sent_by i r) k m → Contains m.taken h ↔ Carries (history ++ (Send i, said) ∷ []) k h
+    at : (k : ℕ) (m : Message) (h : Harvested) → Pushed w.messages (sent_by i r) k m → Contains m.taken h ↔ Carries (history ++ (event, said) ∷ []) k h
     at k m h (inl (k_is, is)) =
-        subst (λ (m : Message). Contains m.taken h ↔ Carries (history ++ (Send i, said) ∷ []) k h) (sym is)
-        (subst (λ (k : ℕ). Contains r.taken h ↔ Carries (history ++ (Send i, said) ∷ []) k h) (sym k_is) (new_message h))
+        subst (λ (m : Message). Contains m.taken h ↔ Carries (history ++ (event, said) ∷ []) k h) (sym is)
+        (subst (λ (k : ℕ). Contains r.taken h ↔ Carries (history ++ (event, said) ∷ []) k h) (sym k_is) (new_message h))
     at k m h (inr (few, is)) =
         let before = explains.carried k m is h in
-        (λ has. carries_still history (Send i) said k h (before.0 has), λ c. before.1 (old_message k h few (carries_before history (Send i) said k h c)))
+        (λ has. carries_still history event said k h (before.0 has), λ c. before.1 (old_message k h few (carries_before history event said k h c)))
+
+    sent_now : HasSent (history ++ (event, said) ∷ []) i (length w.messages + 1)
+    sent_now = record { sending = event; sends = sends; sent = Contains-push history (event, said) }
+
+    sender : (k : ℕ) (m : Message) → Pushed w.messages (sent_by i r) k m → HasSent (history ++ (event, said) ∷ []) m.sender k
+    sender k m (inl (k_is, is)) =
+        subst (λ (m : Message). HasSent (history ++ (event, said) ∷ []) m.sender k) (sym is)
+        (subst (λ (k : ℕ). HasSent (history ++ (event, said) ∷ []) i k) (sym k_is) sent_now)
+    sender k m (inr (few, is)) = sent_still history (event, said) m.sender k (explains.sent k m is)
+
+    text : (k : ℕ) (m : Message) → Pushed w.messages (sent_by i r) k m → m.bytes ≡ state_text (lat m.taken)
+    text k m (inl (k_is, is)) = subst (λ (m : Message). m.bytes ≡ state_text (lat m.taken)) (sym is) refl
+    text k m (inr (few, is)) = explains.bytes k m is
 
 -- ---- each event
 
@@ -361,14 +386,18 @@ if_text : (history : History) (w : World) (event : Event) (bytes : List ℕ) (ne
 if_text history w event bytes next answer new explains joined (inl (s, text, p)) = explained_as history event answer (Ok Joined) new (next s) p.0 p.1 (joined s text)
 if_text history w event bytes next answer new explains joined (inr (none, p)) = explained_as history event answer (Err BadState) new w p.0 p.1 (refused history event BadState w explains)
 
+sends_explained : (history : History) (w : World) (event : Event) (i : ℕ) (answer : Answer) (new : World) → sender_of event ≡ Some i → Explains history w
+    → world.Sends w i answer new → Explains (history ++ (event, answer) ∷ []) new
+sends_explained history w event i answer new sends explains effect =
+    at_replica history w event (replica w i) (λ r. Accepts (Sent (length w.messages + 1)) (with_message w (sent_by i r))) NoReplica answer new explains effect
+    (λ r there p. explained_as history event answer _ new _ p.0 p.1 (sent history w event i r sends explains there))
+
 effect_explained : (base : List ℕ) (history : History) (w : World) (event : Event) (answer : Answer) (new : World) → Explains history w → Effect base w event answer new
     → Explains (history ++ (event, answer) ∷ []) new
 effect_explained base history w (Take i g) answer new explains effect =
     at_replica history w (Take i g) (replica w i) (λ r. Accepts Taken (with_replica w i (taking r (g ∷ [])))) NoReplica answer new explains effect
     (λ r there p. explained_as history (Take i g) answer _ new _ p.0 p.1 (taken history w i g r explains there))
-effect_explained base history w (Send i) answer new explains effect =
-    at_replica history w (Send i) (replica w i) (λ r. Accepts (Sent (length w.messages + 1)) (with_message w (sent_by i r))) NoReplica answer new explains effect
-    (λ r there p. explained_as history (Send i) answer _ new _ p.0 p.1 (sent history w i r explains there))
+effect_explained base history w (Send i) answer new explains effect = sends_explained history w (Send i) i answer new refl explains effect
 effect_explained base history w (Deliver i k) answer new explains effect =
     at_replica history w (Deliver i k) (replica w i) (λ r. WithMessage w k (λ m. IfWithinLimit m.bytes (Accepts Joined (with_replica w i (taking r m.taken))) (Refuses BadState w))) NoReplica answer new
     explains effect
@@ -381,7 +410,7 @@ effect_explained base history w (Restart i) answer new explains effect =
     at_replica history w (Restart i) (replica w i) (λ r. Accepts Restarted (with_replica w i fresh)) NoReplica answer new explains effect
     (λ r there p. explained_as history (Restart i) answer _ new _ p.0 p.1 (restarted history w i r explains there))
 effect_explained base history w (Ask i q) answer new explains effect =
-    at_replica history w (Ask i q) (replica w i) (λ r. Accepts (Replied (reply base r.taken q)) w) NoReplica answer new explains effect
+    at_replica history w (Ask i q) (replica w i) (λ r. Accepts (Replied (replica_reply base r q)) w) NoReplica answer new explains effect
     (λ r there p. explained_as history (Ask i q) answer _ new _ p.0 p.1 (replied history i q _ w explains))
 
 step_explained : (base : List ℕ) (history : History) (w : World) (event : Event) (answer : Answer) (new : World) → Explains history w → Step base w event answer new
@@ -420,22 +449,36 @@ start_explained count = record {
       let is : r.taken ≡ [] = ap (λ (r : Replica). r.taken) (fresh_at_first count i r there) in
       (λ has. absurd (nothing (subst (λ (known : Knowledge). Contains known h) is has)), λ learnt. absurd (nothing_at_first refl learnt));
   carried = λ k m there h. absurd (no_message_at_first count k m there);
-  numbers = λ sender k at. let below = at.1 in absurd (omega (arith, below));
+  numbers = λ sending k at. let below = at.1 in absurd (omega (arith, below));
+  sent = λ k m there. absurd (no_message_at_first count k m there);
+  bytes = λ k m there. absurd (no_message_at_first count k m there);
 }
   where
     nothing : {h : Harvested} → ¬ Contains [] h
     nothing at = let below = at.1 in absurd (omega (arith, below))
 
+course_explained : {base : List ℕ} (course : Course base) → Explains (history_of course) course.world
+course_explained {base} course = run_explained base [] (start course.count) course.events course.answers course.world (start_explained course.count) course.run
+
 -- what a replica has taken is what it has learnt
-pub taken_is_learnt : (base : List ℕ) (count : ℕ) (events : List Event) (answers : List Answer) (world : World) → Run base (start count) events answers world
-    → (i : ℕ) (known : Knowledge) → replica world i ≡ Some (record { taken = known }) → (h : Harvested) → Contains known h ↔ Learnt (zip events answers) i h
-taken_is_learnt base count events answers world run i known there h =
-    (run_explained base [] (start count) events answers world (start_explained count) run).taken i (record { taken = known }) there h
+pub taken_is_learnt : {base : List ℕ} (course : Course base) (i : ℕ) (known : Knowledge) → HasTaken course.world i known → (h : Harvested) → Contains known h ↔ Learnt (history_of course) i h
+taken_is_learnt course i known (r, there, is) h =
+    subst (λ (known : Knowledge). Contains known h ↔ Learnt (history_of course) i h) is ((course_explained course).taken i r there h)
+
+-- a message has what its sender had learnt, its sender, and the text of its state
+pub message_carries : {base : List ℕ} (course : Course base) (k : ℕ) (m : Message) → message course.world k ≡ Some m → (h : Harvested) → Contains m.taken h ↔ Carries (history_of course) k h
+message_carries course k m there h = (course_explained course).carried k m there h
+
+pub message_sender : {base : List ℕ} (course : Course base) (k : ℕ) (m : Message) → message course.world k ≡ Some m → HasSent (history_of course) m.sender k
+message_sender course k m there = (course_explained course).sent k m there
+
+pub message_bytes : {base : List ℕ} (course : Course base) (k : ℕ) (m : Message) → message course.world k ≡ Some m → m.bytes ≡ state_text (lat m.taken)
+message_bytes course k m there = (course_explained course).bytes k m there
 
 -- so replicas that have learnt the same have taken the same
-pub same_harvests : (base : List ℕ) (count : ℕ) (events : List Event) (answers : List Answer) (world : World) → Run base (start count) events answers world
-    → (i j : ℕ) (known other : Knowledge) → HasTaken world i known → HasTaken world j other → LearntAlike (zip events answers) i j → SameHarvests known other
-same_harvests base count events answers world run i j known other i_is j_is alike h =
-    let one = taken_is_learnt base count events answers world run i known i_is h in
-    let two = taken_is_learnt base count events answers world run j other j_is h in
+pub same_harvests : {base : List ℕ} (course : Course base) (i j : ℕ) (known other : Knowledge) → HasTaken course.world i known → HasTaken course.world j other
+    → LearntAlike (history_of course) i j → SameHarvests known other
+same_harvests course i j known other i_is j_is alike h =
+    let one = taken_is_learnt course i known i_is h in
+    let two = taken_is_learnt course j other j_is h in
     (λ at. two.1 ((alike h).0 (one.0 at)), λ at. one.1 ((alike h).1 (two.0 at)))

@@ -1,13 +1,13 @@
 -- What one event more says of what replicas have learnt, and of what messages carry.
-use Rattle.std.proofs.Common.{◌≡◌, ◌↔◌, ℕ, ◌⊎◌, List, [], ◌∷◌, ◌++◌, Ok, Contains, refl, sym, ap, subst, ◌∙◌, append_assoc, inl, inr, arith}
+use Rattle.std.proofs.Common.{◌≡◌, ◌↔◌, ℕ, ◌⊎◌, List, [], ◌∷◌, ◌++◌, Some, Ok, Contains, refl, sym, ap, subst, ◌∙◌, append_assoc, inl, inr, arith}
 use Rattle.std.proofs.lemmas.List.Elements.{Contains-append_left, Contains-append_right, Contains-push, Contains-push_cases}
 use Rattle.harvest_lattice.specs.Lattice.{Entries}
 use Rattle.harvest_lattice.specs.Knowledge.{Harvested, adds}
 use Rattle.replica_events.specs.declared.event.Event.{Event}
-use Rattle.replica_events.specs.declared.event.Event.TheVariants.{Take, Send, Deliver, Receive, Restart}
+use Rattle.replica_events.specs.declared.event.Event.TheVariants.{Take, Deliver, Receive, Restart}
 use Rattle.replica_events.specs.declared.event.Said.TheVariants.{Taken, Sent, Joined, Restarted}
 use Rattle.replica_events.specs.World.{Answer, IsText}
-use Rattle.replica_events.specs.History.{Happened, History, NoRestart, Learnt, took, received, through}
+use Rattle.replica_events.specs.History.{Happened, History, NoRestart, sender_of, Learnt, took, received, through, Carries}
 
 -- ---- lists and one element more
 
@@ -56,50 +56,45 @@ no_restart_last history event answer i none is =
 
 -- ---- messages
 
--- the message of this number was sent by a replica that had learnt the harvest
-pub record Carries (history : History) (message : ℕ) (h : Harvested) : Type 0 where
-  pub sender : ℕ
-  pub before : History
-  pub after : History
-  pub sent : history ≡ before ++ (Send sender, Ok (Sent message)) ∷ after
-  pub learnt : Learnt before sender h
-
 pub carries_still : (history : History) (event : Event) (answer : Answer) (message : ℕ) (h : Harvested) → Carries history message h → Carries (history ++ (event, answer) ∷ []) message h
 carries_still history event answer message h c = record {
   sender = c.sender;
+  sending = c.sending;
+  sends = c.sends;
   before = c.before;
   after = c.after ++ (event, answer) ∷ [];
-  sent = grows history c.before c.after (Send c.sender, Ok (Sent message)) (event, answer) c.sent;
+  sent = grows history c.before c.after (c.sending, Ok (Sent message)) (event, answer) c.sent;
   learnt = c.learnt;
 }
 
-pub carries_now : (history : History) (sender message : ℕ) (h : Harvested) → Learnt history sender h → Carries (history ++ (Send sender, Ok (Sent message)) ∷ []) message h
-carries_now history sender message h learnt = record { sender = sender; before = history; after = []; sent = refl; learnt = learnt }
+pub carries_now : (history : History) (sending : Event) (sender message : ℕ) (h : Harvested) → sender_of sending ≡ Some sender → Learnt history sender h
+    → Carries (history ++ (sending, Ok (Sent message)) ∷ []) message h
+carries_now history sending sender message h sends learnt = record { sender = sender; sending = sending; sends = sends; before = history; after = []; sent = refl; learnt = learnt }
 
 -- the event sends the message, and its sender has learnt the harvest
 pub record Sends (history : History) (event : Event) (answer : Answer) (message : ℕ) (h : Harvested) : Type 0 where
   pub sender : ℕ
-  pub event_is : event ≡ Send sender
+  pub sends : sender_of event ≡ Some sender
   pub answer_is : answer ≡ Ok (Sent message)
   pub learnt : Learnt history sender h
 
 pub carries_before : (history : History) (event : Event) (answer : Answer) (message : ℕ) (h : Harvested) → Carries (history ++ (event, answer) ∷ []) message h
     → Carries history message h ⊎ Sends history event answer message h
-carries_before history event answer message h c = cases (stood history c.before c.after (event, answer) (Send c.sender, Ok (Sent message)) c.sent)
+carries_before history event answer message h c = cases (stood history c.before c.after (event, answer) (c.sending, Ok (Sent message)) c.sent)
   where
-    cases : Stood history (event, answer) c.before (Send c.sender, Ok (Sent message)) c.after → Carries history message h ⊎ Sends history event answer message h
+    cases : Stood history (event, answer) c.before (c.sending, Ok (Sent message)) c.after → Carries history message h ⊎ Sends history event answer message h
     cases (inl (front, last, none)) = inr (record {
       sender = c.sender;
-      event_is = ap (λ (x : Happened). x.0) last;
+      sends = ap (λ (x : Happened). sender_of x.0) last ∙ c.sends;
       answer_is = ap (λ (x : Happened). x.1) last;
       learnt = subst (λ (l : History). Learnt l c.sender h) (sym front) c.learnt;
     })
-    cases (inr (rest, front, back)) = inl (record { sender = c.sender; before = c.before; after = rest; sent = front; learnt = c.learnt })
+    cases (inr (rest, front, back)) = inl (record { sender = c.sender; sending = c.sending; sends = c.sends; before = c.before; after = rest; sent = front; learnt = c.learnt })
 
-pub carries_sent : (history : History) (message : ℕ) (h : Harvested) → Carries history message h → (sender : ℕ) × Contains history (Send sender, Ok (Sent message))
+pub carries_sent : (history : History) (message : ℕ) (h : Harvested) → Carries history message h → (sending : Event) × Contains history (sending, Ok (Sent message))
 carries_sent history message h c =
-    let x : Happened = (Send c.sender, Ok (Sent message)) in
-    (c.sender, subst (λ (l : History). Contains l x) (sym c.sent) (Contains-append_right c.before (x ∷ c.after) x (Contains-append_left (x ∷ []) c.after x (Contains-push [] x))))
+    let x : Happened = (c.sending, Ok (Sent message)) in
+    (c.sending, subst (λ (l : History). Contains l x) (sym c.sent) (Contains-append_right c.before (x ∷ c.after) x (Contains-append_left (x ∷ []) c.after x (Contains-push [] x))))
 
 -- ---- what is learnt
 
@@ -116,9 +111,9 @@ learnt_still event answer (took {history} {i} {h} before after is none) other =
     took before (after ++ (event, answer) ∷ []) (grows history before after (Take i h, Ok Taken) (event, answer) is) (no_restart_push after event answer i none other)
 learnt_still event answer (received {history} {i} {h} before after bytes state is none text at) other =
     received before (after ++ (event, answer) ∷ []) bytes state (grows history before after (Receive i bytes, Ok Joined) (event, answer) is) (no_restart_push after event answer i none other) text at
-learnt_still event answer (through {history} {i} {h} before between after sender message is none learnt) other =
-    let x : Happened = (Send sender, Ok (Sent message)) in
-    through before between (after ++ (event, answer) ∷ []) sender message (grows history (before ++ x ∷ between) after (Deliver i message, Ok Joined) (event, answer) is)
+learnt_still event answer (through {history} {i} {h} before between after sender message sending sends is none learnt) other =
+    let x : Happened = (sending, Ok (Sent message)) in
+    through before between (after ++ (event, answer) ∷ []) sender message sending sends (grows history (before ++ x ∷ between) after (Deliver i message, Ok Joined) (event, answer) is)
     (no_restart_push after event answer i none other) learnt
 
 pub learnt_now : (history : History) (event : Event) (answer : Answer) (i : ℕ) (h : Harvested) → Gains history event answer i h → Learnt (history ++ (event, answer) ∷ []) i h
@@ -127,7 +122,7 @@ learnt_now history event answer i h (inl (event_is, answer_is)) =
 learnt_now history event answer i h (inr (inl (bytes, state, event_is, answer_is, text, at))) =
     received history [] bytes state (λ k. history ++ (event_is k, answer_is k) ∷ []) (no_restart_yet i) text at
 learnt_now history event answer i h (inr (inr (message, event_is, answer_is, c))) =
-    through c.before c.after [] c.sender message (λ k. c.sent k ++ (event_is k, answer_is k) ∷ []) (no_restart_yet i) c.learnt
+    through c.before c.after [] c.sender message c.sending c.sends (λ k. c.sent k ++ (event_is k, answer_is k) ∷ []) (no_restart_yet i) c.learnt
 
 -- it was learnt before and the event is no restart, or the event brings it
 abbrev pub After : History → Event → Answer → ℕ → Harvested → Type 0
@@ -148,18 +143,18 @@ received_after history before after event answer i h bytes state none text at (i
     let still : NoRestart (rest ++ (event, answer) ∷ []) i = subst (λ (l : History). NoRestart l i) back none in
     inl (received before rest bytes state front (no_restart_before rest event answer i still) text at, no_restart_last rest event answer i still)
 
-through_after : (history before between after : History) (event : Event) (answer : Answer) (i sender message : ℕ) (h : Harvested) → NoRestart after i → Learnt before sender h
-    → Stood history (event, answer) (before ++ (Send sender, Ok (Sent message)) ∷ between) (Deliver i message, Ok Joined) after → After history event answer i h
-through_after history before between after event answer i sender message h none learnt (inl (front, last, back)) =
+through_after : (history before between after : History) (event : Event) (answer : Answer) (i sender message : ℕ) (sending : Event) (h : Harvested) → sender_of sending ≡ Some sender → NoRestart after i
+    → Learnt before sender h → Stood history (event, answer) (before ++ (sending, Ok (Sent message)) ∷ between) (Deliver i message, Ok Joined) after → After history event answer i h
+through_after history before between after event answer i sender message sending h sends none learnt (inl (front, last, back)) =
     inr (inr (inr (
       message,
       ap (λ (x : Happened). x.0) last,
       ap (λ (x : Happened). x.1) last,
-      record { sender = sender; before = before; after = between; sent = front; learnt = learnt },
+      record { sender = sender; sending = sending; sends = sends; before = before; after = between; sent = front; learnt = learnt },
     )))
-through_after history before between after event answer i sender message h none learnt (inr (rest, front, back)) =
+through_after history before between after event answer i sender message sending h sends none learnt (inr (rest, front, back)) =
     let still : NoRestart (rest ++ (event, answer) ∷ []) i = subst (λ (l : History). NoRestart l i) back none in
-    inl (through before between rest sender message front (no_restart_before rest event answer i still) learnt, no_restart_last rest event answer i still)
+    inl (through before between rest sender message sending sends front (no_restart_before rest event answer i still) learnt, no_restart_last rest event answer i still)
 
 pub learnt_after : {all : History} {i : ℕ} {h : Harvested} (history : History) (event : Event) (answer : Answer) → history ++ (event, answer) ∷ [] ≡ all → Learnt all i h
     → After history event answer i h
@@ -167,9 +162,9 @@ learnt_after history event answer all_is (took {i} {h} before after is none) =
     took_after history before after event answer i h none (stood history before after (event, answer) (Take i h, Ok Taken) (all_is ∙ is))
 learnt_after history event answer all_is (received {i} {h} before after bytes state is none text at) =
     received_after history before after event answer i h bytes state none text at (stood history before after (event, answer) (Receive i bytes, Ok Joined) (all_is ∙ is))
-learnt_after history event answer all_is (through {i} {h} before between after sender message is none learnt) =
-    let x : Happened = (Send sender, Ok (Sent message)) in
-    through_after history before between after event answer i sender message h none learnt
+learnt_after history event answer all_is (through {i} {h} before between after sender message sending sends is none learnt) =
+    let x : Happened = (sending, Ok (Sent message)) in
+    through_after history before between after event answer i sender message sending h sends none learnt
     (stood history (before ++ x ∷ between) after (event, answer) (Deliver i message, Ok Joined) (all_is ∙ is))
 
 -- so what a replica has learnt is what it had, and what the event brings
@@ -199,4 +194,4 @@ nothing_after_restart history i h learnt = from (learnt_after history (Restart i
 pub nothing_at_first : {all : History} {i : ℕ} {h : Harvested} → [] ≡ all → ¬ Learnt all i h
 nothing_at_first first (took before after is none) = not_empty before after _ (first ∙ is)
 nothing_at_first first (received before after bytes state is none text at) = not_empty before after _ (first ∙ is)
-nothing_at_first first (through before between after sender message is none learnt) = not_empty (before ++ (Send sender, Ok (Sent message)) ∷ between) after _ (first ∙ is)
+nothing_at_first first (through before between after sender message sending sends is none learnt) = not_empty (before ++ (sending, Ok (Sent message)) ∷ between) after _ (first ∙ is)

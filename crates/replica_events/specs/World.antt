@@ -4,6 +4,8 @@ use Rattle.harvest_lattice.specs.Lattice.{Entries}
 use Rattle.harvest_lattice.specs.Knowledge.{Harvested, lat, adds}
 use Rattle.replica_exchange.specs.StateText.{IsState, state_text}
 use Rattle.replica_exchange.specs.Faults.{longest_text}
+use Rattle.timegate.specs.declared.request.Request.{Request}
+use Rattle.timegate.specs.declared.reply.Reply.{Reply}
 use Rattle.timegate.specs.Reply.{reply}
 use Rattle.replica_events.specs.declared.event.Event.{Event}
 use Rattle.replica_events.specs.declared.event.Event.TheVariants.{Take, Send, Deliver, Receive, Restart, Ask}
@@ -31,7 +33,7 @@ pub record World : Type 0 where
   pub replicas : List Replica
   pub messages : List Message
 
--- what is said to an event
+-- the answer to an event
 abbrev pub Answer : Type 0
 Answer = Result Said Refused
 
@@ -39,7 +41,7 @@ Answer = Result Said Refused
 abbrev pub fresh : Replica
 fresh = record { taken = [] }
 
--- so many replicas that have taken nothing, and no message
+-- a world of `count` replicas that have taken nothing, with no messages
 abbrev pub start : ℕ → World
 start count = record { replicas = replicate count fresh; messages = [] }
 
@@ -56,44 +58,48 @@ replica w i = numbered w.replicas i
 abbrev pub message : World → ℕ → Option Message
 message w k = numbered w.messages k
 
--- the world with this one as its replica of that number
+-- the world with this replica in place of the one of that number
 abbrev pub with_replica : World → ℕ → Replica → World
 with_replica w zero r = w
 with_replica w (suc place) r = record w { replicas = slice_set w.replicas place r }
 
 -- the replica once it has taken these too
 abbrev pub taking : Replica → Knowledge → Replica
-taking r more = record { taken = r.taken ++ more }
+taking r more = record r { taken = r.taken ++ more }
 
 -- what a replica sends: the text of the state of all that it has taken
 abbrev pub sent_by : ℕ → Replica → Message
 sent_by i r = record { sender = i; taken = r.taken; bytes = state_text (lat r.taken) }
 
--- the world with one message more
+-- what a replica replies to a request: the reply of what it has taken
+abbrev pub replica_reply : List ℕ → Replica → Request → Reply
+replica_reply base r q = reply base r.taken q
+
+-- the world with one more message
 abbrev pub with_message : World → Message → World
 with_message w m = record w { messages = w.messages ++ m ∷ [] }
 
--- what may come of an event: what is said, and the world after it
+-- an outcome of an event: the answer, and the world after it
 abbrev pub Outcome : Type 1
 Outcome = Answer → World → Type 0
 
--- the event is accepted: this is said, and this is the world then
+-- the event is accepted with this result, and this is the world then
 abbrev pub Accepts : Said → World → Outcome
-Accepts said next answer new = (answer ≡ Ok said) × (new ≡ next)
+Accepts result next answer new = (answer ≡ Ok result) × (new ≡ next)
 
 -- the event is refused, and changes nothing
 abbrev pub Refuses : Refused → World → Outcome
 Refuses why w answer new = (answer ≡ Err why) × (new ≡ w)
 
--- what comes of an event at the replica of this number, if there is one
+-- the outcome of an event at the replica of this number, if there is one
 abbrev pub AtReplica : World → ℕ → (Replica → Outcome) → Outcome
 AtReplica w i happens answer new = MatchOption (replica w i) (Refuses NoReplica w answer new) (λ r. happens r answer new)
 
--- what comes of an event with the message of this number, if there is one
+-- the outcome of an event with the message of this number, if there is one
 abbrev pub WithMessage : World → ℕ → (Message → Outcome) → Outcome
 WithMessage w k happens answer new = MatchOption (message w k) (Refuses NoMessage w answer new) (λ m. happens m answer new)
 
--- what comes of an event with bytes of at most 268,435,456, or else with more
+-- the outcome of an event with bytes of at most 268,435,456, or else with more
 abbrev pub IfWithinLimit : List ℕ → Outcome → Outcome → Outcome
 IfWithinLimit bytes happens otherwise answer new = ((length bytes ≤ longest_text) × happens answer new) ⊎ ((longest_text < length bytes) × otherwise answer new)
 
@@ -103,20 +109,24 @@ pub record IsText (bytes : List ℕ) (s : Entries) : Type 0 where
   pub text : bytes ≡ state_text s
   pub within : length bytes ≤ longest_text
 
--- what comes of an event with bytes that are the text of a state, or else with others
+-- the outcome of an event with bytes that are the text of a state, or else with others
 abbrev pub IfText : List ℕ → (Entries → Outcome) → Outcome → Outcome
 IfText bytes happens otherwise answer new = ((s : Entries) × IsText bytes s × happens s answer new) ⊎ (((s : Entries) → ¬ IsText bytes s) × otherwise answer new)
 
--- what comes of an event where there is memory
+-- the outcome of an event by which a replica sends what it has taken
+abbrev pub Sends : World → ℕ → Outcome
+Sends w i = AtReplica w i (λ r. Accepts (Sent (length w.messages + 1)) (with_message w (sent_by i r)))
+
+-- the outcome of an event where there is memory
 abbrev pub Effect : List ℕ → World → Event → Outcome
 Effect base w (Take i h) = AtReplica w i (λ r. Accepts Taken (with_replica w i (taking r (h ∷ []))))
-Effect base w (Send i) = AtReplica w i (λ r. Accepts (Sent (length w.messages + 1)) (with_message w (sent_by i r)))
+Effect base w (Send i) = Sends w i
 Effect base w (Deliver i k) =
     AtReplica w i (λ r. WithMessage w k (λ m. IfWithinLimit m.bytes (Accepts Joined (with_replica w i (taking r m.taken))) (Refuses BadState w)))
 Effect base w (Receive i bytes) =
     AtReplica w i (λ r. IfText bytes (λ s. Accepts Joined (with_replica w i (taking r (adds s)))) (Refuses BadState w))
 Effect base w (Restart i) = AtReplica w i (λ r. Accepts Restarted (with_replica w i fresh))
-Effect base w (Ask i q) = AtReplica w i (λ r. Accepts (Replied (reply base r.taken q)) w)
+Effect base w (Ask i q) = AtReplica w i (λ r. Accepts (Replied (replica_reply base r q)) w)
 
 -- the replica of this number is there
 abbrev pub HasReplica : World → ℕ → Type 0
@@ -135,7 +145,7 @@ TakesMemory w (Receive i bytes) = HasReplica w i × (length bytes ≤ longest_te
 TakesMemory w (Restart i) = ⊥
 TakesMemory w (Ask i q) = HasReplica w i
 
--- what comes of an event for want of memory: it is refused, and changes nothing
+-- the outcome of an event whose memory is refused: it changes nothing
 abbrev pub RunsOut : World → Event → Outcome
 RunsOut w event answer new = (answer ≡ Err NoMemory) × (new ≡ w) × TakesMemory w event
 
@@ -149,3 +159,11 @@ Run base w [] [] end = end ≡ w
 Run base w (event ∷ events) (answer ∷ answers) end = (mid : World) × Step base w event answer mid × Run base mid events answers end
 Run base w [] (answer ∷ answers) end = ⊥
 Run base w (event ∷ events) [] end = ⊥
+
+-- a list of events in a world of `count` replicas that have taken nothing: the answer to each, and the world after them
+pub record Course (base : List ℕ) : Type 0 where
+  pub count : ℕ
+  pub events : List Event
+  pub answers : List Answer
+  pub world : World
+  pub run : Run base (start count) events answers world

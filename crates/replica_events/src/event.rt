@@ -1,4 +1,4 @@
-//! What happens in a world, and what is said to it.
+//! Events, and how a world answers them.
 ghost use Rattle.std.specs.Prelude.{◌≡◌, Some};
 ghost use Rattle.replica_events.specs.declared.event.Refused.TheVariants.{NoMemory as OutOfMemory};
 ghost use Rattle.replica_events.specs.Faults.{refusal, words_of};
@@ -11,12 +11,12 @@ use std::error::Error;
 use std::fmt;
 use timegate::{Reply, Request};
 
-/// What may happen in a world. Replicas and messages are numbered from 1.
+/// An event in a world. Replicas and messages are numbered from 1.
 #[derive(Debug, Drop)]
 pub enum Event {
     /// The replica of this number takes a harvest.
     Take(usize, Harvest),
-    /// It sends a message that has all that it has taken.
+    /// It sends a message with all that it has taken.
     Send(usize),
     /// It gets the message of the second number, which may be its own.
     Deliver(usize, usize),
@@ -28,13 +28,13 @@ pub enum Event {
     Ask(usize, Request),
 }
 
-/// How an event went that wasn't refused.
+/// The result of an accepted event.
 #[derive(Debug, Drop)]
 pub enum Said {
     Taken,
     /// The message has this number.
     Sent(usize),
-    /// A delivered message, or received bytes, were taken in.
+    /// A delivered message, or received bytes, were merged.
     Joined,
     Restarted,
     Replied(Reply),
@@ -52,7 +52,7 @@ pub enum Refused {
     NoMemory,
 }
 
-/// What a world says to an event.
+/// The answer to an event.
 pub type Answer = Result<Said, Refused>;
 
 impl fmt::Display for Refused {

@@ -8,7 +8,9 @@
 mod agreement;
 mod event;
 mod history;
+mod refusals;
 
 pub use agreement::replicas_agree;
 pub use event::{Answer, Event, Refused, Said};
-pub use history::{deliveries_in_any_order, one_outcome, what_replicas_have_taken};
+pub use history::{deliveries_in_any_order, what_replicas_have_taken};
+pub use refusals::{one_outcome, refusals_have_causes};

@@ -1,11 +1,12 @@
-//! A Memento aggregator of several replicas in one memory, as events make it: replicas take harvests, send each other
-//! what they have taken, restart, and are asked.
+//! A Memento aggregator of several replicas in one memory: replicas take harvests, send each other what they have
+//! taken, restart, and are asked.
 //!
-//! `World` runs lists of events. `replicas_agree` is what they are for: replicas that have taken the same harvests
-//! reply alike. `replay` runs a script of commands over a world, and writes what they say.
+//! `World` runs the events of `replica_events`, and so has its laws: replicas that have learnt the same harvests reply
+//! alike. `replay` runs a script of commands over a world, and writes their output.
 #![tactic(auto)]
 
 mod asked;
+mod message;
 mod read_back;
 mod replaying;
 #[cfg(test)]
