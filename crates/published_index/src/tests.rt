@@ -3,7 +3,8 @@
 ghost use Rattle.std.specs.Prelude.{◌≡◌, IfSome};
 
 use crate::{Gate, GateFault, Merger, Receipt, ask_both, open};
-use harvest_lattice::{Harvest, Merge, State};
+use harvest_lattice::{Harvest, State};
+use memento_index::Merge;
 use memento_time::{ArchiveName, Clean, Items, Memento, Moment, Octets, Original};
 use std::alloc::Global;
 use std::sync::Wait;
