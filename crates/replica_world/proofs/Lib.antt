@@ -10,9 +10,12 @@ mod Pages
 mod Progress
 mod Happenings
 mod LaidOut
+mod Forms
+mod Commands
 mod WholeScript
 mod Histories
 mod Explained
 mod Outcomes
 mod Deliveries
+mod Outputs
 mod Reached

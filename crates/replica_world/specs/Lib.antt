@@ -7,6 +7,7 @@ pub mod Agreement
 pub mod Asked
 pub mod ReadBack
 pub mod Fields
+pub mod Form
 pub mod Script
 pub mod Layout
 pub mod Output

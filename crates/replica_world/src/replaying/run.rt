@@ -1,5 +1,5 @@
 //! A whole script.
-ghost use Rattle.std.specs.Prelude.{◌≡◌, ◌+◌, ◌-◌, ◌≤◌, ◌==◌, length, take, count_by, None, IfOk, IfSome, MatchOption, ◌<◌};
+ghost use Rattle.std.specs.Prelude.{◌≡◌, ◌+◌, ◌-◌, ◌≤◌, ◌==◌, length, take, count_by, None, IfOk, IfSome, MatchOption};
 ghost use Rattle.replica_world.specs.Script.{command_at, number_of_line};
 ghost use Rattle.replica_world.specs.World.{World as Replicas};
 ghost use Rattle.replica_world.specs.Stands.{Stands};
@@ -41,9 +41,8 @@ fn perform_first<'a>(
     world: &mut World,
     text: &'a [u8],
 ) -> Result<Option<(Vec<u8>, &'a [u8])>, NoMemory>
-    requires { 0 < length text.now }
-    ensures first { IfOk result (λ first. MatchOption first (command_at text.now ≡ None) (λ p. IsFirstPerformed world.old text.now p.0.items p.1.now world.new)) }
-    ensures shorter { IfOk result (λ first. IfSome first (λ p. length p.1.now < length text.now)) }
+    ensures { IfOk result (λ first. MatchOption first (command_at text.now ≡ None)
+        (λ p. IsFirstPerformed world.old text.now p.0.items p.1.now world.new)) }
 {
     let Some((command, rest)) = command_at(alloc, text)? else {
         return Ok(None);
