@@ -20,7 +20,7 @@ use Rattle.replica_world.proofs.Forms.{bound, onward, kept, number_field_is, lac
 
 -- one line more in front
 next_lines : (count : ℕ) (text : List ℕ) → ((after : List ℕ) → Finds (lines_of count after) (λ q. AreLines count after q.0 q.1))
-    → Finds (line_of text >>= λ line. lines_of count line.1 >>= λ more. Some (line.0 ∷ more.0, more.1)) (λ p. AreLines (suc count) text p.0 p.1)
+    → Finds {A = List (List ℕ) × List ℕ} (line_of text >>= λ line. lines_of count line.1 >>= λ more. Some (line.0 ∷ more.0, more.1)) (λ p. AreLines (suc count) text p.0 p.1)
 next_lines count text fewer p = (there, here) where
   there : (line_of text >>= λ line. lines_of count line.1 >>= λ more. Some (line.0 ∷ more.0, more.1)) ≡ Some p → AreLines (suc count) text p.0 p.1
   there is =

@@ -10,7 +10,7 @@ use Rattle.replica_world.specs.declared.event.Event.TheVariants as event
 use Rattle.replica_world.specs.World.{World, Answer, HasReplica, Run, start}
 use Rattle.replica_world.specs.History.{History, LearntAlike}
 use Rattle.replica_world.specs.Script.{Taking, Command, Take, Step}
-use Rattle.replica_world.specs.Output.{IsPage, harvest_of, accepted_line, answer_text, taken_line, refused, reply_text}
+use Rattle.replica_world.specs.Output.{IsPage, most_mementos, harvest_of, accepted_line, answer_text, taken_line, refused, reply_text}
 
 -- the event takes the harvest of a page of at most 100,000 mementos
 pub record IsHarvestTaking (t : Taking) (happens : Event) : Type 0 where
@@ -19,7 +19,7 @@ pub record IsHarvestTaking (t : Taking) (happens : Event) : Type 0 where
   pub named : original_at t.original ≡ Some original
   pub read : IsPage t.address t.body page
   pub archive : IsArchiveName t.archive
-  pub few : length page.mementos ≤ 100000
+  pub few : length page.mementos ≤ most_mementos
   pub taken : happens ≡ event.Take t.replica (harvest_of t original page)
 
 -- why a page comes to no event

@@ -25,4 +25,5 @@ pub use replaying::laws::{
     one_output, same_text_from_both, script_is_its_layout, scripts_are_runs,
 };
 pub use replaying::run::replay;
+pub use replaying::watched::Watched;
 pub use world::World;

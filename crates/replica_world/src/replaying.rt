@@ -12,3 +12,4 @@ mod start;
 #[cfg(test)]
 mod tests;
 mod texts;
+pub mod watched;
