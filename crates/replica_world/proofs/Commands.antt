@@ -161,7 +161,7 @@ start_is text s = (there, here) where
       let word : field whole ≡ Some (codes "replicas", decimal n ++ 32 ∷ laid.base) = (parts_are 32 whole (codes "replicas", decimal n ++ 32 ∷ laid.base)).1 (lacks_space (codes "replicas") refl, refl) in
       let number : number_field (decimal n ++ 32 ∷ laid.base) ≡ Some (n, laid.base) = (number_field_is (decimal n ++ 32 ∷ laid.base) (n, laid.base)).1 (small, refl) in
       let count : replicas_of whole ≡ Some (n, laid.base) =
-          onward (field whole) _ (codes "replicas", decimal n ++ 32 ∷ laid.base) word ∙ onward (number_field (decimal n ++ 32 ∷ laid.base)) _ (n, laid.base) number
-          ∙ ap (λ (b : Bool). if b then Some (n, laid.base) else None) (few_all n laid.some laid.most) in
+      onward (field whole) _ (codes "replicas", decimal n ++ 32 ∷ laid.base) word ∙ onward (number_field (decimal n ++ 32 ∷ laid.base)) _ (n, laid.base) number
+      ∙ ap (λ (b : Bool). if b then Some (n, laid.base) else None) (few_all n laid.some laid.most) in
       onward (line_of text) _ (whole, s.1) ((line_is text (whole, s.1)).1 laid.line)
       ∙ ap (λ (o : Option Start). o >>= λ begin. Some (begin, s.1)) (onward (replicas_of whole) _ (n, laid.base) count ∙ onward (service_of laid.base) _ s.0.base laid.service)

@@ -244,19 +244,19 @@ named_laid : (word fields : List ℕ) (f : Form) → named word fields ≡ Some 
 unfolding named
 named_laid word fields f = on (bytes_eq word (codes "take")) (bytes_eq word (codes "map")) (bytes_eq word (codes "gate")) (bytes_eq word (codes "ask")) (bytes_eq word (codes "send"))
     (bytes_eq word (codes "deliver")) (bytes_eq word (codes "receive")) (bytes_eq word (codes "restart")) refl refl refl refl refl refl refl refl where
-  on : (take map gate ask send deliver receive restart : Bool) → bytes_eq word (codes "take") ≡ take → bytes_eq word (codes "map") ≡ map → bytes_eq word (codes "gate") ≡ gate → bytes_eq word (codes "ask") ≡ ask
-      → bytes_eq word (codes "send") ≡ send → bytes_eq word (codes "deliver") ≡ deliver → bytes_eq word (codes "receive") ≡ receive → bytes_eq word (codes "restart") ≡ restart
-      → (if take then take_of fields else if map then map_of fields else if gate then gate_of fields else if ask then ask_of fields
-      else if send then send_of fields else if deliver then deliver_of fields else if receive then receive_of fields else if restart then restart_of fields else None) ≡ Some f → Laid word fields f
-  on true m g a s d r e t1 t2 t3 t4 t5 t6 t7 t8 is = by_word word (codes "take") fields f t1 (take_laid fields f is)
-  on false true g a s d r e t1 t2 t3 t4 t5 t6 t7 t8 is = by_word word (codes "map") fields f t2 (map_laid fields f is)
-  on false false true a s d r e t1 t2 t3 t4 t5 t6 t7 t8 is = by_word word (codes "gate") fields f t3 (gate_laid fields f is)
-  on false false false true s d r e t1 t2 t3 t4 t5 t6 t7 t8 is = by_word word (codes "ask") fields f t4 (ask_laid fields f is)
-  on false false false false true d r e t1 t2 t3 t4 t5 t6 t7 t8 is = by_word word (codes "send") fields f t5 (send_laid fields f is)
-  on false false false false false true r e t1 t2 t3 t4 t5 t6 t7 t8 is = by_word word (codes "deliver") fields f t6 (deliver_laid fields f is)
-  on false false false false false false true e t1 t2 t3 t4 t5 t6 t7 t8 is = by_word word (codes "receive") fields f t7 (receive_laid fields f is)
-  on false false false false false false false true t1 t2 t3 t4 t5 t6 t7 t8 is = by_word word (codes "restart") fields f t8 (restart_laid fields f is)
-  on false false false false false false false false t1 t2 t3 t4 t5 t6 t7 t8 is = absurd (let none : None ≡ Some f = is in cc)
+      on : (take map gate ask send deliver receive restart : Bool) → bytes_eq word (codes "take") ≡ take → bytes_eq word (codes "map") ≡ map → bytes_eq word (codes "gate") ≡ gate → bytes_eq word (codes "ask") ≡ ask
+          → bytes_eq word (codes "send") ≡ send → bytes_eq word (codes "deliver") ≡ deliver → bytes_eq word (codes "receive") ≡ receive → bytes_eq word (codes "restart") ≡ restart
+          → (if take then take_of fields else if map then map_of fields else if gate then gate_of fields else if ask then ask_of fields
+          else if send then send_of fields else if deliver then deliver_of fields else if receive then receive_of fields else if restart then restart_of fields else None) ≡ Some f → Laid word fields f
+      on true m g a s d r e t1 t2 t3 t4 t5 t6 t7 t8 is = by_word word (codes "take") fields f t1 (take_laid fields f is)
+      on false true g a s d r e t1 t2 t3 t4 t5 t6 t7 t8 is = by_word word (codes "map") fields f t2 (map_laid fields f is)
+      on false false true a s d r e t1 t2 t3 t4 t5 t6 t7 t8 is = by_word word (codes "gate") fields f t3 (gate_laid fields f is)
+      on false false false true s d r e t1 t2 t3 t4 t5 t6 t7 t8 is = by_word word (codes "ask") fields f t4 (ask_laid fields f is)
+      on false false false false true d r e t1 t2 t3 t4 t5 t6 t7 t8 is = by_word word (codes "send") fields f t5 (send_laid fields f is)
+      on false false false false false true r e t1 t2 t3 t4 t5 t6 t7 t8 is = by_word word (codes "deliver") fields f t6 (deliver_laid fields f is)
+      on false false false false false false true e t1 t2 t3 t4 t5 t6 t7 t8 is = by_word word (codes "receive") fields f t7 (receive_laid fields f is)
+      on false false false false false false false true t1 t2 t3 t4 t5 t6 t7 t8 is = by_word word (codes "restart") fields f t8 (restart_laid fields f is)
+      on false false false false false false false false t1 t2 t3 t4 t5 t6 t7 t8 is = absurd (let none : None ≡ Some f = is in cc)
 
 -- ---- what was written is read
 

@@ -135,7 +135,7 @@ answers_twice one base count commands i j q output end says =
           let again_there : Performs base mid (script.Step (Ask j q)) second last = subst (λ (w : World). Performs base w (script.Step (Ask j q)) second last) one_writes.1 again in
           let other_writes = question_writes base mid j other q second last j_is again_there in
           let same : reply base known q ≡ reply base other q =
-              same_reply base known other q (same_state known other (same_harvests base count run.events run.answers mid run.run i j known other i_is j_is alike)) in
+          same_reply base known other q (same_state known other (same_harvests base count run.events run.answers mid run.run i j known other i_is j_is alike)) in
           let later_text : later ≡ reply_text (reply base known q) =
-              later_is ∙ ap (λ (t : List ℕ). second ++ t) nothing.0 ∙ append-nil second ∙ other_writes.0 ∙ ap reply_text (sym same) in
+          later_is ∙ ap (λ (t : List ℕ). second ++ t) nothing.0 ∙ append-nil second ∙ other_writes.0 ∙ ap reply_text (sym same) in
           (reply base known q, whole ∙ ap (λ (t : List ℕ). said ++ t) (more_is ∙ (λ k. one_writes.0 k ++ later_text k)))

@@ -21,7 +21,9 @@ pub fn read_all<R: Read>(alloc: Global, reader: &mut Watched<R>) -> Result<Vec<u
     let mut text = Vec::new(alloc);
     let mut buffer = [0u8; 65_536];
     for _ in 0..MOST_READS {
-        let count = reader.read(&mut buffer).map_err(|_| ReplayFault::Read)?;
+        let Ok(count) = reader.read(&mut buffer) else {
+            return Err(ReplayFault::Read);
+        };
         if count == 0 {
             return Ok(text);
         }
