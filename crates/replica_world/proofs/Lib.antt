@@ -1,6 +1,5 @@
 pub mod Places
 pub mod Worlds
-pub mod Replies
 pub mod Questions
 mod ReadBack
 mod Lines
@@ -13,9 +12,5 @@ mod LaidOut
 mod Forms
 mod Commands
 mod WholeScript
-mod Histories
-mod Explained
-mod Outcomes
-mod Deliveries
 mod Outputs
 mod Reached

@@ -5,13 +5,13 @@ use Rattle.std.proofs.Math.Nat.{lt_of_not-le}
 use Rattle.memento_time.specs.Text.{IsArchiveName}
 use Rattle.timemap_reader.specs.declared.page.Page.{Page}
 use Rattle.timegate.specs.Route.{original_at}
-use Rattle.replica_world.specs.declared.event.Event.{Event}
-use Rattle.replica_world.specs.declared.event.Event.TheVariants.{Take}
-use Rattle.replica_world.specs.World.{World, start}
+use Rattle.replica_events.specs.declared.event.Event.{Event}
+use Rattle.replica_events.specs.declared.event.Event.TheVariants.{Take}
+use Rattle.replica_events.specs.World.{World, start}
 use Rattle.replica_world.specs.Script as script
 use Rattle.replica_world.specs.Script.{Command, Taking, Start, script_of}
 use Rattle.replica_world.specs.Output.{Happens, RefusedAs, IsPage, TakesHarvest, TakesPage, Performs, Says, Writes, IsOutput, answer_text, taken_line, harvest_of}
-use Rattle.replica_world.proofs.Outcomes.{effect_happens}
+use Rattle.replica_events.proofs.Outcomes.{effect_happens}
 
 -- not every text and world is refused
 abbrev NotNone : (List ℕ → World → Type 0) → Type 0

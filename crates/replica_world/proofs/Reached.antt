@@ -7,20 +7,20 @@ use Rattle.timegate.specs.declared.request.Request.{Request}
 use Rattle.timegate.specs.Route.{original_at}
 use Rattle.timegate.specs.Reply.{reply}
 use Rattle.timegate.proofs.Replies.{same_reply}
-use Rattle.replica_world.specs.declared.event.Event.{Event}
-use Rattle.replica_world.specs.declared.event.Event.TheVariants.{Take, Ask}
-use Rattle.replica_world.specs.declared.event.Said.TheVariants.{Replied}
-use Rattle.replica_world.specs.declared.event.Refused.TheVariants.{NoReplica}
-use Rattle.replica_world.specs.World.{Knowledge, World, Replica, Refuses, Accepts, HasReplica, Run, start}
-use Rattle.replica_world.specs.History.{History, LearntAlike}
-use Rattle.replica_world.specs.Agreement.{SameHarvests, HasTaken}
+use Rattle.replica_events.specs.declared.event.Event.{Event}
+use Rattle.replica_events.specs.declared.event.Event.TheVariants.{Take, Ask}
+use Rattle.replica_events.specs.declared.event.Said.TheVariants.{Replied}
+use Rattle.replica_events.specs.declared.event.Refused.TheVariants.{NoReplica}
+use Rattle.replica_events.specs.World.{Knowledge, World, Replica, Refuses, Accepts, HasReplica, Run, start, replica_reply, Course}
+use Rattle.replica_events.specs.History.{History, LearntAlike}
+use Rattle.replica_events.specs.Agreement.{SameHarvests, HasTaken}
 use Rattle.replica_world.specs.Script as script
 use Rattle.replica_world.specs.Script.{Command, Taking}
 use Rattle.replica_world.specs.Output.{Happens, RefusedAs, IsPage, TakesHarvest, TakesPage, Performs, Says, answer_text, reply_text, taken_line, harvest_of}
 use Rattle.replica_world.specs.Reached.{IsHarvestTaking, IsPageRefusal, WritesAnswer, ComesTo, IsRunOf, AnswersTwice}
-use Rattle.replica_world.proofs.Explained.{same_harvests}
+use Rattle.replica_events.proofs.Explained.{same_harvests}
 use Rattle.replica_world.proofs.Once.{OnePage, one_page_is, says_split}
-use Rattle.replica_world.proofs.Replies.{same_state}
+use Rattle.replica_events.proofs.Replies.{same_state}
 
 -- ---- from the world after a command on, and so from the world before it
 
@@ -103,10 +103,10 @@ commands_run one base w (command ∷ commands) text end (first, next, later, per
 -- a question to a replica that has taken this writes the reply of what it has taken, and leaves the world as it is
 pub question_writes : (base : List ℕ) (w : World) (i : ℕ) (known : Knowledge) (q : Request) (text : List ℕ) (next : World) → HasTaken w i known → Performs base w (script.Step (Ask i q)) text next
     → (text ≡ reply_text (reply base known q)) × (next ≡ w)
-question_writes base w i known q text next taken (answer, effect, is) =
-    let accepts : Accepts (Replied (reply base known q)) w answer next =
-    subst (λ (o : Option Replica). MatchOption o (Refuses NoReplica w answer next) (λ r. Accepts (Replied (reply base r.taken q)) w answer next)) taken effect in
-    (is ∙ ap (answer_text []) accepts.0, accepts.1)
+question_writes base w i known q text next (r, there, known_is) (answer, effect, is) =
+    let accepts : Accepts (Replied (replica_reply base r q)) w answer next =
+    subst (λ (o : Option Replica). MatchOption o (Refuses NoReplica w answer next) (λ r. Accepts (Replied (replica_reply base r q)) w answer next)) there effect in
+    (is ∙ ap (answer_text []) accepts.0 ∙ ap (λ (known : Knowledge). reply_text (reply base known q)) known_is, accepts.1)
 
 -- so two that have taken the same harvests write the same
 pub questions_agree : (base : List ℕ) (w : World) (i j : ℕ) (known other : Knowledge) → HasTaken w i known → HasTaken w j other → SameHarvests known other
@@ -129,13 +129,14 @@ answers_twice one base count commands i j q output end says =
       replies : {said : List ℕ} (mid : World) (more : List ℕ) (end : World) (run : IsRunOf base (start count) commands said mid) → HasReplica mid i → HasReplica mid j → LearntAlike (zip run.events run.answers) i j
           → Says base mid (script.Step (Ask i q) ∷ script.Step (Ask j q) ∷ []) more end → output ≡ said ++ more → (r : Reply) × (output ≡ said ++ (reply_text r ++ reply_text r))
       replies {said} mid more end run (one_there, i_is) (other_there, j_is) alike (first, next, later, asked, (second, last, none, again, nothing, later_is), more_is) whole =
+          let course : Course base = record { count = count; events = run.events; answers = run.answers; world = mid; run = run.run } in
           let known : Knowledge = one_there.taken in
           let other : Knowledge = other_there.taken in
-          let one_writes = question_writes base mid i known q first next i_is asked in
+          let one_writes = question_writes base mid i known q first next (one_there, i_is, refl) asked in
           let again_there : Performs base mid (script.Step (Ask j q)) second last = subst (λ (w : World). Performs base w (script.Step (Ask j q)) second last) one_writes.1 again in
-          let other_writes = question_writes base mid j other q second last j_is again_there in
+          let other_writes = question_writes base mid j other q second last (other_there, j_is, refl) again_there in
           let same : reply base known q ≡ reply base other q =
-          same_reply base known other q (same_state known other (same_harvests base count run.events run.answers mid run.run i j known other i_is j_is alike)) in
+          same_reply base known other q (same_state known other (same_harvests course i j known other (one_there, i_is, refl) (other_there, j_is, refl) alike)) in
           let later_text : later ≡ reply_text (reply base known q) =
           later_is ∙ ap (λ (t : List ℕ). second ++ t) nothing.0 ∙ append-nil second ∙ other_writes.0 ∙ ap reply_text (sym same) in
           (reply base known q, whole ∙ ap (λ (t : List ℕ). said ++ t) (more_is ∙ (λ k. one_writes.0 k ++ later_text k)))

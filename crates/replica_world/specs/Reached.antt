@@ -5,10 +5,10 @@ use Rattle.timemap_reader.specs.declared.page.Page.{Page}
 use Rattle.timegate.specs.declared.reply.Reply.{Reply}
 use Rattle.timegate.specs.declared.request.Request.{Request}
 use Rattle.timegate.specs.Route.{original_at}
-use Rattle.replica_world.specs.declared.event.Event.{Event}
-use Rattle.replica_world.specs.declared.event.Event.TheVariants as event
-use Rattle.replica_world.specs.World.{World, Answer, HasReplica, Run, start}
-use Rattle.replica_world.specs.History.{History, LearntAlike}
+use Rattle.replica_events.specs.declared.event.Event.{Event}
+use Rattle.replica_events.specs.declared.event.Event.TheVariants as event
+use Rattle.replica_events.specs.World.{World, Answer, HasReplica, Run, start}
+use Rattle.replica_events.specs.History.{History, LearntAlike}
 use Rattle.replica_world.specs.Script.{Taking, Command, Take, Step}
 use Rattle.replica_world.specs.Output.{IsPage, most_mementos, harvest_of, accepted_line, answer_text, taken_line, refused, reply_text}
 

@@ -3,8 +3,8 @@ use Rattle.std.specs.Prelude.{ℕ, zero, suc, ◌+◌, ◌-◌, ◌&&◌, List, 
 use Rattle.std.specs.Option.{option_map, option_and_then}
 use Rattle.timegate.specs.declared.request.Request.{Request}
 use Rattle.timemap_writer.specs.Service.{base_of}
-use Rattle.replica_world.specs.declared.event.Event.{Event}
-use Rattle.replica_world.specs.declared.event.Event.TheVariants.{Send, Deliver, Receive, Restart, Ask}
+use Rattle.replica_events.specs.declared.event.Event.{Event}
+use Rattle.replica_events.specs.declared.event.Event.TheVariants.{Send, Deliver, Receive, Restart, Ask}
 use Rattle.replica_world.specs.Fields.{◌>>=◌, field, line_of, after_empty_lines, number_field, utf8_text, block_of, lines_of}
 use Rattle.replica_world.specs.Form as form
 use Rattle.replica_world.specs.Form.{Form, TakeForm, form_of}

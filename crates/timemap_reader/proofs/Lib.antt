@@ -1,11 +1,13 @@
 mod Escapes
 pub mod Cleans
 mod Starts
-mod Found
+pub mod Found
+pub mod OriginalsKept
 mod Trims
 pub mod Datetimes
-mod FirstLemmas
-mod SetLemmas
+pub mod FirstLemmas
+pub mod FirstLaws
+pub mod SetLemmas
 mod Named
-mod SameLists
-mod PageOrFault
+pub mod SameLists
+pub mod PageOrFault

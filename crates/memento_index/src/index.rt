@@ -1,0 +1,120 @@
+//! A state with the list of each original at hand.
+ghost use Rattle.std.specs.Prelude.{◌≡◌, ◌++◌, List, OnOk, OnErr, IfOk, option_copied};
+ghost use Rattle.harvest_lattice.specs.Sets as set;
+ghost use Rattle.harvest_lattice.specs.Lattice.{join};
+ghost use Rattle.harvest_lattice.specs.Knowledge.{Harvested, lat, shown, shown_of};
+ghost use Rattle.memento_index.specs.Choice.{nearest, last};
+
+use crate::gather::gather_steps;
+use crate::last::last_of;
+use crate::lists::{Lists, make_rooms, recount_all};
+use crate::merge::Merge;
+use crate::nearest::nearest_of;
+use crate::tally::Tally;
+use harvest_lattice::State;
+use memento_time::{Memento, Moment, NoMemory, Original};
+use std::alloc::Global;
+use std::collections::BTreeMap;
+use std::marker::Model;
+
+/// A state, and for each of its originals the mementos that it shows.
+#[derive(Debug, Drop)]
+pub struct Index {
+    alloc: Global,
+    state: State,
+    lists: Lists,
+}
+
+impl Model for Index {
+    ghost use Rattle.std.specs.FinMap as map;
+    ghost use Rattle.harvest_lattice.specs.Lattice.{Entries, coded_key, coded_kept};
+
+    ghost Value = { Entries };
+
+    ghost coded = { map.code coded_key coded_kept };
+
+    ghost use Rattle.memento_index.specs.Lists.{IsCounted};
+
+    ghost view = { λ i. i.state };
+
+    ghost invariant = { λ i. IsCounted i.state i.lists };
+}
+
+impl Index {
+    ghost use Rattle.std.specs.FinMap as map;
+    ghost use Rattle.memento_index.specs.Merges.{adds_of};
+
+    /// The index of no harvests. Takes no memory.
+    pub fn new(alloc: Global) -> Index
+        ensures { result ≡ map.empty }
+    {
+        Index {
+            alloc,
+            state: State::new(alloc),
+            lists: BTreeMap::new(alloc),
+        }
+    }
+
+    /// Takes a harvest, or all that a state has.
+    ///
+    /// It has all its memory before the first change, and then changes only the counts of what begins or ceases to be
+    /// shown. It takes time in the size of what it takes and of the entries at its keys; of a list that changes, in what
+    /// stands from the first change on; and logarithmic in the number of keys and of lists. Neither the number of
+    /// archives nor the lists that don't change make a difference.
+    pub fn absorb(&mut self, merge: &Merge) -> Result<(), NoMemory>
+        ensures ok { OnOk result (self.new ≡ join self.old (lat (adds_of merge.now))) }
+        ensures stands { (hs : List Harvested) → self.old ≡ lat hs → OnOk result (self.new ≡ lat (hs ++ adds_of merge.now)) }
+        ensures err { OnErr result (self.new ≡ self.old) }
+    {
+        let changes = merge.changes(&self.state)?;
+        let steps = gather_steps(self.alloc, &self.state, &changes)?;
+        let keys = self.state.len();
+        let mut lifted = Tally::new(self.alloc);
+        make_rooms(&mut self.lists, &mut lifted, self.alloc, &steps, keys)?;
+        self.state.put(changes)?;
+        recount_all(&mut self.lists, &mut lifted, steps);
+        Ok(())
+    }
+
+    /// The mementos that are shown of an original, each once, by datetime, then by URI.
+    pub fn list(&self, original: &Original) -> &[Memento]
+        ensures list { result.now ≡ set.items (shown_of self.now original.now) }
+        ensures stands { (hs : List Harvested) → self.now ≡ lat hs → result.now ≡ set.items (shown hs original.now) }
+    {
+        self.listed(original)
+    }
+
+    fn listed(&self, original: &Original) -> &[Memento]
+        ensures { result.now ≡ set.items (shown_of self.now original.now) }
+    {
+        match self.lists.get(original) {
+            Some(list) => list.mementos(),
+            None => &[],
+        }
+    }
+
+    /// The memento at the least distance in seconds; of two as far the earlier, and at one
+    /// datetime that with the least URI. None where nothing is shown.
+    pub fn nearest(&self, original: &Original, moment: Moment) -> Option<&Memento>
+        ensures nearest { option_copied result ≡ nearest (shown_of self.now original.now) moment }
+        ensures stands { (hs : List Harvested) → self.now ≡ lat hs → option_copied result ≡ nearest (shown hs original.now) moment }
+    {
+        nearest_of(self.list(original), moment)
+    }
+
+    /// The memento of the greatest datetime, there that with the least URI. None where nothing
+    /// is shown.
+    pub fn latest(&self, original: &Original) -> Option<&Memento>
+        ensures last { option_copied result ≡ last (shown_of self.now original.now) }
+        ensures stands { (hs : List Harvested) → self.now ≡ lat hs → option_copied result ≡ last (shown hs original.now) }
+    {
+        last_of(self.list(original))
+    }
+
+    /// The state of all that was taken in.
+    pub fn state(&self) -> &State
+        ensures { result.now ≡ self.now }
+    {
+        &self.state
+    }
+}
