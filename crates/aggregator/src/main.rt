@@ -8,7 +8,7 @@ mod words;
 
 use crate::failure::Failure;
 use crate::words::{Command, command_named};
-use replica_world::replay;
+use replica_world::{Watched, replay};
 use std::env::{self, Env};
 use std::process::ExitCode;
 
@@ -27,7 +27,9 @@ fn command_of(rt: &(impl Env + Alloc)) -> Result<Command, Failure> {
 fn run(rt: &HostRuntime) -> Result<(), Failure> {
     match command_of(rt)? {
         Command::Replay => {
-            replay(rt.alloc(), &mut rt.stdin(), &mut rt.stdout())?;
+            let mut input = Watched::new(rt.stdin());
+            let mut output = Watched::new(rt.stdout());
+            replay(rt.alloc(), &mut input, &mut output)?;
             Ok(())
         }
     }
