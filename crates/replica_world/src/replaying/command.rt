@@ -5,10 +5,10 @@ ghost use Rattle.replica_world.specs.Script.{get, stepped, command_of, command_a
 ghost use Rattle.replica_world.specs.Spelled.{command_view, form_view, take_form_view, ask_form_view};
 ghost use Rattle.replica_world.specs.Form.{Take as TakeLine, Ask as AskLine, Receive as ReceiveLine};
 
-use replica_events::Event;
 use crate::replaying::fields::{block, line, lines};
 use crate::replaying::form::{AskForm, Form, TakeForm, read_form};
 use memento_time::{Items, NoMemory, Octets};
+use replica_events::Event;
 use std::alloc::Global;
 use timegate::Request;
 
