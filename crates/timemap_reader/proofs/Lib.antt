@@ -1,11 +1,11 @@
 mod Escapes
 pub mod Cleans
 mod Starts
-mod Found
+pub mod Found
 mod Trims
 pub mod Datetimes
-mod FirstLemmas
-mod SetLemmas
+pub mod FirstLemmas
+pub mod SetLemmas
 mod Named
-mod SameLists
-mod PageOrFault
+pub mod SameLists
+pub mod PageOrFault
