@@ -3,9 +3,12 @@
 //! Standard output has what the command writes and nothing else. A failure is one line on standard error.
 #![tactic(auto)]
 
+mod check;
 mod failure;
+mod settings;
 mod words;
 
+use crate::check::check;
 use crate::failure::Failure;
 use crate::words::{Command, command_named};
 use replica_world::replay;
@@ -13,15 +16,19 @@ use std::env::{self, Env};
 use std::process::ExitCode;
 
 // What the words of the command line ask for.
-fn command_of(rt: &(impl Env + Alloc)) -> Result<Command, Failure> {
-    let mut words = env::args(rt)?.skip(1);
+fn command_of(rt: &(impl Env + AllocGlobal)) -> Result<Command, Failure> {
+    let mut words = match env::args(rt) {
+        Ok(words) => words.skip(1),
+        Err(error) => return Err(Failure::of_words(&error)),
+    };
     let Some(word) = words.next() else {
         return Ok(Command::Replay);
     };
+    let file = words.next();
     if words.next().is_some() {
         return Err(Failure::Usage);
     }
-    command_named(word.as_str())
+    command_named(word.as_str(), file)
 }
 
 fn run(rt: &HostRuntime) -> Result<(), Failure> {
@@ -30,6 +37,8 @@ fn run(rt: &HostRuntime) -> Result<(), Failure> {
             replay(rt.alloc(), &mut rt.stdin(), &mut rt.stdout())?;
             Ok(())
         }
+        Command::Check(file) => check(rt, file.as_str(), &mut rt.stdout()),
+        Command::Serve(_) => Err(Failure::Usage),
     }
 }
 
