@@ -4,6 +4,9 @@
 //! - `measure pages COUNT < PAGE`: reads what the page says so many times.
 //! - `measure keys COUNT`: merges one memento for each of so many originals into a state, one by one.
 //! - `measure states COUNT < TEXT`: reads the text of a state and writes it again, so many times.
+//! - `measure walk COUNT`: walks over 64 pages of 1,500 mementos each, so many times.
+//! - `measure read COUNT`: fetches and reads these pages so many times, and does no more with them.
+//! - `measure round WORKERS`: a round of 1,000 jobs, each of a page that takes a millisecond.
 //!
 //! Each time it prints some counts, which must be those of the plain program. With no words it does nothing.
 #![tactic(auto)]
@@ -12,6 +15,7 @@ mod keys;
 mod links;
 mod pages;
 mod states;
+mod walks;
 
 use anyhow::{Context, Result, bail};
 use std::env;
@@ -30,6 +34,9 @@ fn measure(rt: &HostRuntime, kind: &str, count: u32) -> Result<()> {
         "pages" => pages::read(rt, &input(rt)?, count),
         "keys" => keys::merge(rt, count),
         "states" => states::read_and_write(rt, &input(rt)?, count),
+        "walk" => walks::walk_pages(rt, count),
+        "read" => walks::read_pages(rt, count),
+        "round" => walks::round(rt, count as usize),
         _ => bail!("nothing of that name is measured"),
     }
 }
