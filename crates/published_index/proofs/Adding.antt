@@ -1,0 +1,35 @@
+-- The exchange that adds an entry keeps the rule of the book.
+use Rattle.std.proofs.Common.{◌≡◌, ℕ, ◌+◌, ◌<◌, ◌==◌, Bool, true, false, List, [], ◌∷◌, ◌++◌, length, refl, ap, sym, subst, arith, inl, length-append, None}
+use Rattle.std.proofs.lemmas.List.{append-nil}
+use Rattle.std.proofs.lemmas.Bool.Decides.{nat_tests}
+use mathlib.Core.List.{IsPrefix}
+use prog.Atomic.{either}
+use Rattle.logbook.specs.Pages.{Cell, cell, keeps, no_nib, step, Moves, Goes}
+use Rattle.published_index.specs.declared.marks.LogEntry.{LogEntry}
+use Rattle.published_index.specs.Marks.{Counts, Adds}
+use Rattle.published_index.proofs.Fronts.{prefix_whole}
+
+abbrev pub shown : List LogEntry → List LogEntry
+shown log = []
+
+abbrev pub moved : List LogEntry → List LogEntry → ℕ → Type 0
+moved xs ys n = Unit {0}
+
+adds_goes : (log v : List LogEntry) (e : LogEntry) (old next : ℕ) → length v ≡ old → next ≡ old + 1 → IsPrefix v log → (b : Bool) → (length log == old) ≡ b
+    → Goes Counts shown moved 0 (v, (no_nib, None)) (λ n. either (n == old) next n) (Adds (step 0 old next e) (v, (no_nib, None))) ((length log, true) ∷ (0, true) ∷ []) log
+adds_goes log v e old next len is_next pre true is =
+    let here : length log ≡ old = grind (arith, nat_tests) in
+    let same : v ≡ log = prefix_whole v log pre (omega arith) in
+    let n : either (length log == old) next (length log) ≡ length (log ++ e ∷ []) = rw is (omega (arith, length-append log (e ∷ []))) in
+    (keeps, e ∷ [], None, tt, ap (λ (k : ℕ). (k, true) ∷ (0, true) ∷ []) n, inl (refl, refl), rw is (ap (λ w. w ++ e ∷ []) (sym same)))
+adds_goes log v e old next len is_next pre false is =
+    let all : log ++ [] ≡ log = append-nil log in
+    let n : either (length log == old) next (length log) ≡ length (log ++ []) = rw is (ap length (sym all)) in
+    (keeps, [], None, tt, ap (λ (k : ℕ). (k, true) ∷ (0, true) ∷ []) n, inl (refl, refl), rw is tt)
+
+-- whatever the book is, the exchange adds the entry to all that was seen, or finds that the log is longer
+pub adds_moves : (v : List LogEntry) (e : LogEntry) (old next : ℕ) → length v ≡ old → next ≡ old + 1
+    → Moves Counts shown moved 0 (v, (no_nib, None)) (λ n. either (n == old) next n) (Adds (step 0 old next e) (v, (no_nib, None)))
+adds_moves v e old next len is_next cs log counts pre away =
+    let P : List Cell → Type 0 = λ c. (0 < length c) × ((cell c 0).1 ≡ true) × Goes Counts shown moved 0 (v, (no_nib, None)) (λ n. either (n == old) next n) (Adds (step 0 old next e) (v, (no_nib, None))) c log in
+    subst P (sym counts) (omega arith, refl, adds_goes log v e old next len is_next pre (length log == old) refl)

@@ -1,0 +1,20 @@
+-- What a gate knows after an answer.
+use Rattle.std.proofs.Common.{◌≡◌, List, [], Result, Ok, Err, IfOk, IfErr, refl, sym, subst}
+use mathlib.Core.List.{IsPrefix}
+use Rattle.published_index.specs.Batches.{Batch}
+use Rattle.timegate.specs.declared.reply.Reply.{Reply}
+use Rattle.published_index.specs.declared.faults.GateFault.{GateFault}
+use Rattle.published_index.specs.declared.faults.GateFault.TheVariants.{NoMemory}
+use Rattle.published_index.specs.Passes.{Pass, Advances, AfterFault}
+use Rattle.published_index.proofs.Fronts.{prefix_trans}
+
+pub advances : (old : Pass) (before front : List Batch) → IsPrefix old.front before → IsPrefix before front → IsPrefix old.told front → Advances old (record { front = front; told = [] })
+advances old before front seen next told = record { seen = prefix_trans old.front before front seen next; told = told; settled = refl }
+
+pub ok_after : (r : Result Reply GateFault) (old new : Pass) (P : Reply → Type 0) → Advances old new → IfOk r P → IfOk r (λ x. Advances old new × P x)
+ok_after (Ok x) old new P adv p = (adv, p)
+ok_after (Err f) old new P adv p = tt
+
+pub err_after : (r : Result Reply GateFault) (old new : Pass) → Advances old new → IfErr r (λ f. f ≡ NoMemory) → IfErr r (λ f. AfterFault f old new)
+err_after (Ok x) old new adv is = tt
+err_after (Err f) old new adv is = subst (λ (g : GateFault). AfterFault g old new) (sym is) adv

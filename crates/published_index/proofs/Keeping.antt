@@ -1,0 +1,54 @@
+-- The steps keep the rule.
+use Rattle.std.proofs.Common.{◌≡◌, ◌≢◌, ℕ, List, [], ◌∷◌, ◌++◌, set, true, false, refl, sym, ap, ◌∙◌, subst, ⊎_elim}
+use mathlib.Core.Option.{some, some-ne-none}
+use lib.ListN.{get_elem?}
+use Rattle.crossbeam_utils.specs.Register.{Admits, TurnsAt, Turns, Forks, Merges}
+use Rattle.atomic_table.proofs.Lists.{at_set, at_snoc}
+use Rattle.published_index.specs.declared.editions.Edition.{Edition}
+use Rattle.published_index.specs.declared.views.ReaderView.{ReaderView}
+use Rattle.published_index.specs.Changes.{IsWhole, batches_of}
+use Rattle.published_index.specs.Passes.{no_view, opening_of}
+use Rattle.published_index.specs.Rule.{Covers, Keeps, Enters, Shows, IsReady, view_at, view_of_note}
+use Rattle.published_index.proofs.Fronts.{prefix_self, prefix_trans}
+
+abbrev AllCovered : Edition → List ReaderView → Type 0
+AllCovered x passes = (seat : ℕ) (p : ReaderView) → get_elem? passes seat ≡ some p → Covers x p
+
+covered_set : (x : Edition) (passes : List ReaderView) (seat : ℕ) (w : ReaderView) → AllCovered x passes → Covers x w → AllCovered x (set passes seat w)
+covered_set x passes seat w all here j p at = ⊎_elim (λ (t : (j ≡ seat) × (w ≡ p)). subst (Covers x) t.1 here) (λ (t : (j ≢ seat) × (get_elem? passes j ≡ some p)). all j p t.1) (at_set passes seat j w p at)
+
+covered_snoc : (x : Edition) (passes : List ReaderView) (w : ReaderView) → AllCovered x passes → Covers x w → AllCovered x (passes ++ w ∷ [])
+covered_snoc x passes w all here j p at = ⊎_elim (all j p) (λ (same : w ≡ p). subst (Covers x) same here) (at_snoc passes w p j at)
+
+nothing_covered : (x : Edition) → Covers x no_view
+nothing_covered x = ((batches_of x, refl), (λ (named : false ≡ true). absurd cc))
+
+covered_itself : (x : Edition) → Covers x (view_at x)
+covered_itself x = (prefix_self (batches_of x), (λ _. refl))
+
+covers_next : (x y : Edition) → IsReady x y → (p : ReaderView) → Covers x p → Covers y p
+covers_next x y ready p c = (prefix_trans p.front (batches_of x) (batches_of y) c.0 ready.1, (λ named. c.1 named ∙ ap opening_of (sym ready.0)))
+
+pub admits : Admits Keeps no_view
+admits x passes h = (h.0, covered_snoc x passes no_view h.1 (nothing_covered x))
+
+pub enters : (seat : ℕ) (v : ReaderView) → Turns Keeps seat v (λ x. x) Enters
+enters seat v x passes h at = (view_at x, (h.0, covered_set x passes seat (view_at x) h.1 (covered_itself x)), (refl, h.0, h.1 seat v at))
+
+pub shows : (seat : ℕ) (v : ReaderView) (x y : Edition) → IsReady x y → TurnsAt Keeps seat v x y Shows
+shows seat v x y ready passes h at =
+    (view_at y, (ready.2 h.0, covered_set y passes seat (view_at y) (λ j p there. covers_next x y ready p (h.1 j p there)) (covered_itself y)), refl)
+
+pub forks : (seat : ℕ) (p : ReaderView) → Forks Keeps seat p p p
+forks seat p x passes h at = let c = h.1 seat p at in (h.0, covered_snoc x (set passes seat p) p (covered_set x passes seat p h.1 c) c)
+
+pub merges : (seat : ℕ) (p : ReaderView) (other : ℕ) (q : ReaderView) → Merges Keeps seat p other q (view_of_note p q) no_view
+merges seat p other q x passes h at apart there =
+    let d : Covers x q = ⊎_elim (λ (t : (other ≡ seat) × (view_of_note p q ≡ q)). absurd (apart t.0)) (λ (t : (other ≢ seat) × (get_elem? passes other ≡ some q)). h.1 other q t.1) (at_set passes seat other (view_of_note p q) q there) in
+    (h.0, covered_set x (set passes seat (view_of_note p q)) other no_view (covered_set x passes seat (view_of_note p q) h.1 d) (nothing_covered x))
+
+pub opens : (x : Edition) → IsWhole x → Keeps x (no_view ∷ [])
+opens x whole = (whole, covered_snoc x [] no_view (λ j p at. absurd (some-ne-none p (sym at))) (nothing_covered x))
+
+pub ready_itself : (x : Edition) → IsReady x x
+ready_itself x = (refl, prefix_self (batches_of x), (λ w. w))

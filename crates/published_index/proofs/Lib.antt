@@ -1,0 +1,13 @@
+pub mod Fronts
+pub mod Logs
+pub mod Adding
+pub mod Folding
+pub mod Keeping
+pub mod Books
+pub mod Ready
+pub mod Appending
+pub mod Offering
+pub mod Answering
+pub mod Outcomes
+pub mod Running
+pub mod Agreeing

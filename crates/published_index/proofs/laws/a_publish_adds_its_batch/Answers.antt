@@ -1,0 +1,7 @@
+use Rattle.std.proofs.Common.{sym, ◌∙◌}
+use Rattle.published_index.specs.Batches.{fold_of}
+use Rattle.published_index.proofs.Folding.{fold-batch, taken-all}
+use Rattle.published_index.proofs.laws.a_publish_adds_its_batch.Goals as goal
+
+pub returns : goal.returns
+returns c list batch = fold-batch list batch ∙ sym (taken-all (fold_of list) batch)

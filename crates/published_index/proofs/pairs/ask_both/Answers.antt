@@ -1,0 +1,16 @@
+use Rattle.std.proofs.Common.{ℕ, List, ap, sym, ◌∙◌}
+use Rattle.published_index.specs.Batches.{fold_of}
+use Rattle.timegate.specs.Reply.{reply}
+use Rattle.published_index.proofs.Agreeing.{same_reply}
+use Rattle.published_index.proofs.pairs.ask_both.Goals as goal
+
+pub returns : goal.returns
+returns c =
+    let front = c.answer.new.self.pass.front in
+    let other = c.answer-2.new.self.pass.front in
+    let q = c.args.request.now in
+    record {
+      agree = λ same.
+          c.in_ok-one.ensures.reply ∙ (same_reply c.args.first.now.base front other q same
+          ∙ sym (c.in_ok-other.ensures.reply ∙ ap (λ (base : List ℕ). reply base (fold_of other) q) c.requires));
+    }

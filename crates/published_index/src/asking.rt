@@ -1,0 +1,107 @@
+//! One entry of a gate into what is published.
+ghost use Rattle.std.specs.Prelude.{◌≡◌, ◌⊎◌, true, IfOk, IfErr, IfSome, IsTrue};
+ghost use mathlib.Core.List.{IsPrefix};
+ghost use Rattle.left_right.specs.Sides.{view as view_of};
+ghost use Rattle.timegate.specs.Reply.{reply};
+ghost use Rattle.published_index.specs.Batches.{fold_of};
+ghost use Rattle.published_index.specs.Changes.{batches_of, book_of};
+ghost use Rattle.published_index.specs.Marks.{successes, successes_with_last};
+ghost use Rattle.published_index.specs.declared.faults.GateFault.TheVariants.{NoMemory};
+ghost use Rattle.published_index.specs.Passes.{opening_of, told_list};
+
+use crate::editions::Edition;
+use crate::faults::GateFault;
+use crate::marks::Mark;
+use crate::rules::{EditionReader, Entry};
+use core::mem::replace_with;
+use std::alloc::Global;
+use timegate::{Reply, Request, answer};
+use timemap_writer::Service;
+
+/// Whether the edition has what was told.
+pub(crate) fn has_told(told: &Option<Mark>, edition: &Edition) -> bool
+    requires { IfSome told.now (λ m. opening_of m.seen.book ≡ opening_of (book_of edition.now)) }
+    ensures { IsTrue result → IsPrefix (told_list told.now) (batches_of edition.now) }
+{
+    match told {
+        Some(mark) => mark.precedes(&edition.mark),
+        None => true,
+    }
+}
+
+/// The longer of what was told before and what is told now.
+pub(crate) fn longest(told: Option<Mark>, mark: Mark) -> Mark
+    requires { IfSome told (λ m. opening_of m.seen.book ≡ opening_of mark.seen.book) }
+    ensures opening { opening_of result.seen.book ≡ opening_of mark.seen.book }
+    ensures told { IsPrefix (told_list told) (successes result.seen.log) }
+    ensures mark { IsPrefix (successes mark.seen.log) (successes result.seen.log) }
+    ensures one { (successes result.seen.log ≡ told_list told) ⊎ (successes result.seen.log ≡ successes mark.seen.log) }
+{
+    match told {
+        Some(told) => mark.longer(told),
+        None => mark,
+    }
+}
+
+/// Enters, makes the reply, calls `then`, and leaves: the edition's mark, and the reply. `None` where nothing that has
+/// what was told can be entered: no run shows an edition that lacks it.
+pub(crate) fn ask<F: FnOnce()>(
+    alloc: Global,
+    service: &Service,
+    told: &Option<Mark>,
+    reader: EditionReader,
+    request: &Request,
+    then: F,
+) -> (EditionReader, Option<(Mark, Result<Reply, GateFault>)>)
+    requires then { F.IsAlwaysCallable then }
+    requires named { (view_of reader.place).named ≡ true }
+    requires opening { IfSome told.now (λ m. opening_of m.seen.book ≡ (view_of reader.place).opening) }
+    ensures same { ((view_of result.0.place).named ≡ true) × ((view_of result.0.place).opening ≡ (view_of reader.place).opening) }
+    ensures seen { IsPrefix (view_of reader.place).front (view_of result.0.place).front }
+    ensures mark { IfSome result.1 (λ made. successes_with_last made.0.seen.log ≡ (view_of result.0.place).front) }
+    ensures told { IfSome result.1 (λ _. IsPrefix (told_list told.now) (view_of result.0.place).front) }
+    ensures reply { IfSome result.1 (λ made. IfOk made.1 (λ r. r ≡ reply service.now (fold_of (view_of result.0.place).front) request.now)) }
+    ensures fault { IfSome result.1 (λ made. IfErr made.1 (λ fault. fault ≡ NoMemory)) }
+{
+    match reader.enter_as::<Entry>() {
+        Ok(reading) => {
+            let edition = reading.get();
+            if !has_told(told, edition) {
+                return (reading.leave(), None);
+            }
+            let mark = edition.mark.copy();
+            match answer(alloc, service, &edition.index, request) {
+                Ok(made) => {
+                    then();
+                    (reading.leave(), Some((mark, Ok(made))))
+                }
+                Err(_) => (reading.leave(), Some((mark, Err(GateFault::NoMemory)))),
+            }
+        }
+        Err(reader) => (reader, None),
+    }
+}
+
+/// `ask`, with the reader in its place.
+pub(crate) fn ask_in_place<F: FnOnce()>(
+    alloc: Global,
+    service: &Service,
+    told: &Option<Mark>,
+    reader: &mut EditionReader,
+    request: &Request,
+    then: F,
+) -> Option<(Mark, Result<Reply, GateFault>)>
+    requires then { F.IsAlwaysCallable then }
+    requires named { (view_of reader.old.place).named ≡ true }
+    requires opening { IfSome told.now (λ m. opening_of m.seen.book ≡ (view_of reader.old.place).opening) }
+    ensures same { ((view_of reader.new.place).named ≡ true) × ((view_of reader.new.place).opening ≡ (view_of reader.old.place).opening) }
+    ensures seen { IsPrefix (view_of reader.old.place).front (view_of reader.new.place).front }
+    ensures mark { IfSome result (λ made. successes_with_last made.0.seen.log ≡ (view_of reader.new.place).front) }
+    ensures told { IfSome result (λ _. IsPrefix (told_list told.now) (view_of reader.new.place).front) }
+    ensures reply { IfSome result (λ made. IfOk made.1 (λ r. r ≡ reply service.now (fold_of (view_of reader.new.place).front) request.now)) }
+    ensures fault { IfSome result (λ made. IfErr made.1 (λ fault. fault ≡ NoMemory)) }
+{
+    replace_with(reader, then, |reader, then| {
+        ask(alloc, service, told, reader, request, then)
+    })
+}

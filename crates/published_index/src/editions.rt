@@ -1,0 +1,56 @@
+//! The two copies of what is published, and what changes them.
+ghost use Rattle.std.specs.Prelude.{◌≡◌};
+ghost use Rattle.std.specs.FinMap as map;
+
+use crate::marks::Mark;
+use harvest_lattice::{Index, Merge};
+use left_right::Absorb;
+use std::alloc::{AllocError, Global};
+
+/// What the merger's log holds for the copies: the merges of a batch, and behind them the mark that it reaches.
+#[derive(Drop)]
+pub enum Change {
+    Add(Merge),
+    Reach(Mark),
+}
+
+/// One copy: an index, and the mark of the last attempt that is in it.
+#[derive(Drop)]
+pub struct Edition {
+    pub index: Index,
+    pub mark: Mark,
+}
+
+impl Edition {
+    pub fn new(alloc: Global, mark: &Mark) -> Edition
+        ensures { result ≡ record { index = map.empty; mark = mark.now } }
+    {
+        Edition {
+            index: Index::new(alloc),
+            mark: mark.copy(),
+        }
+    }
+}
+
+impl Absorb<Change> for Edition {
+    ghost use Rattle.published_index.specs.Changes.{after_change};
+
+    type State = Edition;
+
+    ghost state = { λ edition. edition };
+
+    ghost applied = { after_change };
+
+    fn absorb_first(&mut self, operation: &Change, _other: &Edition) -> Result<(), AllocError> {
+        match operation {
+            Change::Add(merge) => match self.index.absorb(merge) {
+                Ok(()) => Ok(()),
+                Err(_) => Err(AllocError),
+            },
+            Change::Reach(mark) => {
+                self.mark = mark.copy();
+                Ok(())
+            }
+        }
+    }
+}

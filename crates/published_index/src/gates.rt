@@ -1,0 +1,101 @@
+//! One who answers from what is published.
+ghost use Rattle.std.specs.Prelude.{◌≡◌, IfOk, IfErr, OnOk};
+ghost use Rattle.timegate.specs.Reply.{reply};
+ghost use Rattle.published_index.specs.Batches.{fold_of};
+ghost use Rattle.published_index.specs.Passes.{Advances, Learns, AfterFault};
+
+use crate::asking::{ask_in_place, longest};
+use crate::faults::GateFault;
+use crate::marks::Mark;
+use crate::receipts::Receipt;
+use crate::rules::EditionReader;
+use std::alloc::Global;
+use std::marker::Model;
+use timegate::{Reply, Request};
+use timemap_writer::Service;
+
+/// Answers requests from what is published, and never waits. It can be moved to a thread of its own.
+///
+/// Contracts see it as its opening, the base of its service, and a pass: the front, which is the list of batches that its
+/// last reply was made from, and the longest list that it was told since.
+#[derive(Drop)]
+pub struct Gate {
+    pub(crate) alloc: Global,
+    pub(crate) reader: EditionReader,
+    pub(crate) service: Service,
+    /// The mark of the edition that was answered from last.
+    pub(crate) seen: Mark,
+    /// The longest of the receipts that were learnt since.
+    pub(crate) told: Option<Mark>,
+}
+
+impl Model for Gate {
+    ghost use Rattle.std.specs.Prelude.{◌≡◌, true, IfSome};
+    ghost use mathlib.Core.List.{IsPrefix};
+    ghost use Rattle.left_right.specs.Sides.{view as view_of};
+    ghost use Rattle.published_index.specs.Marks.{successes_with_last};
+    ghost use Rattle.published_index.specs.Passes.{told_list, opening_of};
+    ghost use Rattle.published_index.specs.Views.{GateView};
+    ghost use Rattle.std.specs.Coded.{codes};
+    ghost use Rattle.harvest_lattice.specs.contracts.index.Merge as merge;
+
+    ghost Value = { GateView };
+
+    ghost coded = { Prim.hlevel (codes, merge.the_row.coded) };
+
+    ghost view = { λ g. record { opening = (view_of g.reader.place).opening; base = g.service; pass = record { front = successes_with_last g.seen.seen.log; told = told_list g.told } } };
+
+    ghost invariant = { λ g. ((view_of g.reader.place).named ≡ true) × IsPrefix (successes_with_last g.seen.seen.log) (view_of g.reader.place).front × IfSome g.told (λ m. opening_of m.seen.book ≡ (view_of g.reader.place).opening) };
+}
+
+impl Gate {
+    /// The reply made from a front that begins with all that this gate has answered from and was told.
+    ///
+    /// `NoMemory`: the reply couldn't be made; what this gate has seen may have become longer. `Closed`: nothing can be
+    /// entered, since the merger was closed. Takes one entry, which takes no memory and no lock.
+    pub fn answer(&mut self, request: &Request) -> Result<Reply, GateFault>
+        ensures same { self.new ≡ record self.old { pass = self.new.pass } }
+        ensures advances { OnOk result (Advances self.old.pass self.new.pass) }
+        ensures reply { IfOk result (λ made. made ≡ reply self.old.base (fold_of self.new.pass.front) request.now) }
+        ensures no_memory { result ≡ Err GateFault.NoMemory → Advances self.old.pass self.new.pass }
+        ensures closed { result ≡ Err GateFault.Closed → self.new ≡ self.old }
+    {
+        self.answer_then(request, || ())
+    }
+
+    /// `answer`, which calls `then` once the reply is made and before the entry ends.
+    pub(crate) fn answer_then<F: FnOnce()>(
+        &mut self,
+        request: &Request,
+        then: F,
+    ) -> Result<Reply, GateFault>
+        requires { F.IsAlwaysCallable then }
+        ensures same { self.new ≡ record self.old { pass = self.new.pass } }
+        ensures reply { IfOk result (λ made. Advances self.old.pass self.new.pass × (made ≡ reply self.old.base (fold_of self.new.pass.front) request.now)) }
+        ensures refused { IfErr result (λ fault. AfterFault fault self.old.pass self.new.pass) }
+    {
+        let Some((mark, made)) = ask_in_place(
+            self.alloc,
+            &self.service,
+            &self.told,
+            &mut self.reader,
+            request,
+            then,
+        ) else {
+            return Err(GateFault::Closed);
+        };
+        self.seen = mark;
+        self.told = None;
+        made
+    }
+
+    /// From now on this gate's replies are made from fronts that begin with the receipt's list. Takes no memory.
+    pub fn learn(&mut self, receipt: Receipt)
+        requires { receipt.opening ≡ self.old.opening }
+        ensures same { self.new ≡ record self.old { pass = self.new.pass } }
+        ensures learns { Learns self.old.pass receipt.batches self.new.pass }
+    {
+        let Receipt { mark } = receipt;
+        self.told = Some(longest(self.told.take(), mark));
+    }
+}

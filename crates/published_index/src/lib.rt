@@ -1,0 +1,32 @@
+//! One merger publishes batches of merges, and any number of gates answer from what is published without waiting.
+//!
+//! `open` gives both. What a gate has seen never goes back, and a gate that learnt a receipt of a publish serves each
+//! merge of it from then on.
+#![tactic(auto)]
+
+mod asking;
+mod editions;
+mod faults;
+mod gates;
+mod laws;
+mod marks;
+mod mergers;
+mod openings;
+mod pairs;
+mod receipts;
+mod rules;
+#[cfg(test)]
+mod tests;
+mod views;
+mod writing;
+
+pub use faults::{GateFault, OpenFault, PublishRefused};
+pub use gates::Gate;
+pub use laws::{
+    a_publish_adds_its_batch, answers_never_go_back, same_state_same_reply,
+    what_is_learnt_is_served,
+};
+pub use mergers::Merger;
+pub use openings::{MOST_GATES, open};
+pub use pairs::ask_both;
+pub use receipts::Receipt;

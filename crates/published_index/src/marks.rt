@@ -1,0 +1,192 @@
+//! The log of publishes, and how much of it was seen.
+//!
+//! The log holds what contracts know of the published list: each publish notes its batch before the batch is shown, and
+//! its success once it is. When the program runs there is the log's length alone, so that nothing of it takes memory.
+ghost use Rattle.std.specs.Prelude.{◌≡◌, ◌⊎◌, ◌∷◌, ◌++◌, [], IfSome, IsTrue, length};
+ghost use mathlib.Core.List.{IsPrefix};
+
+use harvest_lattice::Merge;
+use logbook::{Gain, Offer, Plain, Play, Rule, Seen, Start, Word};
+use std::marker::{Brand, PhantomData};
+use std::sync::Wait;
+
+/// What a publish notes: the batch that it is about to show, and then that it did. No value of it is made. A clause reads
+/// an array as a list of any length.
+pub enum LogEntry {
+    Attempt([Merge; 0]),
+    Success,
+}
+
+/// The rule of the log: its first word counts its entries.
+pub struct LogRule;
+
+impl Rule<LogEntry, u64> for LogRule {
+    ghost use Rattle.std.specs.Prelude.{[]};
+    ghost use base.Fml.{ftrue};
+    ghost use Rattle.published_index.specs.Marks.{Counts};
+
+    ghost holds = { λ cells log. Counts cells log };
+
+    ghost first = { [] };
+
+    ghost hinted = { λ n log. Unit {0} };
+
+    ghost shows = { λ log. [] };
+
+    ghost keeps = { λ names log. ftrue };
+
+    ghost moves = { λ ask before after answer. Unit {0} };
+}
+
+/// Whoever adds an entry gains nothing by it.
+pub struct NoGain;
+
+impl Gain<LogEntry, u64> for NoGain {
+    ghost use base.Fml.{ftrue};
+
+    ghost after = { λ names about answer. ftrue };
+}
+
+/// Names the entry that a step adds, for proofs alone.
+pub trait NamesEntry {
+    ghost use Rattle.published_index.specs.declared.marks.LogEntry.{LogEntry};
+
+    ghost entry: { LogEntry };
+}
+
+impl NamesEntry for Brand {
+    ghost use Rattle.published_index.specs.declared.marks.LogEntry.TheVariants.{Success};
+
+    ghost entry = { Success };
+}
+
+/// Names the entry that the last attempt succeeded.
+pub struct SuccessEntry;
+
+impl NamesEntry for SuccessEntry {
+    ghost use Rattle.published_index.specs.declared.marks.LogEntry.TheVariants.{Success};
+
+    ghost entry = { Success };
+}
+
+/// A step that adds the named entry behind all that was seen.
+pub struct Addition<B> {
+    of: PhantomData<B>,
+}
+
+impl<B> Play<LogEntry, u64> for Addition<B> {
+    ghost use Rattle.published_index.specs.Marks.{Adds};
+
+    ghost then = { Adds };
+}
+
+impl<B: NamesEntry> Plain<(), LogEntry, u64> for Addition<B> {
+    ghost use Rattle.std.specs.Prelude.{None};
+
+    ghost ask = { λ _. B.entry };
+
+    ghost state = { λ _. None };
+}
+
+/// The length of the log.
+pub type Head = Word<LogEntry, u64, LogRule>;
+
+/// How much of the log was seen.
+#[derive(Drop)]
+pub struct Mark {
+    pub entries: u64,
+    pub seen: Seen<LogEntry, u64, LogRule>,
+    ghost counted: { entries ≡ length seen.log },
+}
+
+impl Mark {
+    ghost use Rattle.published_index.specs.Marks.{successes, successes_with_last, head_of};
+    ghost use Rattle.published_index.specs.declared.marks.LogEntry.TheVariants.{Success};
+
+    /// A new log, with nothing in it.
+    pub fn first() -> (Mark, Head)
+        ensures log { result.0.seen.log ≡ [] }
+        ensures head { result.1 ≡ head_of result.0.seen.book }
+    {
+        let (seen, mut pen, _) = Seen::open(Start::alone(), 0, 0);
+        (Mark { entries: 0, seen }, Word::tracked(0, &mut pen))
+    }
+
+    pub fn copy(&self) -> Mark
+        ensures { result ≡ self.now }
+    {
+        Mark {
+            entries: self.entries,
+            seen: self.seen.again(),
+        }
+    }
+
+    /// The mark after one more entry, where nobody else added one.
+    pub fn record<B: NamesEntry>(&self, head: &Head) -> Option<Mark>
+        requires { head.now ≡ head_of self.now.seen.book }
+        ensures { IfSome result (λ m. (m.seen.book ≡ self.now.seen.book) × (m.seen.log ≡ self.now.seen.log ++ B.entry ∷ [])) }
+    {
+        let next = self.entries.checked_add(1)?;
+        let mut seen = self.seen.again();
+        let mut offer: Offer<LogEntry, u64, LogRule, NoGain> = seen.plain::<
+            NoGain,
+            (),
+            Addition<B>,
+        >(&());
+        let mut pen = seen.no_pen();
+        let found = head.compare_exchange::<Addition<B>, NoGain>(
+            self.entries,
+            next,
+            &mut seen,
+            &mut offer,
+            &mut pen,
+        );
+        if found != self.entries {
+            return None;
+        }
+        Some(Mark {
+            entries: next,
+            seen,
+        })
+    }
+
+    /// The mark after the last attempt succeeded. The merger alone adds entries, so the first round adds this one.
+    pub fn record_success<R: Wait>(&self, rt: &R, head: &Head) -> Mark
+        requires { head.now ≡ head_of self.now.seen.book }
+        ensures { (result.seen.book ≡ self.now.seen.book) × (result.seen.log ≡ self.now.seen.log ++ Success ∷ []) }
+    {
+        for _ in rt.forever() {
+            if let Some(mark) = self.record::<SuccessEntry>(head) {
+                return mark;
+            }
+        }
+        unreachable!()
+    }
+
+    /// Whether each batch that was published here was so there too, where the last attempt there counts as a success.
+    pub fn precedes(&self, other: &Mark) -> bool
+        requires { other.now.seen.book ≡ self.now.seen.book }
+        ensures { IsTrue result → IsPrefix (successes self.now.seen.log) (successes_with_last other.now.seen.log) }
+    {
+        let mut both = self.seen.again();
+        both.learn(&other.seen);
+        self.entries <= other.entries.saturating_add(1)
+    }
+
+    /// The one with more entries, whose batches begin with those of the other.
+    pub fn longer(self, other: Mark) -> Mark
+        requires { other.seen.book ≡ self.seen.book }
+        ensures book { result.seen.book ≡ self.seen.book }
+        ensures this { IsPrefix (successes self.seen.log) (successes result.seen.log) }
+        ensures that { IsPrefix (successes other.seen.log) (successes result.seen.log) }
+        ensures one { (result ≡ self) ⊎ (result ≡ other) }
+    {
+        let mut both = self.seen.again();
+        both.learn(&other.seen);
+        if self.entries < other.entries {
+            other
+        } else {
+            self
+        }
+    }
+}

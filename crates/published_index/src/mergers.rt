@@ -1,0 +1,98 @@
+//! The one who publishes.
+ghost use Rattle.std.specs.Prelude.{◌≡◌, [], ◌∷◌, ◌++◌, IfOk, OnOk, OnErr};
+
+use crate::faults::PublishRefused;
+use crate::marks::{Head, Mark};
+use crate::receipts::Receipt;
+use crate::rules::EditionWriter;
+use crate::writing::{add, offer, show};
+use core::mem::replace_with;
+use harvest_lattice::Merge;
+use memento_time::NoMemory;
+use std::marker::{Brand, Model};
+use std::sync::Wait;
+
+/// Takes merges in, and publishes those that are pending all at once. Contracts see it as the list of batches that were
+/// published, one for each publish that succeeded, and the batch of merges that are pending.
+///
+/// It is not `Drop`, since its end may wait for readers: end it by `close`.
+pub struct Merger {
+    pub(crate) writer: EditionWriter,
+    pub(crate) head: Head,
+    /// All that was attempted.
+    pub(crate) mark: Mark,
+    /// The log as it was when a publish last succeeded. A gate that learnt of a later attempt would find no copy that has
+    /// it.
+    pub(crate) last_success: Mark,
+}
+
+impl Model for Merger {
+    ghost use Rattle.std.specs.Prelude.{◌≡◌, drop};
+    ghost use Rattle.published_index.specs.Changes.{merges_in, batches_of, book_of};
+    ghost use Rattle.published_index.specs.Marks.{successes, head_of};
+    ghost use Rattle.published_index.specs.Passes.{opening_of};
+    ghost use Rattle.published_index.specs.Views.{MergerView};
+    ghost use Rattle.std.specs.Coded.{codes};
+    ghost use Rattle.harvest_lattice.specs.contracts.index.Merge as merge;
+
+    ghost Value = { MergerView };
+
+    ghost coded = { Prim.hlevel (codes, merge.the_row.coded) };
+
+    ghost view = { λ m. record { opening = opening_of m.mark.seen.book; published = successes m.mark.seen.log; pending = merges_in (drop m.writer.behind m.writer.log.items) } };
+
+    ghost invariant = { λ m. (m.head ≡ head_of m.mark.seen.book) × (book_of m.writer.desk.shown.value ≡ m.mark.seen.book) × (batches_of m.writer.desk.shown.value ≡ successes m.mark.seen.log) × (m.last_success.seen.book ≡ m.mark.seen.book) × (successes m.last_success.seen.log ≡ successes m.mark.seen.log) };
+}
+
+impl Merger {
+    /// Puts a copy of the merge at the end of what is pending.
+    pub fn append(&mut self, merge: &Merge) -> Result<(), NoMemory>
+        ensures ok { OnOk result (self.new ≡ record self.old { pending = self.old.pending ++ merge.now ∷ [] }) }
+        ensures err { OnErr result (self.new ≡ self.old) }
+    {
+        let copy = merge.try_clone()?;
+        add(&mut self.writer, copy)
+    }
+
+    /// Makes all that is pending one batch at the end of the published list, perhaps an empty one, and gives a receipt of
+    /// the whole list. Gates show all of the batch or nothing of it.
+    ///
+    /// It may wait for gates that are about to answer from what was published before. Takes time in what is pending and
+    /// in what the publish before took.
+    pub fn publish<R: Wait>(&mut self, rt: &R) -> Result<Receipt, PublishRefused>
+        ensures ok { OnOk result (self.new ≡ record self.old { published = self.old.published ++ self.old.pending ∷ []; pending = [] }) }
+        ensures receipt { IfOk result (λ told. told ≡ record { opening = self.old.opening; batches = self.old.published ++ self.old.pending ∷ [] }) }
+        ensures err { OnErr result (self.new ≡ self.old) }
+    {
+        if offer::<Brand>(&mut self.writer, &self.head, &mut self.mark).is_err() {
+            return Err(PublishRefused);
+        }
+        if replace_with(&mut self.writer, rt, show::<R>).is_err() {
+            return Err(PublishRefused);
+        }
+        self.mark = self.mark.record_success(rt, &self.head);
+        self.last_success = self.mark.copy();
+        Ok(self.tell())
+    }
+
+    /// A receipt of the whole published list.
+    pub fn tell(&mut self) -> Receipt
+        ensures same { self.new ≡ self.old }
+        ensures receipt { result ≡ record { opening = self.old.opening; batches = self.old.published } }
+    {
+        Receipt {
+            mark: self.last_success.copy(),
+        }
+    }
+
+    /// Ends it: what is pending is lost, and gates answer `Closed`. It may wait for gates that are about to answer.
+    pub fn close<R: Wait>(self, rt: &R) {
+        let Merger {
+            writer,
+            head: _,
+            mark: _,
+            last_success: _,
+        } = self;
+        drop(writer.take(rt));
+    }
+}

@@ -1,0 +1,24 @@
+//! What a merger tells.
+use crate::marks::Mark;
+use std::marker::Model;
+
+/// The list of batches that was published when it was told, for a gate to learn. Contracts alone know the list: when the
+/// program runs a receipt is one number.
+#[derive(Drop)]
+pub struct Receipt {
+    pub(crate) mark: Mark,
+}
+
+impl Model for Receipt {
+    ghost use Rattle.published_index.specs.Marks.{successes};
+    ghost use Rattle.published_index.specs.Passes.{opening_of};
+    ghost use Rattle.published_index.specs.Views.{ReceiptView};
+    ghost use Rattle.std.specs.Coded.{codes};
+    ghost use Rattle.harvest_lattice.specs.contracts.index.Merge as merge;
+
+    ghost Value = { ReceiptView };
+
+    ghost coded = { Prim.hlevel (codes, merge.the_row.coded) };
+
+    ghost view = { λ r. record { opening = opening_of r.mark.seen.book; batches = successes r.mark.seen.log } };
+}

@@ -1,0 +1,384 @@
+//! What no contract says: that calls succeed where memory is there, that gates answer side by side, and that a gate is
+//! closed once its merger is and not before.
+ghost use Rattle.std.specs.Prelude.{◌≡◌, IfOk};
+
+use crate::{Gate, GateFault, Merger, Receipt, ask_both, open};
+use harvest_lattice::{Harvest, Merge, State};
+use memento_time::{ArchiveName, Clean, Items, Memento, Moment, Octets, Original};
+use std::alloc::Global;
+use std::sync::Wait;
+use std::sync::atomic::{AtomicU64, Ordering};
+use std::test::Fail;
+use std::thread;
+use std::thread::{Threads, join};
+use std::time::{Clock, Duration};
+use timegate::{Header, Reply, Request};
+use timemap_writer::Service;
+
+/// The first seconds of the first and the third day of 2000.
+const DAYS: [u64; 2] = [946_684_800, 946_857_600];
+
+const FIRST: &[u8] = b"http://m.example/1";
+
+const SECOND: &[u8] = b"http://m.example/2";
+
+/// How often a gate is asked beside a publish.
+const QUESTIONS: u64 = 50;
+
+/// An archive's harvest of one memento of http://a.example/.
+fn harvest(rt: &HostRuntime, archive: &[u8], at: u64, uri: &[u8]) -> Result<Harvest, Fail> {
+    let at = Moment::from_secs(at).ok_or("no moment")?;
+    let uri = Clean::new(rt.alloc(), uri)?;
+    let mementos = vec![in rt.alloc(); Memento { at, uri }]?;
+    let archive = ArchiveName::new(archive).ok_or("no name")?;
+    let original = Original::new(rt.alloc(), b"http://a.example/")?;
+    Ok(Harvest::new(archive, &original, 1, mementos)?)
+}
+
+fn first_merge(rt: &HostRuntime) -> Result<Merge, Fail> {
+    Ok(Merge::Harvest(harvest(rt, b"a1", DAYS[0], FIRST)?))
+}
+
+fn second_merge(rt: &HostRuntime) -> Result<Merge, Fail> {
+    Ok(Merge::Harvest(harvest(rt, b"b1", DAYS[1], SECOND)?))
+}
+
+fn service(rt: &HostRuntime) -> Result<Service, Fail> {
+    Ok(Service::new(rt.alloc(), "http://agg.example")?)
+}
+
+fn octets(rt: &HostRuntime, text: &[u8]) -> Result<Octets, Fail> {
+    Ok(Octets::of(Vec::from_slice(rt.alloc(), text)?))
+}
+
+fn request(rt: &HostRuntime, target: &[u8]) -> Result<Request, Fail> {
+    Ok(Request {
+        method: octets(rt, b"GET")?,
+        target: octets(rt, target)?,
+        asked: Items::of(Vec::new(rt.alloc())),
+    })
+}
+
+fn timegate_request(rt: &HostRuntime) -> Result<Request, Fail> {
+    request(rt, b"/timegate/http://a.example/")
+}
+
+fn timemap_request(rt: &HostRuntime) -> Result<Request, Fail> {
+    request(rt, b"/timemap/link/http://a.example/")
+}
+
+/// What the TimeGate of http://a.example/ answers.
+#[derive(Clone, Copy, Debug, PartialEq, Eq)]
+enum Shown {
+    /// 404.
+    Nothing,
+    /// 302 to the first memento.
+    First,
+    /// Anything else.
+    Other,
+}
+
+fn location(reply: &Reply) -> Option<&[u8]> {
+    for (header, value) in reply.headers.as_slice() {
+        if *header == Header::Location {
+            return Some(value.as_slice());
+        }
+    }
+    None
+}
+
+fn shown_by(reply: Result<Reply, GateFault>) -> Shown {
+    match reply {
+        Ok(reply) if reply.status == 404 => Shown::Nothing,
+        Ok(reply) if reply.status == 302 && location(&reply) == Some(FIRST) => Shown::First,
+        _ => Shown::Other,
+    }
+}
+
+/// Publishes, and asks a gate that learnt the receipt.
+fn publish_and_ask<R: Wait>(rt: &R, merger: &mut Merger, mut gate: Gate, request: &Request) -> Shown
+    requires { gate.opening ≡ merger.old.opening }
+{
+    match merger.publish(rt) {
+        Ok(receipt) => {
+            gate.learn(receipt);
+            shown_by(gate.answer(request))
+        }
+        Err(_) => Shown::Other,
+    }
+}
+
+/// Asks a gate many times: whether it shows nothing until it shows the memento, and the memento from then on.
+fn goes_on(mut gate: Gate, request: &Request) -> bool {
+    let mut before = Shown::Nothing;
+    for _ in 0..QUESTIONS {
+        let now = shown_by(gate.answer(request));
+        if now == Shown::Other || (before == Shown::First && now == Shown::Nothing) {
+            return false;
+        }
+        before = now;
+    }
+    true
+}
+
+/// Publishes in one thread, whose gate learns the receipt, while a gate that isn't told is asked in another.
+fn publish_beside_a_reader<R: Threads + Wait + Sync>(
+    rt: &R,
+    merger: &mut Merger,
+    informed: Gate,
+    other: Gate,
+    request: &Request,
+) -> (Shown, bool)
+    requires { informed.opening ≡ merger.old.opening }
+{
+    join(
+        rt,
+        move || publish_and_ask(rt, merger, informed, request),
+        move || goes_on(other, request),
+    )
+}
+
+#[test]
+fn a_gate_that_learnt_the_receipt_shows_the_memento_while_another_is_asked(
+    rt: HostRuntime,
+) -> Result<(), Fail> {
+    let asked = timegate_request(&rt)?;
+    let merge = first_merge(&rt)?;
+    let Ok((mut merger, mut gates)) = open(&rt, rt.alloc(), service(&rt)?, 2) else {
+        return Err(Fail::from("not opened"));
+    };
+    let appended = merger.append(&merge);
+    let mut seen = (Shown::Other, false);
+    if let (Some(second), Some(first)) = (gates.pop(), gates.pop()) {
+        seen = publish_beside_a_reader(&rt, &mut merger, second, first, &asked);
+    }
+    merger.close(&rt);
+    assert!(rt; appended.is_ok());
+    assert!(rt; seen == (Shown::First, true));
+    Ok(())
+}
+
+/// The TimeMap of both mementos, written by hand.
+const TIMEMAP: &[u8] = b"<http://a.example/>; rel=\"original\",
+<http://agg.example/timegate/http://a.example/>; rel=\"timegate\",
+<http://agg.example/timemap/link/http://a.example/>; rel=\"self\"; type=\"application/link-format\"; from=\"Sat, 01 Jan 2000 00:00:00 GMT\"; until=\"Mon, 03 Jan 2000 00:00:00 GMT\",
+<http://m.example/1>; rel=\"first memento\"; datetime=\"Sat, 01 Jan 2000 00:00:00 GMT\",
+<http://m.example/2>; rel=\"last memento\"; datetime=\"Mon, 03 Jan 2000 00:00:00 GMT\"
+";
+
+fn is_timemap_of_both(reply: Result<Reply, GateFault>) -> bool {
+    match reply {
+        Ok(reply) => reply.status == 200 && reply.body.as_slice() == TIMEMAP,
+        Err(_) => false,
+    }
+}
+
+fn ask_after(gate: &mut Gate, receipt: Receipt, request: &Request) -> Result<Reply, GateFault>
+    requires { receipt.opening ≡ gate.old.opening }
+    ensures { gate.new.opening ≡ gate.old.opening }
+{
+    gate.learn(receipt);
+    gate.answer(request)
+}
+
+#[test]
+fn two_merges_are_shown_by_one_publish(rt: HostRuntime) -> Result<(), Fail> {
+    let asked = timemap_request(&rt)?;
+    let (one, two) = (first_merge(&rt)?, second_merge(&rt)?);
+    let Ok((mut merger, mut gates)) = open(&rt, rt.alloc(), service(&rt)?, 1) else {
+        return Err(Fail::from("not opened"));
+    };
+    let first = merger.append(&one);
+    let second = merger.append(&two);
+    let published = merger.publish(&rt);
+    let mut both = false;
+    if let (Some(mut gate), Ok(receipt)) = (gates.pop(), published) {
+        both = is_timemap_of_both(ask_after(&mut gate, receipt, &asked));
+    }
+    merger.close(&rt);
+    assert!(rt; first.is_ok() && second.is_ok() && both);
+    Ok(())
+}
+
+/// Learns the newer of two receipts first, and then the older.
+fn ask_after_both(gate: &mut Gate, newer: Receipt, older: Receipt, request: &Request) -> bool
+    requires newer { newer.opening ≡ gate.old.opening }
+    requires older { older.opening ≡ gate.old.opening }
+{
+    gate.learn(newer);
+    gate.learn(older);
+    is_timemap_of_both(gate.answer(request))
+}
+
+#[test]
+fn an_older_receipt_that_is_learnt_later_takes_nothing_away(rt: HostRuntime) -> Result<(), Fail> {
+    let asked = timemap_request(&rt)?;
+    let (one, two) = (first_merge(&rt)?, second_merge(&rt)?);
+    let Ok((mut merger, mut gates)) = open(&rt, rt.alloc(), service(&rt)?, 1) else {
+        return Err(Fail::from("not opened"));
+    };
+    let first = merger.append(&one);
+    let older = merger.publish(&rt);
+    let second = merger.append(&two);
+    let newer = merger.publish(&rt);
+    let mut both = false;
+    if let (Some(mut gate), Ok(older), Ok(newer)) = (gates.pop(), older, newer) {
+        both = ask_after_both(&mut gate, newer, older, &asked);
+    }
+    merger.close(&rt);
+    assert!(rt; first.is_ok() && second.is_ok() && both);
+    Ok(())
+}
+
+#[test]
+fn sixty_four_gates_show_what_was_published(rt: HostRuntime) -> Result<(), Fail> {
+    let asked = timegate_request(&rt)?;
+    let merge = first_merge(&rt)?;
+    let Ok((mut merger, mut gates)) = open(&rt, rt.alloc(), service(&rt)?, 64) else {
+        return Err(Fail::from("not opened"));
+    };
+    let appended = merger.append(&merge);
+    let published = merger.publish(&rt);
+    let count = gates.len();
+    let mut all = true;
+    for gate in gates.iter_mut() {
+        all = all && shown_by(gate.answer(&asked)) == Shown::First;
+    }
+    merger.close(&rt);
+    assert!(rt; appended.is_ok() && published.is_ok());
+    assert_eq!(rt; count, 64);
+    assert!(rt; all);
+    Ok(())
+}
+
+#[test]
+fn a_gate_is_closed_once_its_merger_is_and_not_before(rt: HostRuntime) -> Result<(), Fail> {
+    let asked = timegate_request(&rt)?;
+    let Ok((mut merger, mut gates)) = open(&rt, rt.alloc(), service(&rt)?, 1) else {
+        return Err(Fail::from("not opened"));
+    };
+    let Some(mut gate) = gates.pop() else {
+        merger.close(&rt);
+        return Err(Fail::from("no gate"));
+    };
+    let unpublished = shown_by(gate.answer(&asked));
+    let published = merger.publish(&rt).is_ok();
+    let before = shown_by(gate.answer(&asked));
+    merger.close(&rt);
+    let after = gate.answer(&asked).map(|reply| reply.status);
+    assert!(rt; published);
+    assert_eq!(rt; (unpublished, before), (Shown::Nothing, Shown::Nothing));
+    assert!(rt; after == Err(GateFault::Closed));
+    Ok(())
+}
+
+/// Sleeps until the flag is 1, for at most 10,000 sleeps of a millisecond, and says whether it came.
+fn wait_for<R: Clock>(rt: &R, flag: &AtomicU64) -> bool {
+    for _ in 0..10_000 {
+        if flag.load(Ordering::SeqCst) == 1 {
+            return true;
+        }
+        thread::sleep(rt, Duration::from_millis(1));
+    }
+    false
+}
+
+fn ask_and_flag(mut gate: Gate, request: &Request, flag: &AtomicU64) -> Shown {
+    let shown = shown_by(gate.answer(request));
+    flag.store(1, Ordering::SeqCst);
+    shown
+}
+
+/// Stays in the entry until the other gate has its reply.
+fn ask_and_stay<R: Clock>(
+    rt: &R,
+    mut gate: Gate,
+    request: &Request,
+    flag: &AtomicU64,
+    came: &AtomicU64,
+) -> Shown {
+    let reply = gate.answer_then(request, || {
+        if wait_for(rt, flag) {
+            came.store(1, Ordering::SeqCst);
+        }
+    });
+    shown_by(reply)
+}
+
+#[test]
+fn a_gate_that_stays_in_its_entry_keeps_no_other_waiting(rt: HostRuntime) -> Result<(), Fail> {
+    let asked = timegate_request(&rt)?;
+    let Ok((merger, mut gates)) = open(&rt, rt.alloc(), service(&rt)?, 2) else {
+        return Err(Fail::from("not opened"));
+    };
+    let flag = AtomicU64::new(0);
+    let came = AtomicU64::new(0);
+    let mut seen = (Shown::Other, Shown::Other);
+    if let (Some(second), Some(first)) = (gates.pop(), gates.pop()) {
+        let request = &asked;
+        seen = join(
+            &rt,
+            || ask_and_stay(&rt, first, request, &flag, &came),
+            || ask_and_flag(second, request, &flag),
+        );
+    }
+    merger.close(&rt);
+    assert_eq!(rt; seen, (Shown::Nothing, Shown::Nothing));
+    assert_eq!(rt; came.load(Ordering::SeqCst), 1);
+    Ok(())
+}
+
+/// A merger of the service that published this merge, with its gate.
+fn publish_one<R: Wait>(
+    rt: &R,
+    alloc: Global,
+    service: Service,
+    merge: &Merge,
+) -> Result<(Merger, Gate), Fail>
+    ensures { IfOk result (λ made. made.1.base ≡ service) }
+{
+    let Ok((mut merger, mut gates)) = open(rt, alloc, service, 1) else {
+        return Err(Fail::from("not opened"));
+    };
+    let appended = merger.append(merge);
+    let published = merger.publish(rt);
+    if let (Some(gate), Ok(()), Ok(_)) = (gates.pop(), appended, published) {
+        return Ok((merger, gate));
+    }
+    merger.close(rt);
+    Err(Fail::from("not published"))
+}
+
+/// Whether both gates answer the same to the byte, with a TimeMap.
+fn answer_alike(first: &mut Gate, second: &mut Gate, request: &Request) -> bool
+    requires { second.old.base ≡ first.old.base }
+{
+    match ask_both(first, second, request) {
+        Ok((one, other)) => {
+            one.status == 200 && other.status == 200 && one.body.as_slice() == other.body.as_slice()
+        }
+        Err(_) => false,
+    }
+}
+
+#[test]
+fn gates_of_two_replicas_with_one_state_answer_alike(rt: HostRuntime) -> Result<(), Fail> {
+    let asked = timemap_request(&rt)?;
+    let direct = harvest(&rt, b"a1", DAYS[0], FIRST)?;
+    let mut state = State::new(rt.alloc());
+    state.merge(&direct)?;
+    let base = service(&rt)?;
+    let copy = base.try_clone()?;
+    let (merger, mut gate) = publish_one(&rt, rt.alloc(), base, &Merge::Harvest(direct))?;
+    let alike = match publish_one(&rt, rt.alloc(), copy, &Merge::State(state)) {
+        Ok((other_merger, mut other)) => {
+            let alike = answer_alike(&mut gate, &mut other, &asked);
+            other_merger.close(&rt);
+            alike
+        }
+        Err(_) => false,
+    };
+    merger.close(&rt);
+    assert!(rt; alike);
+    Ok(())
+}

@@ -1,0 +1,72 @@
+//! Steps of the merger's writer, over its log and its view.
+ghost use Rattle.std.specs.Prelude.{◌≡◌, [], ◌∷◌, ◌++◌, drop, fold, IfOk, MatchResult};
+ghost use Rattle.left_right.specs.Sides.{view as view_of};
+ghost use Rattle.published_index.specs.declared.editions.Change.TheVariants.{Add, Reach};
+ghost use Rattle.published_index.specs.declared.marks.LogEntry.TheVariants.{Attempt};
+ghost use Rattle.published_index.specs.Changes.{merges_in, after_change, batches_of, book_of};
+ghost use Rattle.published_index.specs.Marks.{successes, successes_with_last, head_of};
+ghost use Rattle.published_index.specs.Rule.{view_at, IsReady, Offers};
+
+use crate::editions::Change;
+use crate::marks::{Head, Mark, NamesEntry};
+use crate::rules::{EditionWriter, Publication};
+use harvest_lattice::Merge;
+use memento_time::NoMemory;
+use std::alloc::AllocError;
+use std::sync::Wait;
+
+/// Puts the merge behind what is pending.
+pub(crate) fn add(writer: &mut EditionWriter, merge: Merge) -> Result<(), NoMemory>
+    ensures desk { writer.new.desk ≡ writer.old.desk }
+    ensures log { MatchResult result (λ _. drop writer.new.behind writer.new.log.items ≡ drop writer.old.behind writer.old.log.items ++ Add merge ∷ []) (λ _. drop writer.new.behind writer.new.log.items ≡ drop writer.old.behind writer.old.log.items) }
+{
+    match writer.append(Change::Add(merge)) {
+        Ok(()) => Ok(()),
+        Err(_) => Err(NoMemory),
+    }
+}
+
+/// Puts the mark behind what is pending.
+fn reach(writer: &mut EditionWriter, mark: Mark) -> Result<(), NoMemory>
+    ensures desk { writer.new.desk ≡ writer.old.desk }
+    ensures log { MatchResult result (λ _. drop writer.new.behind writer.new.log.items ≡ drop writer.old.behind writer.old.log.items ++ Reach mark ∷ []) (λ _. drop writer.new.behind writer.new.log.items ≡ drop writer.old.behind writer.old.log.items) }
+{
+    match writer.append(Change::Reach(mark)) {
+        Ok(()) => Ok(()),
+        Err(_) => Err(NoMemory),
+    }
+}
+
+/// Notes the attempt to publish what is pending, and puts the mark of that behind it.
+pub(crate) fn offer<B: NamesEntry>(
+    writer: &mut EditionWriter,
+    head: &Head,
+    mark: &mut Mark,
+) -> Result<(), NoMemory>
+    requires entry { B.entry ≡ Attempt (merges_in (drop writer.old.behind writer.old.log.items)) }
+    requires head { head.now ≡ head_of mark.old.seen.book }
+    requires shown { (book_of writer.old.desk.shown.value ≡ mark.old.seen.book) × (batches_of writer.old.desk.shown.value ≡ successes mark.old.seen.log) }
+    ensures desk { writer.new.desk ≡ writer.old.desk }
+    ensures pending { merges_in (drop writer.new.behind writer.new.log.items) ≡ merges_in (drop writer.old.behind writer.old.log.items) }
+    ensures mark { (mark.new.seen.book ≡ mark.old.seen.book) × (successes mark.new.seen.log ≡ successes mark.old.seen.log) }
+    ensures ready { IfOk result (λ _. Offers writer.new.desk.shown.value (drop writer.new.behind writer.new.log.items) mark.new × (successes_with_last mark.new.seen.log ≡ successes mark.old.seen.log ++ merges_in (drop writer.old.behind writer.old.log.items) ∷ [])) }
+{
+    let Some(attempted) = mark.record::<B>(head) else {
+        return Err(NoMemory);
+    };
+    *mark = attempted;
+    reach(writer, mark.copy())
+}
+
+/// Shows what is pending, whose last change is an attempt's mark.
+pub(crate) fn show<R: Wait>(
+    writer: EditionWriter,
+    rt: &R,
+) -> (EditionWriter, Result<(), AllocError>)
+    requires { IsReady writer.desk.shown.value (fold after_change writer.desk.shown.value (drop writer.behind writer.log.items)) }
+    ensures { MatchResult result.1
+        (λ _. (result.0.desk.shown.value ≡ fold after_change writer.desk.shown.value (drop writer.behind writer.log.items)) × (view_of result.0.desk.place ≡ view_at result.0.desk.shown.value) × (drop result.0.behind result.0.log.items ≡ []))
+        (λ _. (result.0.desk.shown.value ≡ writer.desk.shown.value) × (view_of result.0.desk.place ≡ view_of writer.desk.place) × (drop result.0.behind result.0.log.items ≡ drop writer.behind writer.log.items)) }
+{
+    writer.publish_as::<Publication, R>(rt)
+}
