@@ -7,6 +7,8 @@ use Rattle.aggregator.specs.declared.settings.fault.Key.{Key}
 use Rattle.aggregator.specs.declared.settings.fault.Key.TheVariants as key
 use Rattle.aggregator.specs.declared.settings.fault.SettingsFault.{SettingsFault}
 use Rattle.aggregator.specs.declared.settings.fault.SettingsFault.TheVariants as settings
+use Rattle.aggregator.specs.declared.serve.ServeFault.{ServeFault}
+use Rattle.aggregator.specs.declared.serve.ServeFault.TheVariants as serve
 use Rattle.aggregator.specs.declared.failure.Failure.{Failure}
 use Rattle.aggregator.specs.declared.failure.Failure.TheVariants.{Usage, BadLine, BadText, BadKey, NoGate, Device, NoMemory}
 
@@ -22,6 +24,12 @@ abbrev pub failure_of_settings : SettingsFault → Failure
 failure_of_settings settings.Text = BadText
 failure_of_settings (settings.Key key) = BadKey key
 failure_of_settings settings.NoMemory = NoMemory
+
+-- how a fault of serving ends the program
+abbrev pub failure_of_serving : ServeFault → Failure
+failure_of_serving serve.NoGate = NoGate
+failure_of_serving serve.Device = Device
+failure_of_serving serve.NoMemory = NoMemory
 
 -- a key of the settings as it is written
 abbrev pub name_of : Key → List ℕ

@@ -1,8 +1,9 @@
 //! How the program fails: its one line on standard error, and its exit status.
 ghost use Rattle.std.specs.Prelude.{◌≡◌, Some};
 ghost use Rattle.std.specs.Process.{exit_status};
-ghost use Rattle.aggregator.specs.Ending.{failure_of, failure_of_settings, message_of, status_of};
+ghost use Rattle.aggregator.specs.Ending.{failure_of, failure_of_serving, failure_of_settings, message_of, status_of};
 
+use crate::serve::ServeFault;
 use crate::settings::{Key, SettingsFault};
 use replica_world::ReplayFault;
 use std::process::ExitCode;
@@ -82,6 +83,18 @@ impl From<SettingsFault> for Failure {
             SettingsFault::Text => Failure::BadText,
             SettingsFault::Key(key) => Failure::BadKey(key),
             SettingsFault::NoMemory => Failure::NoMemory,
+        }
+    }
+}
+
+impl From<ServeFault> for Failure {
+    ghost from_gives = { λ fault failure. failure ≡ failure_of_serving fault };
+
+    fn from(fault: ServeFault) -> Failure {
+        match fault {
+            ServeFault::NoGate => Failure::NoGate,
+            ServeFault::Device => Failure::Device,
+            ServeFault::NoMemory => Failure::NoMemory,
         }
     }
 }

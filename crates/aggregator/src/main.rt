@@ -5,11 +5,15 @@
 
 mod check;
 mod failure;
+mod gates;
+mod rounds;
+mod serve;
 mod settings;
 mod words;
 
 use crate::check::check;
 use crate::failure::Failure;
+use crate::serve::serve_file;
 use crate::words::{Command, command_named};
 use replica_world::replay;
 use std::env::{self, Env};
@@ -31,8 +35,9 @@ fn command_of(rt: &(impl Env + AllocGlobal)) -> Result<Command, Failure> {
     command_named(word.as_str(), file)
 }
 
-fn run(rt: &HostRuntime) -> Result<(), Failure> {
-    match command_of(rt)? {
+// Does what needs no thread.
+fn run(rt: &HostRuntime, command: &Command) -> Result<(), Failure> {
+    match command {
         Command::Replay => {
             replay(rt.alloc(), &mut rt.stdin(), &mut rt.stdout())?;
             Ok(())
@@ -43,7 +48,12 @@ fn run(rt: &HostRuntime) -> Result<(), Failure> {
 }
 
 fn main(rt: HostRuntime) -> ExitCode {
-    match run(&rt) {
+    let ended = match command_of(&rt) {
+        Ok(Command::Serve(file)) => serve_file(&rt, file.as_str(), rt.stdout()),
+        Ok(command) => run(&rt, &command),
+        Err(failure) => Err(failure),
+    };
+    match ended {
         Ok(()) => ExitCode::SUCCESS,
         Err(failure) => {
             let _ = eprintln!(rt; "{failure}");
