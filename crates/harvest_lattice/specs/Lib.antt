@@ -3,8 +3,6 @@ pub mod Sets
 pub mod Lattice
 pub mod Knowledge
 pub mod Rows
-pub mod Choice
-pub mod Lists
-pub mod Merges
+pub mod News
 pub mod Shelves
 pub mod Faults

@@ -1,10 +1,11 @@
 //! What is kept of one archive and original.
-ghost use Rattle.std.specs.Prelude.{◌≡◌, ◌↔◌, IsTrue, IfOk, length};
+ghost use Rattle.std.specs.Prelude.{◌≡◌, ◌↔◌, IsTrue, IfOk, Some, length};
 ghost use Rattle.harvest_lattice.specs.Sets as set;
 ghost use Rattle.harvest_lattice.specs.Lattice.{join_kept, KeptAtMost};
+ghost use Rattle.harvest_lattice.specs.News.{news_at};
 ghost use Rattle.harvest_lattice.specs.Rows.{kept_with};
 
-use crate::mementos::{copied, in_order, is_subset, mementos_rise, united};
+use crate::mementos::{copied, in_order, is_subset, lacking, mementos_rise, united};
 use memento_time::{Memento, NoMemory};
 use std::alloc::Global;
 use std::cmp::Ordering;
@@ -100,6 +101,20 @@ impl Latest {
         };
         let mementos = united(alloc, left, right)?;
         Ok(Latest { revision, mementos })
+    }
+
+    // The part that is news where another stands.
+    pub fn news(&self, alloc: Global, standing: &Latest) -> Result<Latest, NoMemory>
+        ensures { IfOk result (λ l. l ≡ news_at (Some standing.now) self.now) }
+    {
+        if standing.revision != self.revision {
+            return self.try_clone();
+        }
+        let mementos = lacking(alloc, &self.mementos, &standing.mementos)?;
+        Ok(Latest {
+            revision: self.revision,
+            mementos,
+        })
     }
 
     // Of a lesser revision, or of the same with a subset of the mementos.

@@ -1,6 +1,6 @@
 // Lists of mementos in order, each once.
-ghost use Rattle.std.specs.Prelude.{◌≡◌, ◌++◌, IfOk, OnOk};
-ghost use Rattle.std.specs.List.{list_all};
+ghost use Rattle.std.specs.Prelude.{◌≡◌, ◌++◌, not, IfOk, OnOk};
+ghost use Rattle.std.specs.List.{filter, list_all};
 ghost use Rattle.std.specs.List.Sorted.{IsStrictlySortedBy};
 ghost use Rattle.harvest_lattice.specs.Sets as set;
 ghost use Rattle.memento_time.specs.Mementos.{memento_cmp};
@@ -72,4 +72,18 @@ fn has(list: &[Memento], memento: &Memento) -> bool
     ensures { result ≡ set.contains (set.from_list {R = memento_cmp} list.now) memento.now }
 {
     list.binary_search(memento).is_ok()
+}
+
+// Copies of those mementos of a list that another, in order, lacks.
+pub fn lacking(alloc: Global, list: &[Memento], other: &[Memento]) -> Result<Vec<Memento>, NoMemory>
+    requires { IsStrictlySortedBy memento_cmp other.now }
+    ensures { IfOk result (λ news. news.items ≡ filter (λ m. not (set.contains (set.from_list {R = memento_cmp} other.now) m)) list.now) }
+{
+    let mut news = Vec::new(alloc);
+    for memento in list {
+        if !has(other, memento) {
+            news.push(memento.try_clone()?)?;
+        }
+    }
+    Ok(news)
 }

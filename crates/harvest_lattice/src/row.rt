@@ -36,6 +36,27 @@ impl Row {
         })
     }
 
+    /// The archive of the entry.
+    pub fn archive(&self) -> ArchiveName
+        ensures { result ≡ self.now.archive }
+    {
+        self.archive
+    }
+
+    /// The original of the entry.
+    pub fn original(&self) -> &Original
+        ensures { result.now ≡ self.now.original }
+    {
+        &self.original
+    }
+
+    /// The entry.
+    pub fn entry(&self) -> Entry<'_>
+        ensures { result ≡ self.now.latest }
+    {
+        Entry::new(&self.latest)
+    }
+
     /// The same row once more.
     pub fn try_clone(&self) -> Result<Row, NoMemory>
         ensures { IfOk result (λ copy. copy ≡ self.now) }

@@ -1,21 +1,18 @@
 //! States: of each archive and original the latest revision and its mementos.
-ghost use Rattle.std.specs.Prelude.{◌≡◌, ◌<◌, ◌∷◌, [], ◌↔◌, IsTrue, IsSome, OnOk, OnErr, IfOk, Some, slice_get, map as map_list};
+ghost use Rattle.std.specs.Prelude.{◌≡◌, ◌<◌, ◌∷◌, [], ◌↔◌, IsTrue, OnOk, OnErr, IfOk, Some, slice_get, map as map_list};
 ghost use Rattle.std.specs.FinMap as map;
 ghost use Rattle.harvest_lattice.specs.Sets as set;
-ghost use Rattle.std.specs.BTreeMap as tree;
-ghost use Rattle.std.specs.List.{All};
-ghost use Rattle.memento_time.specs.Mementos.{text_cmp};
-ghost use Rattle.harvest_lattice.specs.Lists.{AreLists};
 ghost use Rattle.harvest_lattice.specs.Lattice.{AtMost, IsAtMostAt, join, joined_kept, joined_with};
 ghost use Rattle.harvest_lattice.specs.Knowledge.{lat, shown_of};
+ghost use Rattle.harvest_lattice.specs.News.{IsNews, IsNoted, news_at};
 ghost use Rattle.harvest_lattice.specs.Rows.{row_entry, map_with, put_all, RowsRise, IsStaged};
 
+use crate::changes::Changes;
 use crate::harvest::Harvest;
 use crate::latest::Latest;
-use crate::lists::Lists;
 use crate::row::{Entry, Row, rows_rise};
 use crate::shelves::{Shelves, fill_all, held, make_rooms};
-use crate::staged::{lists_with, shown_with};
+use crate::shown::shown_in;
 use crate::walk::Rows;
 use memento_time::{ArchiveName, Memento, NoMemory, Original};
 use std::alloc::Global;
@@ -124,6 +121,79 @@ impl State {
             self.stage(&mut rows, archive, original, entry.latest())?;
         }
         Ok(rows)
+    }
+
+    /// What comes with another state and is news to this one. Nothing here is changed.
+    pub fn changes(&self, other: &State) -> Result<Changes, NoMemory>
+        ensures { IfOk result (λ changes. IsNews self.now other.now changes) }
+    {
+        let mut rows = Vec::new(self.alloc);
+        for row in other.rows() {
+            let ((archive, original), entry) = row;
+            self.note(&mut rows, archive, original, entry.latest())?;
+        }
+        Ok(Changes::of(rows))
+    }
+
+    /// What comes with a harvest and is news to this state. Nothing here is changed.
+    pub fn changes_by(&self, harvest: &Harvest) -> Result<Changes, NoMemory>
+        ensures { IfOk result (λ changes. IsNews self.now (lat (harvest.now ∷ [])) changes) }
+    {
+        let mut rows = Vec::new(self.alloc);
+        self.note(
+            &mut rows,
+            harvest.archive(),
+            harvest.original(),
+            harvest.latest(),
+        )?;
+        Ok(Changes::of(rows))
+    }
+
+    // Adds the part of an entry that is news here, if there is any.
+    fn note(
+        &self,
+        rows: &mut Vec<Row>,
+        archive: ArchiveName,
+        original: &Original,
+        latest: &Latest,
+    ) -> Result<(), NoMemory>
+        ensures { OnOk result (IsNoted self.now ((archive, original.now), latest.now) rows.old.items rows.new.items) }
+    {
+        if !self.has_at_least(archive, original, latest) {
+            let latest = self.news(archive, original, latest)?;
+            let original = original.try_clone()?;
+            rows.push(Row {
+                archive,
+                original,
+                latest,
+            })?;
+        }
+        Ok(())
+    }
+
+    fn news(
+        &self,
+        archive: ArchiveName,
+        original: &Original,
+        latest: &Latest,
+    ) -> Result<Latest, NoMemory>
+        ensures { IfOk result (λ l. l ≡ news_at (map.get self.now (archive, original.now)) latest.now) }
+    {
+        match self.entry(archive, original) {
+            Some(entry) => latest.news(self.alloc, entry.latest()),
+            None => latest.try_clone(),
+        }
+    }
+
+    /// Takes changes in: what stands at their keys is joined with them.
+    pub fn put(&mut self, changes: Changes) -> Result<(), NoMemory>
+        ensures ok { OnOk result (self.new ≡ join self.old changes) }
+        ensures err { OnErr result (self.new ≡ self.old) }
+    {
+        match State::of_rows(self.alloc, changes.into_rows())? {
+            Some(other) => self.join(&other),
+            None => Ok(()),
+        }
     }
 
     // Adds what stands in the join with an entry, unless that stands here already.
@@ -266,25 +336,7 @@ impl State {
     pub fn shown(&self, original: &Original) -> Result<Vec<Memento>, NoMemory>
         ensures { IfOk result (λ list. list.items ≡ set.items (shown_of self.now original.now)) }
     {
-        let list = shown_with(&self.shelves, self.alloc, &[], original)?;
+        let list = shown_in(&self.shelves, self.alloc, original)?;
         Ok(list)
-    }
-
-    // Puts the rows, and gives the lists of their originals as they are then.
-    pub(crate) fn put_listed(&mut self, rows: Vec<Row>) -> Result<Lists, NoMemory>
-        requires { RowsRise rows.items }
-        ensures ok { OnOk result (self.new ≡ put_all (map_list row_entry rows.items) self.old) }
-        ensures lists { IfOk result (λ lists. AreLists (put_all (map_list row_entry rows.items) self.old) lists) }
-        ensures whole { IfOk result (λ lists. All (λ row. IsSome (tree.get text_cmp lists row.original)) rows.items) }
-        ensures err { OnErr result (self.new ≡ self.old) }
-    {
-        make_rooms(&mut self.shelves, self.alloc, &rows)?;
-        let lists = lists_with(&self.shelves, self.alloc, &rows)?;
-        // No memory has room for more keys than a usize counts.
-        if self.len.checked_add(rows.len()).is_none() {
-            return Err(NoMemory);
-        }
-        self.len += fill_all(&mut self.shelves, rows);
-        Ok(lists)
     }
 }

@@ -1,5 +1,5 @@
 -- Pieces that are appended one after the other.
-use Rattle.std.proofs.Common.{◌≡◌, ℕ, List, [], ◌∷◌, ◌++◌, length, take, refl, sym, ap, ◌∙◌, append_assoc, inl, inr}
+use Rattle.std.proofs.Common.{◌≡◌, ◌≤◌, arith, ℕ, List, [], ◌∷◌, ◌++◌, length, take, refl, sym, ap, ◌∙◌, append_assoc, inl, inr}
 use Rattle.std.specs.Prelude.{◌==◌, ◌||◌}
 use Rattle.std.proofs.lemmas.Bool.{cases_Bool}
 use Rattle.std.proofs.lemmas.List.{append-nil}
@@ -44,3 +44,13 @@ escape_step out value rest b e =
     ∙ ap (λ (t : List ℕ). (out ++ front is_plain value) ++ t) (sym tail)
     ∙ append_assoc out (front is_plain value) (escape (past is_plain value))
     ∙ ap (λ (t : List ℕ). out ++ t) (sym (escape_plain value))
+
+-- what is escaped is no shorter
+pub escape_longer : (value : List ℕ) → length value ≤ length (escape value)
+escape_longer [] = omega arith
+escape_longer (b ∷ value) =
+    let more = escape_longer value in
+    elim (cases_Bool (b == 34 || b == 92)) [
+      | inl special ↦ rw special (omega (arith, more))
+      | inr other ↦ rw other (omega (arith, more))
+    ]

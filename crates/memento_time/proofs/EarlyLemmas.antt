@@ -3,15 +3,20 @@ use Rattle.std.proofs.Common.{◌≡◌, ℕ, zero, suc, ◌+◌, ◌-◌, ◌*�
 use Rattle.std.proofs.lemmas.Bool.{and_parts, ltb-true}
 use Rattle.std.proofs.lemmas.Bool.Decides.{Decides-eqb, nat_tests}
 use Rattle.std.proofs.lemmas.Slice.Eq.{bytes_eq-Decides}
+use Rattle.std.proofs.lemmas.List.{length-take, take-append-drop}
 use Rattle.std.specs.Char.{is_ascii_digit}
 use Rattle.std.specs.Int.{IsInRange}
 use Rattle.std.specs.List.{list_any, list_all, zip}
 use Rattle.std.specs.Str.{bytes_eq}
 use Rattle.httpdate.specs.declared.parts.Parts.{Parts}
+use Rattle.httpdate.specs.Calendar.{days_in_month}
 use Rattle.httpdate.specs.Text.{day_name, month_name, two_digits, four_digits}
 use Rattle.memento_time.specs.BeforeEpoch.{date_form, fits, is_name, is_year_before_1970, is_before_epoch, IsBeforeEpoch}
 use Rattle.memento_time.specs.Names.{day_names, month_names}
-use Rattle.memento_time.proofs.ReadLemmas.{tail_of, imf_fixdate-tail_of, length-day_name, length-month_name}
+use Rattle.memento_time.specs.Civil.{civil_time}
+use Rattle.memento_time.specs.Second.{Reads}
+use Rattle.memento_time.proofs.CivilLemmas.{civil_time-valid}
+use Rattle.memento_time.proofs.ReadLemmas.{tail_of, drop-imf, imf_fixdate-tail_of, length-day_name, length-month_name}
 
 -- ---- bytes
 
@@ -291,3 +296,23 @@ IsBeforeEpoch-early text h =
     ∙ ap (λ name. d.0 ∷ d.1 ∷ d.2 ∷ 44 ∷ 32 ∷ (two_digits p.day ++ 32 ∷ (name ++ 32 ∷ (four_digits p.year ++ 32 ∷ (two_digits p.hour ++ 58 ∷ (two_digits p.min ++ 58 ∷ (two_digits p.sec ++ 32 ∷ 71 ∷ 77 ∷ 84 ∷ []))))))) m.3 in
     ap is_before_epoch whole
     ∙ bytes_early d.0 d.1 d.2 m.0 m.1 m.2 p.day p.year p.hour p.min p.sec h.numbers.0 most h.numbers.1 h.numbers.2 h.numbers.3 (sym (ap (is_name day_names) d.3) ∙ is_day p.wday h.weekday) (sym (ap (is_name month_names) m.3) ∙ is_month p.mon h.month) (year_test p.year most ∙ is_early)
+
+-- ---- texts that are read
+
+month_most : (y m : ℕ) → days_in_month y m ≤ 31
+month_most y m = grind (arith, nat_tests)
+
+-- a text that reads as a second has the form
+pub Reads_fits : (text : List ℕ) (s : ℕ) → Reads text s → list_all fits (zip text date_form) ≡ true
+Reads_fits text s h =
+    let p = civil_time s in
+    let valid = civil_time-valid s h.second in
+    let d = three (take 3 text) (omega (arith, h.len, length-take 3 text)) in
+    let m = three (month_name p.mon) (length-month_name p.mon valid.0.1) in
+    let day : p.day < 100 = omega (arith, valid.0.2.1, month_most p.year p.mon) in
+    let year : p.year < 10000 = omega (arith, valid.0.0.1) in
+    let whole : text ≡ d.0 ∷ d.1 ∷ d.2 ∷ 44 ∷ 32 ∷ (two_digits p.day ++ 32 ∷ m.0 ∷ m.1 ∷ m.2 ∷ 32 ∷ (four_digits p.year ++ 32 ∷ (two_digits p.hour ++ 58 ∷ (two_digits p.min ++ 58 ∷ (two_digits p.sec ++ 32 ∷ 71 ∷ 77 ∷ 84 ∷ []))))) =
+    sym (take-append-drop 3 text) ∙ ap (λ name. name ++ drop 3 text) d.3 ∙ ap (λ rest. d.0 ∷ d.1 ∷ d.2 ∷ rest) (h.rest ∙ drop-imf s h.second)
+    ∙ ap (λ name. d.0 ∷ d.1 ∷ d.2 ∷ 44 ∷ 32 ∷ (two_digits p.day ++ 32 ∷ (name ++ 32 ∷ (four_digits p.year ++ 32 ∷ (two_digits p.hour ++ 58 ∷ (two_digits p.min ++ 58 ∷ (two_digits p.sec ++ 32 ∷ 71 ∷ 77 ∷ 84 ∷ []))))))) m.3 in
+    ap (λ t. list_all fits (zip t date_form)) whole
+    ∙ digits_fit d.0 d.1 d.2 m.0 m.1 m.2 p.day p.year p.hour p.min p.sec day year (omega (arith, valid.1.0)) (omega (arith, valid.1.1)) (omega (arith, valid.1.2))

@@ -6,3 +6,7 @@ pub mod SecondOfLemmas
 pub mod MementoLemmas
 pub mod TrimLemmas
 pub mod EarlyLemmas
+pub mod CleanLemmas
+pub mod FirstLemmas
+pub mod SetLemmas
+pub mod BuilderLemmas

@@ -100,12 +100,12 @@ second_of_none text unread =
       | Some s ↦ λ e. absurd (unread s (Reads-second_of text s e))
     ] refl
 
-asked_of-Asks : (text : List ℕ) (s : ℕ) → Asks text s → asked_of text ≡ Some s
+pub asked_of-Asks : (text : List ℕ) (s : ℕ) → Asks text s → asked_of text ≡ Some s
 unfolding asked_of
 asked_of-Asks text s (inl h) = rw (second_of-Reads (trim_blanks text) s h)
 asked_of-Asks text s (inr h) = rw (second_of_none (trim_blanks text) h.unread, h.early) (ap Some (sym h.first))
 
-Asks-asked_of : (text : List ℕ) (s : ℕ) → asked_of text ≡ Some s → Asks text s
+pub Asks-asked_of : (text : List ℕ) (s : ℕ) → asked_of text ≡ Some s → Asks text s
 unfolding asked_of
 Asks-asked_of text s e =
     elim (second_of (trim_blanks text)) as (λ o. second_of (trim_blanks text) ≡ o → Asks text s) [

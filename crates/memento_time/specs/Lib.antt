@@ -8,3 +8,4 @@ pub mod Second
 pub mod Mementos
 pub mod SecondOf
 pub mod Faults
+pub mod Builder

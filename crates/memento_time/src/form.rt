@@ -26,7 +26,8 @@ fn fits(byte: u8, form: u8) -> bool
     }
 }
 
-fn fits_form(text: &[u8; 29]) -> bool
+/// Whether the text has the form of an IMF-fixdate.
+pub(crate) fn fits_form(text: &[u8; 29]) -> bool
     ensures { result ≡ list_all spec.fits (zip text.now spec.date_form) }
 {
     text.iter()

@@ -1,5 +1,5 @@
 //! Laws of the definitions.
-ghost use Rattle.std.specs.Prelude.{◌≡◌, ◌↔◌, ℕ, IsTrue, List, codes};
+ghost use Rattle.std.specs.Prelude.{◌≡◌, ◌↔◌, ℕ, IsTrue, List, Some, codes};
 ghost use Rattle.std.specs.Cmp.{IsTotalOrder};
 ghost use Rattle.std.specs.Ordering.{nat_cmp};
 ghost use Rattle.std.specs.declared.cmp.Ordering.TheVariants.{Equal};
@@ -8,7 +8,8 @@ ghost use Rattle.memento_time.specs.BeforeEpoch.{IsBeforeEpoch, is_before_epoch}
 ghost use Rattle.memento_time.specs.Blanks.{IsTrimmed, trim_blanks};
 ghost use Rattle.memento_time.specs.Civil.{civil_time};
 ghost use Rattle.memento_time.specs.Mementos.{text_cmp, memento_cmp};
-ghost use Rattle.memento_time.specs.Second.{IsSecond, imf, Reads};
+ghost use Rattle.memento_time.specs.Second.{IsSecond, imf, Reads, Asks};
+ghost use Rattle.memento_time.specs.SecondOf.{second_of, asked_of};
 ghost use Rattle.memento_time.specs.declared.mementos.Memento.{Memento as Captured};
 
 use crate::lists::Octets;
@@ -33,10 +34,13 @@ pub fn mementos_are_ordered()
     ensures exact { (a b : Captured) → memento_cmp a b ≡ Equal → a ≡ b }
 {}
 
-/// The text of each second reads as that second, and no text reads as two.
+/// The text of each second reads as that second, and no text reads as two. The functions that pages and requests are
+/// read by find these readings: `second_of` what a text reads as, `asked_of` what it asks for.
 pub fn texts_are_read()
     ensures own { (s : ℕ) → IsSecond s → Reads (imf s) s }
     ensures one { (text : List ℕ) (s t : ℕ) → Reads text s → Reads text t → s ≡ t }
+    ensures second { (text : List ℕ) (s : ℕ) → (second_of text ≡ Some s) ↔ Reads text s }
+    ensures asked { (text : List ℕ) (s : ℕ) → (asked_of text ≡ Some s) ↔ Asks text s }
 {}
 
 /// The date of a second, told day after day, is one of the calendar, and the days of whole years and months lead back

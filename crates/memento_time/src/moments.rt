@@ -8,7 +8,7 @@ ghost use Rattle.memento_time.specs.Second.{IsSecond, imf, Reads, Asks};
 ghost use Rattle.memento_time.specs.SecondOf.{second_of, asked_of};
 
 use crate::blanks::trim_blanks;
-use crate::form::{DAY_NAMES, is_before_epoch};
+use crate::form::{DAY_NAMES, fits_form, is_before_epoch};
 use httpdate::HttpDate;
 use std::marker::Model;
 
@@ -109,6 +109,10 @@ fn read_date(text: &[u8]) -> Option<Moment>
         return Some(Moment {
             secs: date.unix_secs(),
         });
+    }
+    // And most texts that are no dates have another form, so that they are parsed just once.
+    if !fits_form(bytes) {
+        return None;
     }
     date_under_any_name(bytes)
 }

@@ -1,6 +1,6 @@
 -- What an append does, by the outcome.
 use Rattle.std.proofs.Common.{◌≡◌, List, [], ◌∷◌, ◌++◌, Result, Ok, Err, MatchResult, ap, ◌∙◌}
-use Rattle.harvest_lattice.specs.declared.index.Merge.{Merge}
+use Rattle.memento_index.specs.declared.merge.Merge.{Merge}
 use Rattle.memento_time.specs.declared.faults.NoMemory.{NoMemory}
 use Rattle.published_index.specs.declared.editions.Change.{Change}
 use Rattle.published_index.specs.declared.editions.Change.TheVariants.{Add}

@@ -2,10 +2,10 @@
 use Rattle.std.proofs.Common.{◌≡◌, List, [], ◌∷◌, ◌++◌, fold, refl, sym, ap, ◌∙◌, append_assoc, append-nil, subst, Contains}
 use Rattle.std.proofs.lemmas.List.Elements.{Contains-append_left}
 use mathlib.Core.List.{IsPrefix}
-use Rattle.harvest_lattice.specs.declared.index.Merge.{Merge}
+use Rattle.memento_index.specs.declared.merge.Merge.{Merge}
 use Rattle.harvest_lattice.specs.Lattice.{Entries}
 use Rattle.harvest_lattice.specs.Knowledge.{Harvested, lat}
-use Rattle.harvest_lattice.specs.Merges.{adds_of}
+use Rattle.memento_index.specs.Merges.{adds_of}
 use Rattle.harvest_lattice.proofs.Knowledge.{lat-append}
 use Rattle.published_index.specs.declared.editions.Edition.{Edition}
 use Rattle.published_index.specs.declared.editions.Change.{Change}

@@ -11,3 +11,4 @@ pub mod Answering
 pub mod Outcomes
 pub mod Running
 pub mod Agreeing
+pub mod EventLemmas

@@ -2,7 +2,7 @@
 use Rattle.std.proofs.Common.{◌≡◌, ◌⊎◌, inl, inr, ⊎_elim, List, [], ◌∷◌, ◌++◌, refl, sym, subst}
 use mathlib.Core.List.{IsPrefix}
 use Rattle.published_index.specs.Batches.{Batch}
-use Rattle.published_index.specs.Calls.{Call, Learn, Answer, Refusal, Leads, Run}
+use Rattle.published_index.specs.Calls.{Call, Learn, Answer, Refusal, Leads, Calls}
 use Rattle.published_index.specs.Passes.{Pass, Advances}
 use Rattle.published_index.proofs.Fronts.{prefix_self, prefix_trans}
 
@@ -26,28 +26,28 @@ holds_on list old Refusal new refused = λ here.
     ⊎_elim (λ (same : new ≡ old). subst (Holds list) (sym same) here) (λ (advances : Advances old new). inl (to_front list old new advances here)) refused
 
 -- a run is a beginning and what follows it
-parts : (start end : Pass) (before after : List Call) → Run start (before ++ after) end → (mid : Pass) × Run start before mid × Run mid after end
+parts : (start end : Pass) (before after : List Call) → Calls start (before ++ after) end → (mid : Pass) × Calls start before mid × Calls mid after end
 parts start end [] after run = (start, refl, run)
 parts start end (call ∷ before) after run = let rest = parts run.0 end before after run.2 in (rest.0, (run.0, run.1, rest.1), rest.2)
 
-holds_along : (list : List Batch) (start end : Pass) (calls : List Call) → Run start calls end → Holds list start → Holds list end
+holds_along : (list : List Batch) (start end : Pass) (calls : List Call) → Calls start calls end → Holds list start → Holds list end
 holds_along list start end [] run here = subst (Holds list) (sym run) here
 holds_along list start end (call ∷ calls) run here = holds_along list run.0 end calls run.2 (holds_on list start call run.0 run.1 here)
 
 -- a list that the pass has begins each later front
-pub begins_later : (list : List Batch) (start end : Pass) (between after : List Call) (front : List Batch) → Run start (between ++ Answer front ∷ after) end → Holds list start → IsPrefix list front
+pub begins_later : (list : List Batch) (start end : Pass) (between after : List Call) (front : List Batch) → Calls start (between ++ Answer front ∷ after) end → Holds list start → IsPrefix list front
 begins_later list start end between after front run here =
     let later = parts start end between (Answer front ∷ after) run in
     let at : Holds list later.0 = holds_along list start later.0 between later.1 here in
     along list later.2.0.front front (sym later.2.1.1) (to_front list later.0 later.2.0 later.2.1.0 at)
 
-pub after_answer : (start end : Pass) (before between after : List Call) (earlier later : List Batch) → Run start (before ++ Answer earlier ∷ (between ++ Answer later ∷ after)) end → IsPrefix earlier later
+pub after_answer : (start end : Pass) (before between after : List Call) (earlier later : List Batch) → Calls start (before ++ Answer earlier ∷ (between ++ Answer later ∷ after)) end → IsPrefix earlier later
 after_answer start end before between after earlier later run =
     let here = parts start end before (Answer earlier ∷ (between ++ Answer later ∷ after)) run in
     let mid = here.2.0 in
     begins_later earlier mid end between after later here.2.2 (inl (along earlier earlier mid.front here.2.1.1 (prefix_self earlier)))
 
-pub after_learning : (start end : Pass) (before between after : List Call) (list front : List Batch) → Run start (before ++ Learn list ∷ (between ++ Answer front ∷ after)) end → IsPrefix list front
+pub after_learning : (start end : Pass) (before between after : List Call) (list front : List Batch) → Calls start (before ++ Learn list ∷ (between ++ Answer front ∷ after)) end → IsPrefix list front
 after_learning start end before between after list front run =
     let here = parts start end before (Learn list ∷ (between ++ Answer front ∷ after)) run in
     begins_later list here.2.0 end between after front here.2.2 (inr here.2.1.told)

@@ -16,6 +16,6 @@ Leads old (Answer front) new = Advances old new × (new.front ≡ front)
 Leads old Refusal new = (new ≡ old) ⊎ Advances old new
 
 -- what the calls make of it, one after the other
-abbrev pub Run : Pass → List Call → Pass → Type 0
-Run start [] end = end ≡ start
-Run start (call ∷ calls) end = (mid : Pass) × Leads start call mid × Run mid calls end
+abbrev pub Calls : Pass → List Call → Pass → Type 0
+Calls start [] end = end ≡ start
+Calls start (call ∷ calls) end = (mid : Pass) × Leads start call mid × Calls mid calls end

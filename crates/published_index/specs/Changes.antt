@@ -1,10 +1,10 @@
 -- What the merger's log of changes holds, and what it does to a copy.
 use Rattle.std.specs.Prelude.{◌≡◌, List, [], ◌∷◌}
 use Rattle.logbook.specs.Pages.{Book}
-use Rattle.harvest_lattice.specs.declared.index.Merge.{Merge}
+use Rattle.memento_index.specs.declared.merge.Merge.{Merge}
 use Rattle.harvest_lattice.specs.Lattice.{Entries, join}
 use Rattle.harvest_lattice.specs.Knowledge.{lat}
-use Rattle.harvest_lattice.specs.Merges.{adds_of}
+use Rattle.memento_index.specs.Merges.{adds_of}
 use Rattle.published_index.specs.declared.editions.Edition.{Edition}
 use Rattle.published_index.specs.declared.editions.Change.{Change}
 use Rattle.published_index.specs.declared.editions.Change.TheVariants.{Reach, Add}

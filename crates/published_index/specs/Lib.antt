@@ -1,6 +1,7 @@
 pub mod Batches
 pub mod Calls
 pub mod Changes
+pub mod Events
 pub mod Faults
 pub mod Marks
 pub mod Passes

@@ -3,8 +3,8 @@ ghost use Rattle.std.specs.Prelude.{◌≡◌};
 ghost use Rattle.std.specs.FinMap as map;
 
 use crate::marks::Mark;
-use harvest_lattice::{Index, Merge};
 use left_right::Absorb;
+use memento_index::{Index, Merge};
 use std::alloc::{AllocError, Global};
 
 /// What the merger's log holds for the copies: the merges of a batch, and behind them the mark that it reaches.

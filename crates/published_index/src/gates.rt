@@ -37,7 +37,7 @@ impl Model for Gate {
     ghost use Rattle.published_index.specs.Passes.{told_list, opening_of};
     ghost use Rattle.published_index.specs.Views.{GateView};
     ghost use Rattle.std.specs.Coded.{codes};
-    ghost use Rattle.harvest_lattice.specs.contracts.index.Merge as merge;
+    ghost use Rattle.memento_index.specs.contracts.merge.Merge as merge;
 
     ghost Value = { GateView };
 

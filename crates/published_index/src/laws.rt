@@ -1,26 +1,30 @@
 //! What follows for one gate from its calls, and for the replies of two.
-ghost use Rattle.std.specs.Prelude.{◌≡◌, ℕ, [], ◌∷◌, ◌++◌, List, Contains, fold};
+ghost use Rattle.std.specs.Prelude.{◌≡◌, ℕ, [], ◌∷◌, ◌++◌, List, All, Contains, Some, Ok, fold, map};
 ghost use mathlib.Core.List.{IsPrefix};
-ghost use Rattle.harvest_lattice.specs.declared.index.Merge.{Merge};
+ghost use Rattle.memento_index.specs.declared.merge.Merge.{Merge};
 ghost use Rattle.harvest_lattice.specs.Knowledge.{Harvested, lat};
-ghost use Rattle.harvest_lattice.specs.Merges.{adds_of};
+ghost use Rattle.memento_index.specs.Merges.{adds_of};
 ghost use Rattle.timegate.specs.Reply.{reply};
 ghost use Rattle.timegate.specs.declared.request.Request.{Request};
-ghost use Rattle.published_index.specs.Batches.{Batch, fold_of, merges_of};
-ghost use Rattle.published_index.specs.Calls.{Call, Learn, Answer, Run};
+ghost use Rattle.replica_events.specs.declared.event.Event.TheVariants.{Ask};
+ghost use Rattle.replica_events.specs.declared.event.Said.TheVariants.{Replied};
+ghost use Rattle.replica_events.specs.World.{World, Replica, Run, Step, replica, taking, with_replica};
+ghost use Rattle.published_index.specs.Batches.{Batch, fold_of, harvests_of, merges_of};
+ghost use Rattle.published_index.specs.Calls.{Call, Learn, Answer, Calls};
+ghost use Rattle.published_index.specs.Events.{answer_to, event_of, IsReceivable};
 ghost use Rattle.published_index.specs.Passes.{Pass};
 
 /// Whatever a gate is asked and told: the front of an earlier reply begins that of each later one.
 pub fn answers_never_go_back()
     ensures { (start end : Pass) (before between after : List Call) (earlier later : List Batch)
-        → Run start (before ++ Answer earlier ∷ (between ++ Answer later ∷ after)) end → IsPrefix earlier later }
+        → Calls start (before ++ Answer earlier ∷ (between ++ Answer later ∷ after)) end → IsPrefix earlier later }
 {}
 
 /// A gate that learnt a receipt serves each merge in it: each later reply is made from a front that begins with the
 /// receipt's list, and so has each of its merges and of its harvests.
 pub fn what_is_learnt_is_served()
     ensures front { (start end : Pass) (before between after : List Call) (list front : List Batch)
-        → Run start (before ++ Learn list ∷ (between ++ Answer front ∷ after)) end → IsPrefix list front }
+        → Calls start (before ++ Learn list ∷ (between ++ Answer front ∷ after)) end → IsPrefix list front }
     ensures merges { (list front : List Batch) → IsPrefix list front → (m : Merge) → Contains (merges_of list) m → Contains (merges_of front) m }
     ensures harvests { (list front : List Batch) → IsPrefix list front → (h : Harvested) → Contains (fold_of list) h → Contains (fold_of front) h }
 {}
@@ -28,6 +32,21 @@ pub fn what_is_learnt_is_served()
 /// A publish adds what the merges of its batch add, one after the other, with nothing between.
 pub fn a_publish_adds_its_batch()
     ensures { (list : List Batch) (batch : Batch) → fold_of (list ++ batch ∷ []) ≡ fold (λ taken merge. taken ++ adds_of merge) (fold_of list) batch }
+{}
+
+/// A publish is the events of its batch at this replica, in order, with nothing between: each harvest is taken, and each
+/// state is received as its text. `run` asks that each text may be received; `a_publish_adds_its_batch` says the same of
+/// states of any size.
+pub fn a_publish_is_events()
+    ensures run { (base : List ℕ) (w : World) (i : ℕ) (r : Replica) (batch : Batch) → replica w i ≡ Some r → All IsReceivable batch
+        → Run base w (map (event_of i) batch) (map answer_to batch) (with_replica w i (taking r (harvests_of batch))) }
+    ensures taken { (list : List Batch) (batch : Batch) (r : Replica) → r.taken ≡ fold_of list → (taking r (harvests_of batch)).taken ≡ fold_of (list ++ batch ∷ []) }
+{}
+
+/// An entry is an Ask of this replica, where it has taken what the front holds.
+pub fn an_entry_is_an_ask()
+    ensures { (base : List ℕ) (w : World) (i : ℕ) (r : Replica) (front : List Batch) (q : Request) → replica w i ≡ Some r → r.taken ≡ fold_of front
+        → Step base w (Ask i q) (Ok (Replied (reply base (fold_of front) q))) w }
 {}
 
 /// Gates of two replicas with one base, whose fronts have the same state, give the same replies.

@@ -5,8 +5,8 @@
 ghost use Rattle.std.specs.Prelude.{◌≡◌, ◌⊎◌, ◌∷◌, ◌++◌, [], IfSome, IsTrue, length};
 ghost use mathlib.Core.List.{IsPrefix};
 
-use harvest_lattice::Merge;
 use logbook::{Gain, Offer, Plain, Play, Rule, Seen, Start, Word};
+use memento_index::Merge;
 use std::marker::{Brand, PhantomData};
 use std::sync::Wait;
 

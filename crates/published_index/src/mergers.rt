@@ -7,7 +7,7 @@ use crate::receipts::Receipt;
 use crate::rules::EditionWriter;
 use crate::writing::{add, offer, show};
 use core::mem::replace_with;
-use harvest_lattice::Merge;
+use memento_index::Merge;
 use memento_time::NoMemory;
 use std::marker::{Brand, Model};
 use std::sync::Wait;
@@ -33,7 +33,7 @@ impl Model for Merger {
     ghost use Rattle.published_index.specs.Passes.{opening_of};
     ghost use Rattle.published_index.specs.Views.{MergerView};
     ghost use Rattle.std.specs.Coded.{codes};
-    ghost use Rattle.harvest_lattice.specs.contracts.index.Merge as merge;
+    ghost use Rattle.memento_index.specs.contracts.merge.Merge as merge;
 
     ghost Value = { MergerView };
 

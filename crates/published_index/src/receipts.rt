@@ -14,7 +14,7 @@ impl Model for Receipt {
     ghost use Rattle.published_index.specs.Passes.{opening_of};
     ghost use Rattle.published_index.specs.Views.{ReceiptView};
     ghost use Rattle.std.specs.Coded.{codes};
-    ghost use Rattle.harvest_lattice.specs.contracts.index.Merge as merge;
+    ghost use Rattle.memento_index.specs.contracts.merge.Merge as merge;
 
     ghost Value = { ReceiptView };
 

@@ -1,9 +1,10 @@
 //! What no contract says: that calls succeed where memory is there, that gates answer side by side, and that a gate is
 //! closed once its merger is and not before.
-ghost use Rattle.std.specs.Prelude.{◌≡◌, IfOk};
+ghost use Rattle.std.specs.Prelude.{◌≡◌, IfSome};
 
 use crate::{Gate, GateFault, Merger, Receipt, ask_both, open};
-use harvest_lattice::{Harvest, Merge, State};
+use harvest_lattice::{Harvest, State};
+use memento_index::Merge;
 use memento_time::{ArchiveName, Clean, Items, Memento, Moment, Octets, Original};
 use std::alloc::Global;
 use std::sync::Wait;
@@ -334,19 +335,19 @@ fn publish_one<R: Wait>(
     alloc: Global,
     service: Service,
     merge: &Merge,
-) -> Result<(Merger, Gate), Fail>
-    ensures { IfOk result (λ made. made.1.base ≡ service) }
+) -> Option<(Merger, Gate)>
+    ensures { IfSome result (λ made. made.1.base ≡ service) }
 {
     let Ok((mut merger, mut gates)) = open(rt, alloc, service, 1) else {
-        return Err(Fail::from("not opened"));
+        return None;
     };
     let appended = merger.append(merge);
     let published = merger.publish(rt);
     if let (Some(gate), Ok(()), Ok(_)) = (gates.pop(), appended, published) {
-        return Ok((merger, gate));
+        return Some((merger, gate));
     }
     merger.close(rt);
-    Err(Fail::from("not published"))
+    None
 }
 
 /// Whether both gates answer the same to the byte, with a TimeMap.
@@ -369,16 +370,19 @@ fn gates_of_two_replicas_with_one_state_answer_alike(rt: HostRuntime) -> Result<
     state.merge(&direct)?;
     let base = service(&rt)?;
     let copy = base.try_clone()?;
-    let (merger, mut gate) = publish_one(&rt, rt.alloc(), base, &Merge::Harvest(direct))?;
-    let alike = match publish_one(&rt, rt.alloc(), copy, &Merge::State(state)) {
-        Ok((other_merger, mut other)) => {
-            let alike = answer_alike(&mut gate, &mut other, &asked);
+    let mut alike = false;
+    if let Some((merger, mut gate)) = publish_one(&rt, rt.alloc(), base, &Merge::Harvest(direct)) {
+        if let Some((other_merger, mut other)) = publish_one(
+            &rt,
+            rt.alloc(),
+            copy,
+            &Merge::State(state),
+        ) {
+            alike = answer_alike(&mut gate, &mut other, &asked);
             other_merger.close(&rt);
-            alike
         }
-        Err(_) => false,
-    };
-    merger.close(&rt);
+        merger.close(&rt);
+    }
     assert!(rt; alike);
     Ok(())
 }

@@ -1,5 +1,5 @@
 //! What the rule of the published copies knows of one reader, or of the writer. No value of these types is made.
-use harvest_lattice::Merge;
+use memento_index::Merge;
 
 /// Which opening it is: the names of the log that the opening's merger and gates share.
 pub struct Opening {

@@ -10,7 +10,7 @@ ghost use Rattle.published_index.specs.Rule.{view_at, IsReady, Offers};
 use crate::editions::Change;
 use crate::marks::{Head, Mark, NamesEntry};
 use crate::rules::{EditionWriter, Publication};
-use harvest_lattice::Merge;
+use memento_index::Merge;
 use memento_time::NoMemory;
 use std::alloc::AllocError;
 use std::sync::Wait;

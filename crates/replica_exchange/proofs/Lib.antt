@@ -1,4 +1,3 @@
-pub mod DecimalLemmas
 pub mod SpellingLemmas
 pub mod Sequences
 pub mod PartLemmas

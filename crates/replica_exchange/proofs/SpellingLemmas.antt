@@ -1,43 +1,24 @@
 -- A field ends at the first of its end byte, so a text begins with at most one.
-use Rattle.std.proofs.Common.{◌≡◌, ◌≢◌, ℕ, ◌^◌, ◌<◌, inl, inr, List, [], ◌∷◌, ◌++◌, length, get_or, take, drop, true, false, refl, sym, ap, subst, ◌∙◌, append_assoc, arith}
-use Rattle.std.specs.Int.{IsInRange}
+use Rattle.std.proofs.Common.{◌≡◌, ◌≢◌, ℕ, ◌^◌, ◌<◌, inl, inr, List, [], ◌∷◌, ◌++◌, length, take, drop, true, false, refl, sym, ap, subst, ◌∙◌, append_assoc, arith}
 use Rattle.std.specs.Fmt.{decimal}
-use Rattle.std.specs.Str.Parse.{AllDigits}
 use Rattle.std.specs.Bool.{nat_eq}
 use Rattle.std.specs.Cmp.Lexicographic.{pointwise}
 use Rattle.std.proofs.lemmas.Slice.Eq.{bytes_eq-Decides}
-use Rattle.std.proofs.lemmas.List.{get_or_default, take_at, take-append-drop}
-use Rattle.std.proofs.lemmas.List.Elements.{All-head, All-tail, All-weaker}
-use Rattle.std.proofs.lemmas.Str.Parse.{digit_at}
+use Rattle.std.proofs.lemmas.List.{take_at, take-append-drop}
+use Rattle.std.proofs.lemmas.List.Elements.{All-weaker}
 use Rattle.std.proofs.lemmas.Fmt.{decimal_injective}
 use Rattle.memento_time.specs.Text.{IsClean, IsCleanByte, IsArchiveName, IsNameByte, IsOriginal}
 use Rattle.memento_time.specs.declared.faults.CleanFault.{CleanFault}
 use Rattle.memento_time.specs.declared.faults.CleanFault.TheVariants.{NotClean, NoMemory}
 use Rattle.replica_exchange.specs.Faults.{fault_of}
-use Rattle.replica_exchange.specs.Spelling.{Spelling, Begins, Refuses, Lacks, ended, field, number}
-use Rattle.replica_exchange.proofs.DecimalLemmas.{decimal_digits}
+use Rattle.text_fields.specs.Parts.{Lacks}
+use Rattle.text_fields.proofs.PartLemmas.{one_split, no_split}
+use Rattle.text_fields.proofs.DecimalLemmas.{decimal_lacks}
+use Rattle.replica_exchange.specs.Spelling.{Spelling, Begins, Refuses, ended, field, number}
 
 -- no text begins with two of these values, or in two ways with one
 abbrev pub Once : {A : Type 0} → Spelling A → Type 0
 Once {A} s = (text : List ℕ) (x y : A) (r t : List ℕ) → Begins s text x r → Begins s text y t → (x ≡ y) × (r ≡ t)
-
--- ---- the first of a byte
-
--- a text has one front without the byte before it
-pub cut_once : (byte : ℕ) (a b x y : List ℕ) → Lacks byte a → Lacks byte b → a ++ byte ∷ x ≡ b ++ byte ∷ y → (a ≡ b) × (x ≡ y)
-cut_once byte [] [] x y la lb e = (refl, cc)
-cut_once byte [] (c ∷ b) x y la lb e = absurd (All-head (λ d. d ≢ byte) c b lb (cc))
-cut_once byte (c ∷ a) [] x y la lb e = absurd (All-head (λ d. d ≢ byte) c a la (cc))
-cut_once byte (c ∷ a) (d ∷ b) x y la lb e =
-    let heads : c ≡ d = cc in
-    let tails : a ++ byte ∷ x ≡ b ++ byte ∷ y = cc in
-    let rest = cut_once byte a b x y (All-tail (λ d. d ≢ byte) c a la) (All-tail (λ d. d ≢ byte) d b lb) tails in
-    ((λ i. heads i ∷ rest.0 i), rest.1)
-
--- a text with the byte in it doesn't lack it
-pub cut_none : (byte : ℕ) (a x : List ℕ) → ¬ Lacks byte (a ++ byte ∷ x)
-cut_none byte [] x lacks = All-head (λ d. d ≢ byte) byte x lacks refl
-cut_none byte (c ∷ a) x lacks = cut_none byte a x (All-tail (λ d. d ≢ byte) c (a ++ byte ∷ x) lacks)
 
 -- ---- given bytes in front
 
@@ -67,18 +48,18 @@ module _ {A : Type 0} (Is : A → Type 0) (written : A → List ℕ) (byte : ℕ
 
   -- a text that lacks the byte begins with no field that it ends
   pub ended_none : (text : List ℕ) → Lacks byte text → (v : A) (rest : List ℕ) → ¬ Begins (ended Is written byte) text v rest
-  ended_none text lacks v rest begins = cut_none byte (written v) rest (subst (Lacks byte) (regrouped text v rest begins) lacks)
+  ended_none text lacks v rest begins = no_split byte (written v) rest (subst (Lacks byte) (regrouped text v rest begins) lacks)
 
   module _ (lack : (v : A) → Is v → Lacks byte (written v)) where
     -- a field that is no written value is refused
     pub ended_refused : (text front rest : List ℕ) → text ≡ front ++ byte ∷ rest → Lacks byte front → ((v : A) → Is v → ¬ (front ≡ written v)) → (v : A) (r : List ℕ) → ¬ Begins (ended Is written byte) text v r
     ended_refused text front rest whole lacks other v r begins =
-        let once = cut_once byte front (written v) rest r lacks (lack v begins.is) (sym whole ∙ regrouped text v r begins) in
+        let once = one_split byte front (written v) rest r lacks (lack v begins.is) (sym whole ∙ regrouped text v r begins) in
         other v begins.is once.0
 
     pub ended_once : ((x y : A) → Is x → Is y → written x ≡ written y → x ≡ y) → Once (ended Is written byte)
     ended_once one text x y r t bx by =
-        let once = cut_once byte (written x) (written y) r t (lack x bx.is) (lack y by.is) (sym (regrouped text x r bx) ∙ regrouped text y t by) in
+        let once = one_split byte (written x) (written y) r t (lack x bx.is) (lack y by.is) (sym (regrouped text x r bx) ∙ regrouped text y t by) in
         (one x y bx.is by.is once.0, once.1)
 
 -- a field of another kind
@@ -93,15 +74,6 @@ clean_refused Is byte lack text front rest whole lacks NotClean other = field_re
 clean_refused Is byte lack text front rest whole lacks NoMemory other = tt
 
 -- ---- which fields lack which bytes
-
-digits_lack : (byte : ℕ) (ds : List ℕ) → byte < 48 → AllDigits 10 ds → Lacks byte ds
-digits_lack byte ds low all k d lt =
-    let range : IsInRange 48 57 (get_or ds k 0) = digit_at ds k all lt in
-    let same : get_or ds k d ≡ get_or ds k 0 = get_or_default ds k d 0 lt in
-    λ is. omega (arith, range, same, is)
-
-pub decimal_lacks : (byte : ℕ) → byte < 48 → (n : ℕ) → n < 2 ^ 64 → Lacks byte (decimal n)
-decimal_lacks byte low n small = digits_lack byte (decimal n) low (decimal_digits n small)
 
 pub clean_lacks : (text : List ℕ) → IsClean text → Lacks 10 text
 clean_lacks text clean = All-weaker IsCleanByte (λ b. b ≢ 10) (λ b is same. omega (arith, is.0, same)) text clean.1

@@ -1,5 +1,5 @@
 -- Ways of writing values, and what a reader answers of a text that is to begin with a written value.
-use Rattle.std.specs.Prelude.{◌≡◌, ◌≢◌, ⊤, ℕ, ◌<◌, ◌^◌, List, [], ◌∷◌, ◌++◌, All}
+use Rattle.std.specs.Prelude.{◌≡◌, ⊤, ℕ, ◌<◌, ◌^◌, List, [], ◌∷◌, ◌++◌}
 use Rattle.std.specs.Fmt.{decimal}
 use Rattle.replica_exchange.specs.declared.fault.StateFault.{StateFault}
 use Rattle.replica_exchange.specs.declared.fault.StateFault.TheVariants.{TooLong, NotState, NoMemory}
@@ -25,10 +25,6 @@ abbrev pub RefusesWhole : {A : Type 0} → Spelling A → List ℕ → StateFaul
 RefusesWhole s text TooLong = ⊥
 RefusesWhole {A} s text NotState = (value : A) → ¬ Begins s text value []
 RefusesWhole s text NoMemory = ⊤
-
--- the byte doesn't occur
-abbrev pub Lacks : ℕ → List ℕ → Type 0
-Lacks byte text = All (λ b. b ≢ byte) text
 
 -- a value, written so, and the byte that ends it
 abbrev pub ended : {A : Type 0} → (A → Type 0) → (A → List ℕ) → ℕ → Spelling A

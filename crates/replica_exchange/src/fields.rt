@@ -1,17 +1,13 @@
 //! The fields of a line, read from the front of a text.
-ghost use Rattle.std.specs.Prelude.{◌≡◌, ◌↔◌, ℕ, ◌+◌, ◌-◌, ◌*◌, ◌^◌, ◌<◌, List, ◌++◌, ◌∷◌, length};
-ghost use Rattle.std.specs.Prelude.{slice_index, IsTrue, IfSome, IfNone, IfOk, IfErr};
-ghost use Rattle.std.specs.Option.{SomeIff};
-ghost use Rattle.std.specs.Int.{IsInRange};
-ghost use Rattle.std.specs.Fmt.{decimal};
-ghost use Rattle.std.specs.Str.Parse.{AllDigits, digits_value};
+ghost use Rattle.std.specs.Prelude.{◌≡◌, ℕ, ◌<◌, List, ◌++◌, ◌∷◌, IfOk, IfErr};
 ghost use Rattle.memento_time.specs.Text.{IsOriginal, IsClean};
-ghost use Rattle.replica_exchange.specs.Spelling.{Begins, Refuses, Lacks, field, number};
+ghost use Rattle.text_fields.specs.Parts.{Lacks};
+ghost use Rattle.replica_exchange.specs.Spelling.{Begins, Refuses, field, number};
 
 use crate::fault::StateFault;
-use memchr::memchr;
 use memento_time::{Clean, Original};
 use std::alloc::Global;
+use text_fields::{read_decimal, split_once};
 
 /// The field before the first of a byte, and what follows that byte.
 pub fn cut(text: &[u8], byte: u8) -> Result<(&[u8], &[u8]), StateFault>
@@ -19,10 +15,7 @@ pub fn cut(text: &[u8], byte: u8) -> Result<(&[u8], &[u8]), StateFault>
     ensures first { IfOk result (λ cut. Lacks byte cut.0.now) }
     ensures refused { IfErr result (λ fault. (fault ≡ StateFault.NotState) × Lacks byte text.now) }
 {
-    match memchr(byte, text) {
-        Some(at) => Ok((&text[..at], &text[at + 1..])),
-        None => Err(StateFault::NotState),
-    }
+    split_once(text, byte).ok_or(StateFault::NotState)
 }
 
 /// What follows these bytes.
@@ -35,52 +28,6 @@ pub fn skip<'a>(text: &'a [u8], front: &[u8]) -> Result<&'a [u8], StateFault>
         Some(rest) => Ok(rest),
         None => Err(StateFault::NotState),
     }
-}
-
-/// The number with one more digit behind it.
-fn appended(number: u64, digit: u8) -> Option<u64>
-    ensures { let next = number * 10 + (digit - 48) in
-        SomeIff result (IsInRange 48 57 digit × (next < 2 ^ 64)) next }
-{
-    if !digit.is_ascii_digit() {
-        return None;
-    }
-    number.checked_mul(10)?.checked_add(u64::from(digit - b'0'))
-}
-
-/// The number that digits write, with any zeros in front.
-fn read_digits(digits: &[u8]) -> Option<u64>
-    ensures { let value = digits_value 10 digits.now in
-        SomeIff result (AllDigits 10 digits.now × (value < 2 ^ 64)) value }
-{
-    let mut number = 0;
-    for digit in digits {
-        number = appended(number, *digit)?;
-    }
-    Some(number)
-}
-
-/// Whether there are digits, and no zero in front of another.
-fn has_decimal_front(digits: &[u8]) -> bool
-    ensures { IsTrue result
-        ↔ (0 < length digits.now) × (slice_index digits.now 0 ≡ 48 → length digits.now ≡ 1) }
-{
-    match digits {
-        [] => false,
-        [b'0', rest @ ..] => rest.is_empty(),
-        _ => true,
-    }
-}
-
-/// The number whose decimal this is.
-fn read_decimal(digits: &[u8]) -> Option<u64>
-    ensures found { IfSome result (λ n. (n < 2 ^ 64) × (digits.now ≡ decimal n)) }
-    ensures none { IfNone result ((n : ℕ) → n < 2 ^ 64 → ¬ (digits.now ≡ decimal n)) }
-{
-    if !has_decimal_front(digits) {
-        return None;
-    }
-    read_digits(digits)
 }
 
 /// A number and the byte that ends it, and what follows.

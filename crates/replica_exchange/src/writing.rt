@@ -9,9 +9,9 @@ ghost use Rattle.replica_exchange.specs.StateText.{IsEntryLine, IsEntry, IsState
 ghost use Rattle.harvest_lattice.specs.Sets as set;
 
 use harvest_lattice::{Entry, State};
-use itoa::Buffer;
 use memento_time::{ArchiveName, Memento, NoMemory, Original};
 use std::alloc::{AllocError, Global};
+use text_fields::write_decimal;
 
 /// A field and the byte that ends it.
 fn write_field(out: &mut Vec<u8>, field: &[u8], end: u8) -> Result<(), AllocError>
@@ -27,8 +27,9 @@ fn write_number(out: &mut Vec<u8>, number: u64, end: u8) -> Result<(), AllocErro
     ensures written { OnOk result (out.new.items ≡ out.old.items ++ (decimal number ++ end ∷ [])) }
     ensures fits { number < 2 ^ 64 }
 {
-    let mut buffer = Buffer::new();
-    write_field(out, buffer.format(number).as_bytes(), end)
+    write_decimal(out, number)?;
+    out.push(end)?;
+    Ok(())
 }
 
 fn write_memento(out: &mut Vec<u8>, memento: &Memento) -> Result<(), AllocError>

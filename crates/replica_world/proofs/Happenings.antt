@@ -11,10 +11,10 @@ use Rattle.timemap_reader.specs.declared.page.Page.{Page}
 use Rattle.harvest_lattice.specs.Sets as set
 use Rattle.harvest_lattice.specs.Knowledge.{Harvested}
 use Rattle.harvest_lattice.proofs.Ordered.{items_in_order}
-use Rattle.replica_world.specs.declared.event.Event.{Event}
-use Rattle.replica_world.specs.declared.event.Event.TheVariants.{Take}
-use Rattle.replica_world.specs.declared.event.Refused.TheVariants.{NoMemory}
-use Rattle.replica_world.specs.World.{World, Answer, Effect, RunsOut}
+use Rattle.replica_events.specs.declared.event.Event.{Event}
+use Rattle.replica_events.specs.declared.event.Event.TheVariants.{Take}
+use Rattle.replica_events.specs.declared.event.Refused.TheVariants.{NoMemory}
+use Rattle.replica_events.specs.World.{World, Answer, Effect, RunsOut}
 use Rattle.replica_world.specs.Stands.{Kept, Steps}
 use Rattle.replica_world.specs.Fields.{utf8_text}
 use Rattle.replica_world.specs.Script.{Taking}

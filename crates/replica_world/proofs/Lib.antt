@@ -1,6 +1,5 @@
 pub mod Places
 pub mod Worlds
-pub mod Replies
 pub mod Questions
 mod ReadBack
 mod Lines
@@ -11,8 +10,4 @@ mod Progress
 mod Happenings
 mod LaidOut
 mod WholeScript
-mod Histories
-mod Explained
-mod Outcomes
-mod Deliveries
 mod Reached

@@ -3,11 +3,10 @@ use Rattle.std.proofs.Common.{◌≡◌, ℕ, ◌⊎◌, List, [], ◌∷◌, �
 use Rattle.std.specs.Prelude.{MatchOption}
 use Rattle.timemap_reader.specs.Answer.{IsAnswer}
 use Rattle.timemap_reader.specs.declared.page.Page.{Page}
-use Rattle.harvest_lattice.specs.Lattice.{Entries}
-use Rattle.replica_exchange.proofs.StateLemmas.{one_text}
-use Rattle.replica_world.specs.declared.event.Event.{Event}
-use Rattle.replica_world.specs.declared.event.Event.TheVariants.{Take, Send, Deliver, Receive, Restart, Ask}
-use Rattle.replica_world.specs.World.{World, Answer, Effect, start, IfText, replica, message}
+use Rattle.replica_events.specs.declared.event.Event.{Event}
+use Rattle.replica_events.specs.declared.event.Event.TheVariants.{Take}
+use Rattle.replica_events.specs.World.{World, start}
+use Rattle.replica_events.proofs.Outcomes.{Once, either_once, match_once, named_once, effect_once}
 use Rattle.replica_world.specs.Fields.{utf8_text}
 use Rattle.replica_world.specs.Script as script
 use Rattle.replica_world.specs.Script.{Command, Taking, Start}
@@ -16,50 +15,6 @@ use Rattle.replica_world.specs.Output.{Happens, IsPage, TakesHarvest, Performs, 
 -- a base and a body have at most one page
 abbrev pub OnePage : Type 0
 OnePage = (base body : List ℕ) (page other : Page) → IsAnswer base body (Ok page) → IsAnswer base body (Ok other) → page ≡ other
-
--- a relation holds of one pair at most
-abbrev pub Once : {A : Type 0} → (A → World → Type 0) → Type 0
-Once {A} P = (a : A) (n : World) (b : A) (m : World) → P a n → P b m → (a ≡ b) × (n ≡ m)
-
--- of two that exclude each other, each once
-either_once : {A : Type 0} (P Q : Type 0) (F G : A → World → Type 0) → (P → Q → ⊥) → Once F → Once G → Once (λ a n. (P × F a n) ⊎ (Q × G a n))
-either_once P Q F G apart f g a n b m (inl p) (inl q) = f a n b m p.1 q.1
-either_once P Q F G apart f g a n b m (inl p) (inr q) = absurd (apart p.0 q.0)
-either_once P Q F G apart f g a n b m (inr p) (inl q) = absurd (apart q.0 p.0)
-either_once P Q F G apart f g a n b m (inr p) (inr q) = g a n b m p.1 q.1
-
--- where there is something, and where there is nothing
-match_once : {A X : Type 0} (o : Option X) (F : A → World → Type 0) (G : X → A → World → Type 0) → Once F → ((x : X) → Once (G x)) → Once (λ a n. MatchOption o (F a n) (λ x. G x a n))
-match_once None F G f g a n b m p q = f a n b m p q
-match_once (Some x) F G f g a n b m p q = g x a n b m p q
-
--- ---- events
-
--- the two values are named
-named_once : {A : Type 0} (x : A) (w : World) → Once (λ a n. (a ≡ x) × (n ≡ w))
-named_once x w a n b m p q = (p.0 ∙ sym q.0, p.1 ∙ sym q.1)
-
--- bytes are the text of one state at most
-text_once : (bytes : List ℕ) (F : Entries → Answer → World → Type 0) (G : Answer → World → Type 0) → ((s : Entries) → Once (F s)) → Once G
-    → Once (IfText bytes F G)
-text_once bytes F G f g a n b m (inl (s, p, x)) (inl (t, q, y)) =
-    let same : s ≡ t = one_text s t p.state q.state (sym p.text ∙ q.text) in
-    f t a n b m (subst (λ (s : Entries). F s a n) same x) y
-text_once bytes F G f g a n b m (inl (s, p, x)) (inr (none, y)) = absurd (none s p)
-text_once bytes F G f g a n b m (inr (none, x)) (inl (t, q, y)) = absurd (none t q)
-text_once bytes F G f g a n b m (inr (none, x)) (inr (same, y)) = g a n b m x y
-
--- an event in a world has one answer, and leads to one world
-pub effect_once : (base : List ℕ) (w : World) (event : Event) → Once (Effect base w event)
-effect_once base w (Take i h) = match_once (replica w i) _ _ (named_once _ _) (λ r. named_once _ _)
-effect_once base w (Send i) = match_once (replica w i) _ _ (named_once _ _) (λ r. named_once _ _)
-effect_once base w (Deliver i k) =
-    match_once (replica w i) _ _ (named_once _ _) (λ r.
-    match_once (message w k) _ _ (named_once _ _) (λ m.
-    either_once _ _ _ _ (λ few many. omega (arith, few, many)) (named_once _ _) (named_once _ _)))
-effect_once base w (Receive i bytes) = match_once (replica w i) _ _ (named_once _ _) (λ r. text_once bytes _ _ (λ s. named_once _ _) (named_once _ _))
-effect_once base w (Restart i) = match_once (replica w i) _ _ (named_once _ _) (λ r. named_once _ _)
-effect_once base w (Ask i q) = match_once (replica w i) _ _ (named_once _ _) (λ r. named_once _ _)
 
 -- ---- commands
 

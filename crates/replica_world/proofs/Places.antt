@@ -3,7 +3,7 @@ use Rattle.std.proofs.Common.{◌≡◌, ℕ, zero, suc, ◌+◌, ◌<◌, ◌�
 use Rattle.std.proofs.lemmas.List.{get_or-map, length-map}
 use Rattle.std.proofs.lemmas.Option.{slice_get_past, slice_get-get_or}
 use Rattle.replica_world.specs.Places.{IsNoNumber}
-use Rattle.replica_world.specs.World.{numbered}
+use Rattle.replica_events.specs.World.{numbered}
 
 -- the element has the number, and what is kept at the place is of it
 pub record At {A B : Type 0} (view : A → B) (all : List A) (number : ℕ) (found : A) (kept : B) : Type 0 where

@@ -6,18 +6,18 @@ use Rattle.timegate.specs.declared.request.Request.{Request}
 use Rattle.timegate.specs.Route.{original_at}
 use Rattle.timegate.specs.Reply.{reply}
 use Rattle.timegate.proofs.Replies.{same_reply}
-use Rattle.replica_world.specs.declared.event.Event.{Event}
-use Rattle.replica_world.specs.declared.event.Event.TheVariants.{Take, Ask}
-use Rattle.replica_world.specs.declared.event.Said.TheVariants.{Replied}
-use Rattle.replica_world.specs.declared.event.Refused.TheVariants.{NoReplica}
-use Rattle.replica_world.specs.World.{Knowledge, World, Replica, Refuses, Accepts, Run}
-use Rattle.replica_world.specs.Agreement.{SameHarvests, HasTaken}
+use Rattle.replica_events.specs.declared.event.Event.{Event}
+use Rattle.replica_events.specs.declared.event.Event.TheVariants.{Take, Ask}
+use Rattle.replica_events.specs.declared.event.Said.TheVariants.{Replied}
+use Rattle.replica_events.specs.declared.event.Refused.TheVariants.{NoReplica}
+use Rattle.replica_events.specs.World.{Knowledge, World, Replica, Refuses, Accepts, Run, replica_reply}
+use Rattle.replica_events.specs.Agreement.{SameHarvests, HasTaken}
 use Rattle.replica_world.specs.Script as script
 use Rattle.replica_world.specs.Script.{Command, Taking}
 use Rattle.replica_world.specs.Output.{Happens, RefusedAs, IsPage, TakesHarvest, TakesPage, Performs, Says, answer_text, reply_text, taken_line, harvest_of}
 use Rattle.replica_world.specs.Reached.{IsHarvestTaking, ComesTo, IsRunOf}
 use Rattle.replica_world.proofs.Once.{OnePage, one_page_is}
-use Rattle.replica_world.proofs.Replies.{same_state}
+use Rattle.replica_events.proofs.Replies.{same_state}
 
 -- ---- from the world after a command on, and so from the world before it
 
@@ -94,10 +94,10 @@ commands_run one base w (command ∷ commands) text end (first, next, later, per
 -- a question to a replica that has taken this writes the reply of what it has taken, and leaves the world as it is
 pub question_writes : (base : List ℕ) (w : World) (i : ℕ) (known : Knowledge) (q : Request) (text : List ℕ) (next : World) → HasTaken w i known → Performs base w (script.Step (Ask i q)) text next
     → (text ≡ reply_text (reply base known q)) × (next ≡ w)
-question_writes base w i known q text next taken (answer, effect, is) =
-    let accepts : Accepts (Replied (reply base known q)) w answer next =
-    subst (λ (o : Option Replica). MatchOption o (Refuses NoReplica w answer next) (λ r. Accepts (Replied (reply base r.taken q)) w answer next)) taken effect in
-    (is ∙ ap (answer_text []) accepts.0, accepts.1)
+question_writes base w i known q text next (r, there, known_is) (answer, effect, is) =
+    let accepts : Accepts (Replied (replica_reply base r q)) w answer next =
+    subst (λ (o : Option Replica). MatchOption o (Refuses NoReplica w answer next) (λ r. Accepts (Replied (replica_reply base r q)) w answer next)) there effect in
+    (is ∙ ap (answer_text []) accepts.0 ∙ ap (λ (known : Knowledge). reply_text (reply base known q)) known_is, accepts.1)
 
 -- so two that have taken the same harvests write the same
 pub questions_agree : (base : List ℕ) (w : World) (i j : ℕ) (known other : Knowledge) → HasTaken w i known → HasTaken w j other → SameHarvests known other

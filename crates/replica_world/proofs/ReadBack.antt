@@ -21,16 +21,16 @@ use Rattle.timemap_reader.specs.Page.{named, left_out, IsPageOf}
 use Rattle.timemap_reader.specs.Role.{is_memento_link, is_further_link, memento_of, further_of, datetime_of}
 use Rattle.timemap_reader.proofs.Cleans.{its_own}
 use Rattle.timemap_reader.proofs.Datetimes.{imf_read}
-use Rattle.timemap_writer.specs.Service.{is_clean_byte, IsBase}
+use Rattle.link_format.specs.Writing.{param_text, link_text, escape, followed}
+use Rattle.link_format.proofs.Appended.{escape_longer}
+use Rattle.timemap_writer.specs.Service.{IsBase}
 use Rattle.timemap_writer.specs.TimeMap as written
-use Rattle.timemap_writer.specs.TimeMap.{Attribute, attribute_text, statement_text, link_of, memento_statement, memento_statements, original_statement, timegate_statement, timemap_statement, followed, period, timemap_text, timemap_links}
+use Rattle.timemap_writer.specs.TimeMap.{memento_link, memento_links, original_link, timegate_link, timemap_link, period, timemap_text, timemap_links}
+use Rattle.timemap_writer.proofs.Bases.{base_short}
 use Rattle.timemap_writer.proofs.Readings.{timemap_reads}
 use Rattle.replica_world.specs.ReadBack.{AreOnWeb, page_of}
 
 -- ---- the link to a memento
-
-abbrev memento_link : Bool → Bool → Memento → Link
-memento_link first last m = link_of (memento_statement first last m)
 
 is_memento : (first last : Bool) (m : Memento) → is_memento_link (memento_link first last m) ≡ true
 is_memento true true m = refl
@@ -90,19 +90,19 @@ with_other url link links ms role other rest = record {
 abbrev IsAtHttp : Memento → Type 0
 IsAtHttp m = IsTrue (is_http_target m.uri)
 
-mementos_named : (url : Parts) (first : Bool) (ms : List Memento) → All IsMemento ms → All IsAtHttp ms → NamesJust url (map link_of (memento_statements first ms)) ms
+mementos_named : (url : Parts) (first : Bool) (ms : List Memento) → All IsMemento ms → All IsAtHttp ms → NamesJust url (memento_links first ms) ms
 mementos_named url first [] each http = record { listed = refl; further = refl; all_listed = refl; all_further = refl }
 mementos_named url first (m ∷ ms) each http =
     let last = length ms == 0 in
-    with_memento url (memento_link first last m) m (map link_of (memento_statements false ms)) ms (is_memento first last m) (is_not_further first last m)
+    with_memento url (memento_link first last m) m (memento_links false ms) ms (is_memento first last m) (is_not_further first last m)
     (its_memento url first last m (All-head IsMemento m ms each) (All-head IsAtHttp m ms http))
     (mementos_named url false ms (All-tail IsMemento m ms each) (All-tail IsAtHttp m ms http))
 
 timemap_named : (url : Parts) (base original : List ℕ) (ms : List Memento) → All IsMemento ms → All IsAtHttp ms → NamesJust url (timemap_links base original ms) ms
 timemap_named url base original ms each http =
-    with_other url (link_of (original_statement original)) _ ms refl refl
-    (with_other url (link_of (timegate_statement base original)) _ ms refl refl
-    (with_other url (link_of (timemap_statement (codes "self") base original ms)) _ ms refl refl (mementos_named url true ms each http)))
+    with_other url (original_link original) _ ms refl refl
+    (with_other url (timegate_link base original) _ ms refl refl
+    (with_other url (timemap_link (codes "self") base original ms) _ ms refl refl (mementos_named url true ms each http)))
 
 its_page : (url : Parts) (base original : List ℕ) (ms : List Memento) → AreOnWeb ms → IsPageOf url (timemap_links base original ms) (page_of ms)
 its_page url base original ms web =
@@ -119,29 +119,22 @@ at_most_one : (name : List ℕ) (o : Option Memento) → length (written.datetim
 at_most_one name None = omega arith
 at_most_one name (Some m) = omega arith
 
-mementos_few : (first : Bool) (ms : List Memento) → FewParams (map link_of (memento_statements first ms))
+mementos_few : (first : Bool) (ms : List Memento) → FewParams (memento_links first ms)
 mementos_few first [] = tt
 mementos_few first (m ∷ ms) = (omega arith, mementos_few false ms)
 
 few_params : (base original : List ℕ) (ms : List Memento) → FewParams (timemap_links base original ms)
 few_params base original ms =
-    let attributes = (timemap_statement (codes "self") base original ms).attributes in
     let from = at_most_one (codes "from") (slice_get ms 0) in
     let until = at_most_one (codes "until") (slice_get ms (length ms - 1)) in
     let both : length (period ms) ≤ 2 = rw (length-append) (omega (arith, from, until)) in
-    let self : length (link_of (timemap_statement (codes "self") base original ms)).params ≤ 32 = rw (length-map attributes) (omega (arith, both)) in
+    let self : length (timemap_link (codes "self") base original ms).params ≤ 32 = omega (arith, both) in
     (omega arith, (omega arith, (self, mementos_few true ms)))
 
-mementos_short : (first : Bool) (ms : List Memento) → All IsMemento ms → ShortTargets (map link_of (memento_statements first ms))
+mementos_short : (first : Bool) (ms : List Memento) → All IsMemento ms → ShortTargets (memento_links first ms)
 mementos_short first [] each = tt
 mementos_short first (m ∷ ms) each =
     (omega (arith, (All-head IsMemento m ms each).uri.0.1), mementos_short false ms (All-tail IsMemento m ms each))
-
-base_length : (base : List ℕ) → IsBase base → length base ≤ 256
-base_length base is =
-    let first = and_parts (nat_lt 0 (length base) && nat_le (length base) 256) (list_all is_clean_byte base) is in
-    let near = (and_parts (nat_lt 0 (length base)) (nat_le (length base) 256) first.0).1 in
-    grind (arith, nat_tests, near)
 
 address_short : (base path original : List ℕ) → length base ≤ 256 → length path ≤ 14 → length original ≤ 4096 → length (base ++ path ++ original) ≤ 8192
 address_short base path original b p o =
@@ -151,15 +144,17 @@ address_short base path original b p o =
 
 short_targets : (base original : List ℕ) (ms : List Memento) → IsBase base → IsOriginal original → All IsMemento ms → ShortTargets (timemap_links base original ms)
 short_targets base original ms is known each =
-    let whole = base_length base is in
+    let whole = base_short base is in
     let gate : length (written.timegate_address base original) ≤ 8192 = address_short base (codes "/timegate/") original whole (omega arith) known.1 in
     let self : length (written.timemap_address base original) ≤ 8192 = address_short base (codes "/timemap/link/") original whole (omega arith) known.1 in
     (omega (arith, known.1), (gate, (self, mementos_short true ms each)))
 
 -- ---- a short text lists few mementos
 
-attribute_length : (a : Attribute) → length (attribute_text a) ≡ 5 + length a.name + length a.value
-attribute_length a = rw (length-append, length-append, length-append, length-append) (omega arith)
+param_length : (name value : List ℕ) → 5 + length name + length value ≤ length (param_text name (Some value))
+param_length name value =
+    let whole : length (param_text name (Some value)) ≡ 5 + length name + length (escape value) = rw (length-append, length-append) (omega arith) in
+    omega (arith, whole, escape_longer value)
 
 longer_left : (a b : List ℕ) (n : ℕ) → n ≤ length a → n ≤ length (a ++ b)
 longer_left a b n h = rw (length-append a b) (omega (arith, h))
@@ -167,42 +162,40 @@ longer_left a b n h = rw (length-append a b) (omega (arith, h))
 longer_right : (a b : List ℕ) (n : ℕ) → n ≤ length b → n ≤ length (a ++ b)
 longer_right a b n h = rw (length-append a b) (omega (arith, h))
 
-line_length : (first last : Bool) (m : Memento) → IsSecond m.at → 42 ≤ length (statement_text (memento_statement first last m))
+line_length : (first last : Bool) (m : Memento) → IsSecond m.at → 42 ≤ length (link_text (memento_link first last m))
 line_length first last m is =
-    let date : Attribute = record { name = codes "datetime"; value = imf m.at } in
-    let relations : Attribute = written.rel (written.memento_relations first last) in
-    let exact = attribute_length date in
-    let dated : 42 ≤ length (attribute_text date) = omega (arith, exact, (Reads-imf m.at is).len) in
-    longer_right (codes "<" ++ m.uri ++ codes ">") _ 42
-    (longer_right (attribute_text relations) _ 42 (longer_left (attribute_text date) [] 42 dated))
+    let relations = param_text (codes "rel") (Some (written.memento_relations first last)) in
+    let date = param_text (codes "datetime") (Some (imf m.at)) in
+    let dated : 42 ≤ length date = omega (arith, param_length (codes "datetime") (imf m.at), (Reads-imf m.at is).len) in
+    longer_right (codes "<" ++ m.uri ++ codes ">") _ 42 (longer_right relations _ 42 (longer_left date [] 42 dated))
 
-lines_length : (separator : List ℕ) (first : Bool) (ms : List Memento) → All IsMemento ms → 42 * length ms ≤ length (followed separator (memento_statements first ms))
+lines_length : (separator : List ℕ) (first : Bool) (ms : List Memento) → All IsMemento ms → 42 * length ms ≤ length (followed separator (memento_links first ms))
 lines_length separator first [] each = omega arith
 lines_length separator first (m ∷ ms) each =
     let last = length ms == 0 in
-    let one = longer_right separator (statement_text (memento_statement first last m)) 42 (line_length first last m (All-head IsMemento m ms each).at) in
+    let one = longer_right separator (link_text (memento_link first last m)) 42 (line_length first last m (All-head IsMemento m ms each).at) in
     let more = lines_length separator false ms (All-tail IsMemento m ms each) in
-    rw (length-append (separator ++ statement_text (memento_statement first last m)) (followed separator (memento_statements false ms))) (omega (arith, one, more))
+    rw (length-append (separator ++ link_text (memento_link first last m)) (followed separator (memento_links false ms))) (omega (arith, one, more))
 
 text_length : (base original : List ℕ) (ms : List Memento) → All IsMemento ms → 42 * length ms ≤ length (timemap_text base original ms)
 unfolding timemap_text
 text_length base original ms each =
     let n = 42 * length ms in
     let separator = codes ",\n" in
-    let gate = separator ++ statement_text (timegate_statement base original) in
-    let self = separator ++ statement_text (timemap_statement (codes "self") base original ms) in
-    let lines = followed separator (memento_statements true ms) in
+    let gate = separator ++ link_text (timegate_link base original) in
+    let self = separator ++ link_text (timemap_link (codes "self") base original ms) in
+    let lines = followed separator (memento_links true ms) in
     let body = gate ++ (self ++ lines) in
     let inside : n ≤ length body = longer_right gate (self ++ lines) n (longer_right self lines n (lines_length separator true ms each)) in
-    longer_left (statement_text (original_statement original) ++ body) (codes "\n") n (longer_right (statement_text (original_statement original)) body n inside)
+    longer_left (link_text (original_link original) ++ body) (codes "\n") n (longer_right (link_text (original_link original)) body n inside)
 
-statements_length : (first : Bool) (ms : List Memento) → length (memento_statements first ms) ≡ length ms
-statements_length first [] = refl
-statements_length first (m ∷ ms) = ap (λ n. suc n) (statements_length false ms)
+links_length : (first : Bool) (ms : List Memento) → length (memento_links first ms) ≡ length ms
+links_length first [] = refl
+links_length first (m ∷ ms) = ap (λ n. suc n) (links_length false ms)
 
 few_links : (base original : List ℕ) (ms : List Memento) → All IsMemento ms → IsShort (timemap_text base original ms) → FewLinks (timemap_links base original ms)
 few_links base original ms each short =
-    let count = length-map (memento_statements true ms) link_of ∙ statements_length true ms in
+    let count = links_length true ms in
     omega (arith, text_length base original ms each, short, count)
 
 pub read_back : (base original address : List ℕ) (url : Parts) (mementos : List Memento) → IsBase base → IsOriginal original → AreOnWeb mementos

@@ -17,14 +17,15 @@ use Rattle.timegate.specs.declared.request.Request.{Request}
 use Rattle.timegate.specs.declared.reply.Reply.{Reply}
 use Rattle.timegate.specs.Reply.{reply, reply_of}
 use Rattle.timegate.proofs.Replies.{reply_from_state}
-use Rattle.replica_world.specs.declared.event.Event.{Event}
-use Rattle.replica_world.specs.declared.event.Event.TheVariants.{Take, Send, Deliver, Receive, Restart, Ask}
-use Rattle.replica_world.specs.declared.event.Said.TheVariants.{Taken, Sent, Joined, Restarted, Replied}
-use Rattle.replica_world.specs.declared.event.Refused.TheVariants.{NoReplica, NoMessage, BadState, NoMemory}
-use Rattle.replica_world.specs.Faults.{refusal}
+use Rattle.replica_events.specs.declared.event.Event.{Event}
+use Rattle.replica_events.specs.declared.event.Event.TheVariants.{Take, Send, Deliver, Receive, Restart, Ask}
+use Rattle.replica_events.specs.declared.event.Said.TheVariants.{Taken, Sent, Joined, Restarted, Replied}
+use Rattle.replica_events.specs.declared.event.Refused.TheVariants.{NoReplica, NoMessage, BadState, NoMemory}
+use Rattle.replica_events.specs.Faults.{refusal}
 use Rattle.replica_world.specs.Places.{IsNoNumber}
-use Rattle.replica_world.specs.World.{Knowledge, World, Replica, Message, Answer, Step, Run, Effect, HasReplica, TakesMemory, IsText, replica, message, with_replica, with_message, taking, sent_by, fresh, start}
-use Rattle.replica_world.specs.Stands.{Kept, Stands, IsSent, Steps, Runs, state_of, bytes_of}
+use Rattle.replica_events.specs.World.{Knowledge, World, Replica, Message, Answer, Step, Run, Effect, HasReplica, TakesMemory, IsText, replica, message, with_replica, with_message, taking, sent_by, fresh, start}
+use Rattle.replica_world.specs.Stands.{Kept, Stands, IsSent, Steps, Runs, state_of, kept_message}
+use Rattle.replica_world.specs.declared.message.SentMessage.{SentMessage}
 use Rattle.replica_world.proofs.Places.{At, at_place, no_number}
 
 empty_is : (let e : Entries = fmap.empty in e) ≡ lat []
@@ -66,7 +67,7 @@ ran_out kept number place event number_is below takes =
     stays kept event (Err NoMemory)
     (λ w stands. inr (refl, refl, takes w stands (get_or w.replicas place fresh, (replica_at kept w number place fmap.empty stands number_is below).there)))
 
--- an answer for want of memory, after which all is as it was
+-- a refusal of memory, after which all is as it was
 pub out_as : (old new : Kept) (event : Event) (answer : Answer) → Steps old event (Err NoMemory) old → new ≡ old → answer ≡ Err NoMemory → Steps old event answer new
 out_as old new event answer steps new_is answer_is = subst (λ (k : Kept). Steps old event answer k) (sym new_is) (subst (λ (a : Answer). Steps old event a old) (sym answer_is) steps)
 
@@ -105,10 +106,10 @@ pub record Absorbed (old new : Kept) (place : ℕ) (more : Knowledge) : Type 0 w
   pub states : new.states ≡ slice_set old.states place (join (get_or old.states place fmap.empty) (lat more))
 
 -- where a replica's state has joined that of more harvests, each world is followed by one in which the replica has taken harvests of that state
-told : (old new : Kept) (number place : ℕ) (event : Event) (answer : Answer) (more : Knowledge) → number ≡ place + 1 → place < length old.states → Absorbed old new place more
+world_follows : (old new : Kept) (number place : ℕ) (event : Event) (answer : Answer) (more : Knowledge) → number ≡ place + 1 → place < length old.states → Absorbed old new place more
     → ((w : World) (r : Replica) → Stands old w → replica w number ≡ Some r → (added : Knowledge) × (lat more ≡ lat added) × Step old.base w event answer (with_replica w number (taking r added)))
     → Steps old event answer new
-told old new number place event answer more number_is below a happens = record {
+world_follows old new number place event answer more number_is below a happens = record {
   base = a.base;
   leads = λ w stands.
       let x = replica_at old w number place fmap.empty stands number_is below in
@@ -123,7 +124,7 @@ told old new number place event answer more number_is below a happens = record {
 
 pub took : (old new : Kept) (number place : ℕ) (h copy : Harvested) → copy ≡ h → number ≡ place + 1 → place < length old.states → Absorbed old new place (copy ∷ []) → Steps old (Take number h) (Ok Taken) new
 took old new number place h copy copy_is number_is below a =
-    told old new number place (Take number h) (Ok Taken) (copy ∷ []) number_is below a (λ w r stands there. (h ∷ [], ap (λ (h : Harvested). lat (h ∷ [])) copy_is, inl (rw there (refl, refl))))
+    world_follows old new number place (Take number h) (Ok Taken) (copy ∷ []) number_is below a (λ w r stands there. (h ∷ [], ap (λ (h : Harvested). lat (h ∷ [])) copy_is, inl (rw there (refl, refl))))
 
 pub restarted : (old new : Kept) (number place : ℕ) → number ≡ place + 1 → place < length old.states
     → new.base ≡ old.base → new.messages ≡ old.messages → new.states ≡ slice_set old.states place fmap.empty → Steps old (Restart number) (Ok Restarted) new
@@ -141,7 +142,7 @@ restarted old new number place number_is below base messages states = record {
 pub received : (old new : Kept) (number place : ℕ) (bytes : List ℕ) (s : Entries) → number ≡ place + 1 → place < length old.states
     → IsText bytes s → Absorbed old new place (adds s) → Steps old (Receive number bytes) (Ok Joined) new
 received old new number place bytes s number_is below text a =
-    told old new number place (Receive number bytes) (Ok Joined) (adds s) number_is below a (λ w r stands there. (adds s, refl, inl (rw there (inl (s, text, (refl, refl))))))
+    world_follows old new number place (Receive number bytes) (Ok Joined) (adds s) number_is below a (λ w r stands there. (adds s, refl, inl (rw there (inl (s, text, (refl, refl))))))
 
 -- bytes that are refused are no state's text within the limit
 no_text : (bytes : List ℕ) (s : Entries) → IsCause TooLong bytes ⊎ IsCause NotState bytes → IsText bytes s → ⊥
@@ -168,72 +169,77 @@ pub record Found (kept : Kept) (w : World) (number : ℕ) (bytes : List ℕ) : T
   pub bytes_is : bytes ≡ found.bytes
   pub sent : IsSent found
 
-message_at : (kept : Kept) (w : World) (number place : ℕ) (bytes : List ℕ) → Stands kept w → number ≡ place + 1 → place < length kept.messages → bytes ≡ get_or kept.messages place bytes → Found kept w number bytes
-message_at kept w number place bytes stands number_is below bytes_is =
-    let x = at_place bytes_of w.messages kept.messages number place blank bytes stands.messages number_is below in
-    let within : place < length w.messages = omega (arith, length-map w.messages bytes_of, ap length stands.messages) in
-    record { found = get_or w.messages place blank; there = x.there; bytes_is = bytes_is ∙ x.kept_is; sent = All-get_or IsSent w.messages place blank within stands.sent }
+message_at : (kept : Kept) (w : World) (number place : ℕ) (m : SentMessage) → Stands kept w → number ≡ place + 1 → place < length kept.messages → m ≡ get_or kept.messages place m → Found kept w number m.bytes
+message_at kept w number place m stands number_is below m_is =
+    let x = at_place kept_message w.messages kept.messages number place blank m stands.messages number_is below in
+    let within : place < length w.messages = omega (arith, length-map w.messages kept_message, ap length stands.messages) in
+    record {
+      found = get_or w.messages place blank;
+      there = x.there;
+      bytes_is = ap (λ (m : SentMessage). m.bytes) (m_is ∙ x.kept_is);
+      sent = All-get_or IsSent w.messages place blank within stands.sent;
+    }
 
-pub deliver_ran_out : (kept : Kept) (number place k slot : ℕ) (bytes : List ℕ) → number ≡ place + 1 → place < length kept.states → k ≡ slot + 1 → slot < length kept.messages
-    → bytes ≡ get_or kept.messages slot bytes → length bytes ≤ longest_text → Steps kept (Deliver number k) (Err NoMemory) kept
-deliver_ran_out kept number place k slot bytes number_is below k_is slot_below bytes_is within =
+pub deliver_ran_out : (kept : Kept) (number place k slot : ℕ) (m : SentMessage) → number ≡ place + 1 → place < length kept.states → k ≡ slot + 1 → slot < length kept.messages
+    → m ≡ get_or kept.messages slot m → length m.bytes ≤ longest_text → Steps kept (Deliver number k) (Err NoMemory) kept
+deliver_ran_out kept number place k slot m number_is below k_is slot_below m_is within =
     ran_out kept number place (Deliver number k) number_is below
     (λ w stands there.
-    let m = message_at kept w k slot bytes stands k_is slot_below bytes_is in
-    (there, (m.found, m.there, subst (λ (b : List ℕ). length b ≤ longest_text) m.bytes_is within)))
+    let sent = message_at kept w k slot m stands k_is slot_below m_is in
+    (there, (sent.found, sent.there, subst (λ (b : List ℕ). length b ≤ longest_text) sent.bytes_is within)))
 
 pub no_message : (kept : Kept) (number place k count : ℕ) → number ≡ place + 1 → place < length kept.states → count ≡ length kept.messages → IsNoNumber k count → Steps kept (Deliver number k) (Err NoMessage) kept
 no_message kept number place k count number_is below count_is none =
     stays kept (Deliver number k) (Err NoMessage)
     (λ w stands.
     let x = replica_at kept w number place fmap.empty stands number_is below in
-    let absent : message w k ≡ None = no_number bytes_of w.messages kept.messages k count stands.messages count_is none in
+    let absent : message w k ≡ None = no_number kept_message w.messages kept.messages k count stands.messages count_is none in
     inl (rw x.there (rw absent (refl, refl))))
 
-pub delivered : (old new : Kept) (number place k slot : ℕ) (bytes : List ℕ) (s : Entries) → number ≡ place + 1 → place < length old.states
-    → k ≡ slot + 1 → slot < length old.messages → bytes ≡ get_or old.messages slot bytes → IsText bytes s → Absorbed old new place (adds s) → Steps old (Deliver number k) (Ok Joined) new
-delivered old new number place k slot bytes s number_is below k_is slot_below bytes_is text a =
-    told old new number place (Deliver number k) (Ok Joined) (adds s) number_is below a
+pub delivered : (old new : Kept) (number place k slot : ℕ) (m : SentMessage) (s : Entries) → number ≡ place + 1 → place < length old.states
+    → k ≡ slot + 1 → slot < length old.messages → m ≡ get_or old.messages slot m → IsText m.bytes s → Absorbed old new place (adds s) → Steps old (Deliver number k) (Ok Joined) new
+delivered old new number place k slot m s number_is below k_is slot_below m_is text a =
+    world_follows old new number place (Deliver number k) (Ok Joined) (adds s) number_is below a
     (λ w r stands there.
-    let m = message_at old w k slot bytes stands k_is slot_below bytes_is in
-    let same : s ≡ lat m.found.taken = one_text s (lat m.found.taken) text.state m.sent.state (sym text.text ∙ m.bytes_is ∙ m.sent.text) in
-    let within : length m.found.bytes ≤ longest_text = subst (λ (b : List ℕ). length b ≤ longest_text) m.bytes_is text.within in
-    (m.found.taken, lat-adds s ∙ same, inl (rw there (rw m.there (inl (within, (refl, refl)))))))
+    let sent = message_at old w k slot m stands k_is slot_below m_is in
+    let same : s ≡ lat sent.found.taken = one_text s (lat sent.found.taken) text.state sent.sent.state (sym text.text ∙ sent.bytes_is ∙ sent.sent.text) in
+    let within : length sent.found.bytes ≤ longest_text = subst (λ (b : List ℕ). length b ≤ longest_text) sent.bytes_is text.within in
+    (sent.found.taken, lat-adds s ∙ same, inl (rw there (rw sent.there (inl (within, (refl, refl)))))))
 
 -- a message's bytes are a state's text, so only their number can refuse them
 too_long : (bytes : List ℕ) (s : Entries) → IsState s → bytes ≡ state_text s → IsCause TooLong bytes ⊎ IsCause NotState bytes → longest_text < length bytes
 too_long bytes s state text (inl long) = long
 too_long bytes s state text (inr not) = absurd (not.1 s state text)
 
-not_joined : (kept : Kept) (number place k slot : ℕ) (bytes : List ℕ) (answer : Answer) → number ≡ place + 1 → place < length kept.states
-    → k ≡ slot + 1 → slot < length kept.messages → bytes ≡ get_or kept.messages slot bytes → IsCause TooLong bytes ⊎ IsCause NotState bytes → answer ≡ Err BadState → Steps kept (Deliver number k) answer kept
-not_joined kept number place k slot bytes answer number_is below k_is slot_below bytes_is cause is =
+not_joined : (kept : Kept) (number place k slot : ℕ) (m : SentMessage) (answer : Answer) → number ≡ place + 1 → place < length kept.states
+    → k ≡ slot + 1 → slot < length kept.messages → m ≡ get_or kept.messages slot m → IsCause TooLong m.bytes ⊎ IsCause NotState m.bytes → answer ≡ Err BadState → Steps kept (Deliver number k) answer kept
+not_joined kept number place k slot m answer number_is below k_is slot_below m_is cause is =
     stays kept (Deliver number k) answer
     (λ w stands.
     let x = replica_at kept w number place fmap.empty stands number_is below in
-    let m = message_at kept w k slot bytes stands k_is slot_below bytes_is in
-    let over : longest_text < length m.found.bytes =
-    subst (λ (b : List ℕ). longest_text < length b) m.bytes_is (too_long bytes (lat m.found.taken) m.sent.state (m.bytes_is ∙ m.sent.text) cause) in
-    inl (rw x.there (rw m.there (inr (over, (is, refl))))))
+    let sent = message_at kept w k slot m stands k_is slot_below m_is in
+    let over : longest_text < length sent.found.bytes =
+    subst (λ (b : List ℕ). longest_text < length b) sent.bytes_is (too_long m.bytes (lat sent.found.taken) sent.sent.state (sent.bytes_is ∙ sent.sent.text) cause) in
+    inl (rw x.there (rw sent.there (inr (over, (is, refl))))))
 
-pub not_delivered : (kept : Kept) (number place k slot : ℕ) (bytes : List ℕ) (fault : StateFault) (answer : Answer) → number ≡ place + 1 → place < length kept.states
-    → k ≡ slot + 1 → slot < length kept.messages → bytes ≡ get_or kept.messages slot bytes → IsCause fault bytes → answer ≡ Err (refusal fault) → Steps kept (Deliver number k) answer kept
-not_delivered kept number place k slot bytes TooLong answer number_is below k_is slot_below bytes_is cause is = not_joined kept number place k slot bytes answer number_is below k_is slot_below bytes_is (inl cause) is
-not_delivered kept number place k slot bytes NotState answer number_is below k_is slot_below bytes_is cause is = not_joined kept number place k slot bytes answer number_is below k_is slot_below bytes_is (inr cause) is
-not_delivered kept number place k slot bytes fault.NoMemory answer number_is below k_is slot_below bytes_is cause is =
-    subst (λ (a : Answer). Steps kept (Deliver number k) a kept) (sym is) (deliver_ran_out kept number place k slot bytes number_is below k_is slot_below bytes_is cause)
+pub not_delivered : (kept : Kept) (number place k slot : ℕ) (m : SentMessage) (fault : StateFault) (answer : Answer) → number ≡ place + 1 → place < length kept.states
+    → k ≡ slot + 1 → slot < length kept.messages → m ≡ get_or kept.messages slot m → IsCause fault m.bytes → answer ≡ Err (refusal fault) → Steps kept (Deliver number k) answer kept
+not_delivered kept number place k slot m TooLong answer number_is below k_is slot_below m_is cause is = not_joined kept number place k slot m answer number_is below k_is slot_below m_is (inl cause) is
+not_delivered kept number place k slot m NotState answer number_is below k_is slot_below m_is cause is = not_joined kept number place k slot m answer number_is below k_is slot_below m_is (inr cause) is
+not_delivered kept number place k slot m fault.NoMemory answer number_is below k_is slot_below m_is cause is =
+    subst (λ (a : Answer). Steps kept (Deliver number k) a kept) (sym is) (deliver_ran_out kept number place k slot m number_is below k_is slot_below m_is cause)
 
 pub sent_now : (old new : Kept) (number place count : ℕ) (d : Entries) (text : List ℕ) → number ≡ place + 1 → place < length old.states
     → text ≡ state_text (get_or old.states place d) → IsState (get_or old.states place d)
-    → new.base ≡ old.base → new.states ≡ old.states → new.messages ≡ old.messages ++ text ∷ [] → count ≡ length new.messages → Steps old (Send number) (Ok (Sent count)) new
+    → new.base ≡ old.base → new.states ≡ old.states → new.messages ≡ old.messages ++ record { sender = number; bytes = text } ∷ [] → count ≡ length new.messages → Steps old (Send number) (Ok (Sent count)) new
 sent_now old new number place count d text number_is below text_is state base states messages count_is = record {
   base = base;
   leads = λ w stands.
       let x = replica_at old w number place d stands number_is below in
       let m : Message = sent_by number (get_or w.replicas place fresh) in
-      let now : text ≡ bytes_of m = text_is ∙ ap state_text x.kept_is in
-      let same : new.messages ≡ map bytes_of (w.messages ++ m ∷ []) = messages ∙ (λ i. stands.messages i ++ now i ∷ []) ∙ sym (map_push bytes_of w.messages m) in
-      let count_now : count ≡ length w.messages + 1 = count_is ∙ ap length same ∙ length-map (w.messages ++ m ∷ []) bytes_of ∙ length_push w.messages m in
+      let now : text ≡ m.bytes = text_is ∙ ap state_text x.kept_is in
+      let same : new.messages ≡ map kept_message (w.messages ++ m ∷ []) = messages ∙ (λ i. stands.messages i ++ record { sender = number; bytes = now i } ∷ []) ∙ sym (map_push kept_message w.messages m) in
+      let count_now : count ≡ length w.messages + 1 = count_is ∙ ap length same ∙ length-map (w.messages ++ m ∷ []) kept_message ∙ length_push w.messages m in
       record {
         next = with_message w m;
         step = inl (rw x.there (ap (λ (n : ℕ). Ok (Sent n)) count_now, refl));

@@ -1,9 +1,5 @@
 pub mod Places
-pub mod World
-pub mod History
-pub mod Faults
 pub mod Stands
-pub mod Agreement
 pub mod Asked
 pub mod ReadBack
 pub mod Fields

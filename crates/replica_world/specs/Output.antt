@@ -13,14 +13,14 @@ use Rattle.timegate.specs.declared.reply.Reply.{Reply}
 use Rattle.timegate.specs.declared.reply.Header.{Header}
 use Rattle.timegate.specs.Reply.{header_name}
 use Rattle.timegate.specs.Route.{original_at}
-use Rattle.replica_world.specs.declared.event.Event.{Event}
-use Rattle.replica_world.specs.declared.event.Event.TheVariants as event
-use Rattle.replica_world.specs.declared.event.Said.TheVariants.{Taken, Sent, Joined, Restarted, Replied}
-use Rattle.replica_world.specs.declared.event.Refused.{Refused}
-use Rattle.replica_world.specs.declared.event.Refused.TheVariants.{NoReplica, NoMessage, BadState, NoMemory}
+use Rattle.replica_events.specs.declared.event.Event.{Event}
+use Rattle.replica_events.specs.declared.event.Event.TheVariants as event
+use Rattle.replica_events.specs.declared.event.Said.TheVariants.{Taken, Sent, Joined, Restarted, Replied}
+use Rattle.replica_events.specs.declared.event.Refused.{Refused}
+use Rattle.replica_events.specs.declared.event.Refused.TheVariants.{NoReplica, NoMessage, BadState, NoMemory}
 use Rattle.replica_world.specs.declared.replaying.fault.ReplayFault.{ReplayFault}
 use Rattle.replica_world.specs.declared.replaying.fault.ReplayFault.TheVariants as fault
-use Rattle.replica_world.specs.World.{World, Answer, Effect, start}
+use Rattle.replica_events.specs.World.{World, Answer, Effect, start}
 use Rattle.replica_world.specs.Fields.{utf8_text}
 use Rattle.replica_world.specs.Script.{Taking, Command, Take, Step, Start, script_of, commands_of, number_of_line, bad_line}
 use Rattle.replica_world.specs.Devices.{AppendsBeginning}

@@ -1,7 +1,7 @@
 -- What a command does to the worlds that a world in memory stands for.
 use Rattle.std.specs.Prelude.{◌≡◌, ℕ, List, Some}
-use Rattle.replica_world.specs.declared.event.Event.{Event}
-use Rattle.replica_world.specs.World.{World}
+use Rattle.replica_events.specs.declared.event.Event.{Event}
+use Rattle.replica_events.specs.World.{World}
 use Rattle.replica_world.specs.Stands.{Kept, Stands}
 use Rattle.replica_world.specs.Fields.{after_empty_lines}
 use Rattle.replica_world.specs.Script.{Taking, Command, command_at}

@@ -3,9 +3,9 @@ use Rattle.std.specs.Prelude.{◌≡◌, ℕ, ◌≤◌, ◌⊎◌, List, [], �
 use Rattle.memento_time.specs.Text.{IsArchiveName}
 use Rattle.timemap_reader.specs.declared.page.Page.{Page}
 use Rattle.timegate.specs.Route.{original_at}
-use Rattle.replica_world.specs.declared.event.Event.{Event}
-use Rattle.replica_world.specs.declared.event.Event.TheVariants as event
-use Rattle.replica_world.specs.World.{World, Answer, Run}
+use Rattle.replica_events.specs.declared.event.Event.{Event}
+use Rattle.replica_events.specs.declared.event.Event.TheVariants as event
+use Rattle.replica_events.specs.World.{World, Answer, Run}
 use Rattle.replica_world.specs.Script.{Taking, Command, Take, Step}
 use Rattle.replica_world.specs.Output.{IsPage, harvest_of}
 

@@ -4,8 +4,8 @@ use Rattle.std.specs.Option.{option_map, option_and_then}
 use Rattle.std.specs.List.{list_all}
 use Rattle.timegate.specs.declared.request.Request.{Request}
 use Rattle.timemap_writer.specs.Service.{base_of}
-use Rattle.replica_world.specs.declared.event.Event.{Event}
-use Rattle.replica_world.specs.declared.event.Event.TheVariants.{Send, Deliver, Receive, Restart, Ask}
+use Rattle.replica_events.specs.declared.event.Event.{Event}
+use Rattle.replica_events.specs.declared.event.Event.TheVariants.{Send, Deliver, Receive, Restart, Ask}
 use Rattle.replica_world.specs.Fields.{◌>>=◌, field, line_of, after_empty_lines, number_of, number_field, word_field, is_visible, utf8_text, block_of, lines_of}
 
 -- the body of a page at an address, to be read and taken as a harvest

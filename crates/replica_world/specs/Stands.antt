@@ -5,38 +5,43 @@ use Rattle.std.specs.FinMap as fmap
 use Rattle.harvest_lattice.specs.Lattice.{Entries, key_cmp, coded_key, coded_kept}
 use Rattle.harvest_lattice.specs.Knowledge.{lat}
 use Rattle.replica_exchange.specs.StateText.{IsState, state_text}
-use Rattle.replica_world.specs.declared.event.Event.{Event}
-use Rattle.replica_world.specs.World.{World, Replica, Message, Answer, Step, Run}
+use Rattle.replica_events.specs.declared.event.Event.{Event}
+use Rattle.replica_world.specs.declared.message.SentMessage.{SentMessage}
+use Rattle.replica_events.specs.World.{World, Replica, Message, Answer, Step, Run}
 
--- the service's base, the state of each replica, and the bytes of each message: no set of harvests
+-- the service's base, the state of each replica, and the sender and the bytes of each message: no set of harvests
 pub record Kept : Type 0 where
   pub base : List ℕ
   pub states : List Entries
-  pub messages : List (List ℕ)
+  pub messages : List SentMessage
+
+-- what is kept of a message, as a pair of its parts
+abbrev pub coded_message : Coded SentMessage
+coded_message = code_by (ℕ × List ℕ) (coded× coded_ℕ (coded_list coded_ℕ)) (λ m. (m.sender, m.bytes)) (λ p. record { sender = p.0; bytes = p.1 }) (λ _. refl)
 
 -- what is kept of a world, as a tuple of its parts
 abbrev pub coded_kept_world : Coded Kept
 coded_kept_world =
-    code_by (List ℕ × (List Entries × List (List ℕ))) (coded× (coded_list coded_ℕ) (coded× (coded_list (fmap.code {R = key_cmp} coded_key coded_kept)) (coded_list (coded_list coded_ℕ))))
+    code_by (List ℕ × (List Entries × List SentMessage)) (coded× (coded_list coded_ℕ) (coded× (coded_list (fmap.code {R = key_cmp} coded_key coded_kept)) (coded_list coded_message)))
     (λ k. (k.base, (k.states, k.messages))) (λ p. record { base = p.0; states = p.1.0; messages = p.1.1 }) (λ _. refl)
 
 -- the state of what a replica has taken
 abbrev pub state_of : Replica → Entries
 state_of r = lat r.taken
 
--- the bytes of a message
-abbrev pub bytes_of : Message → List ℕ
-bytes_of m = m.bytes
+-- what is kept of a message
+abbrev pub kept_message : Message → SentMessage
+kept_message m = record { sender = m.sender; bytes = m.bytes }
 
 -- a message's bytes are the text of its sender's state as it was
 pub record IsSent (m : Message) : Type 0 where
   pub state : IsState (lat m.taken)
   pub text : m.bytes ≡ state_text (lat m.taken)
 
--- what is kept stands for a world: for each replica the state of what it has taken, for each message its bytes
+-- what is kept stands for a world: for each replica the state of what it has taken, for each message its sender and its bytes
 pub record Stands (kept : Kept) (w : World) : Type 0 where
   pub states : kept.states ≡ map state_of w.replicas
-  pub messages : kept.messages ≡ map bytes_of w.messages
+  pub messages : kept.messages ≡ map kept_message w.messages
   pub sent : All IsSent w.messages
 
 -- an event leads from a world to one that the new one stands for

@@ -1,15 +1,15 @@
-//! What replicas answer after a list of events.
+//! The replies of two replicas after a list of events.
 ghost use Rattle.std.specs.Prelude.{◌≤◌, IfOk};
 ghost use Rattle.replica_world.specs.Asked.{AgreeAfter};
 
-use crate::event::{Answer, Event};
 use crate::world::World;
 use memento_time::NoMemory;
+use replica_events::{Answer, Event};
 use std::alloc::Global;
 use timegate::Request;
 use timemap_writer::Service;
 
-/// What was said to events, and then by two replicas to the same request.
+/// The answers to events, and then those of two replicas to the same request.
 #[derive(Debug, Drop)]
 pub struct Asked {
     pub answers: Vec<Answer>,
@@ -18,7 +18,7 @@ pub struct Asked {
 }
 
 /// Runs these events in a new world, and then asks two replicas the same. Where both have learnt the same harvests,
-/// their replies are the same.
+/// their replies are the same: the headline, through the code.
 pub fn asked_after(
     alloc: Global,
     replicas: usize,

@@ -2,9 +2,11 @@
 ghost use Rattle.std.specs.Prelude.{◌≡◌, ◌+◌, ◌<◌, ◌≤◌, IfSome, IfNone};
 ghost use Rattle.replica_world.specs.Places.{IsNoNumber};
 
-use crate::event::{Answer, Event, Refused, Said};
-use harvest_lattice::{Harvest, Index, Merge};
+use crate::message::SentMessage;
+use harvest_lattice::Harvest;
+use memento_index::{Index, Merge};
 use memento_time::{NoMemory, Octets};
+use replica_events::{Answer, Event, Refused, Said};
 use replica_exchange::{read_state, write_state};
 use std::alloc::Global;
 use std::marker::Model;
@@ -17,7 +19,7 @@ pub struct World {
     alloc: Global,
     service: Service,
     replicas: Vec<Index>,
-    messages: Vec<Octets>,
+    messages: Vec<SentMessage>,
 }
 
 impl Model for World {
@@ -46,12 +48,12 @@ impl World {
     ghost use Rattle.std.specs.FinMap as fmap;
     ghost use Rattle.harvest_lattice.specs.Lattice.{join};
     ghost use Rattle.harvest_lattice.specs.Knowledge.{lat};
-    ghost use Rattle.harvest_lattice.specs.Merges.{adds_of};
-    ghost use Rattle.replica_world.specs.World.{start};
+    ghost use Rattle.memento_index.specs.Merges.{adds_of};
+    ghost use Rattle.replica_events.specs.World.{start};
     ghost use Rattle.replica_world.specs.Stands.{Stands, Steps, Runs};
-    ghost use Rattle.replica_world.specs.declared.event.Event.TheVariants as event;
+    ghost use Rattle.replica_events.specs.declared.event.Event.TheVariants as event;
 
-    /// So many replicas that have taken nothing, of this service.
+    /// A world of `replicas` empty replicas of this service, which have sent nothing.
     pub fn new(alloc: Global, replicas: usize, service: Service) -> Result<World, NoMemory>
         requires { (1 ≤ replicas) × (replicas ≤ 16) }
         ensures stands { IfOk result (λ world. Stands world (start replicas)) }
@@ -69,8 +71,8 @@ impl World {
         })
     }
 
-    /// One event. Refused, it changes nothing: `NoReplica` and `NoMessage` where a number names none, `BadState` where
-    /// bytes are no state's text or too many, tested in this order. A restart takes no memory.
+    /// Runs one event. A refused one changes nothing: `NoReplica` and `NoMessage` where a number names none, `BadState`
+    /// where bytes are no state's text or too many, tested in this order. A restart takes no memory.
     pub fn step(&mut self, event: &Event) -> Answer
         ensures steps { Steps self.old event.now result self.new }
         ensures refused { OnErr result (self.new ≡ self.old) }
@@ -85,7 +87,7 @@ impl World {
         }
     }
 
-    /// Events one after the other, with an answer to each. An error means that none was run.
+    /// Runs events one after the other, and answers each. An error means that none was run.
     pub fn run(&mut self, events: &[Event]) -> Result<Vec<Answer>, NoMemory>
         ensures ok { IfOk result (λ answers. Runs self.old events.now answers.items self.new) }
         ensures err { OnErr result (self.new ≡ self.old) }
@@ -118,7 +120,11 @@ impl World {
             return Err(Refused::NoReplica);
         };
         let text = write_state(self.alloc, self.replicas[place].state())?;
-        self.messages.push(Octets::of(text))?;
+        let bytes = Octets::of(text);
+        self.messages.push(SentMessage {
+            sender: number,
+            bytes,
+        })?;
         Ok(Said::Sent(self.messages.len()))
     }
 
@@ -132,8 +138,8 @@ impl World {
         let Some(sent) = place_of(message, self.messages.len()) else {
             return Err(Refused::NoMessage);
         };
-        let told = read_state(self.alloc, self.messages[sent].as_slice())?;
-        self.absorb(place, &Merge::State(told))?;
+        let theirs = read_state(self.alloc, self.messages[sent].bytes.as_slice())?;
+        self.absorb(place, &Merge::State(theirs))?;
         Ok(Said::Joined)
     }
 
@@ -172,7 +178,7 @@ impl World {
         Ok(Said::Replied(reply))
     }
 
-    // What a merge adds to the harvests that a replica has taken.
+    // Merges into one replica.
     fn absorb(&mut self, place: usize, merge: &Merge) -> Result<(), NoMemory>
         requires { place < length self.old.states }
         ensures base { self.new.base ≡ self.old.base }

@@ -17,7 +17,7 @@ use Rattle.timegate.specs.declared.request.Request.{Request}
 use Rattle.timegate.specs.declared.route.Route.{Route}
 use Rattle.timegate.specs.declared.route.Route.TheVariants.{BadMethod, State, NoRoute, BadOriginal, BadDatetime, TimeGate, TimeMap}
 use Rattle.timegate.specs.Route.{is_get, is_head, is_state, is_timegate, is_timemap, timegates, original_at, datetime_route, timegate_route, original_route, route_of}
-use Rattle.timegate.specs.Reply.{Headers, routed, reply, redirect, chosen, told}
+use Rattle.timegate.specs.Reply.{Headers, reply_at, reply, redirect, choice_at, short_reply}
 use Rattle.timegate.specs.Promises.{as_get, without_body, vary_values, AreInOrder}
 
 -- ---- HEAD
@@ -39,13 +39,13 @@ redirect_bare base q is original mementos None = bare (is_head q) is _ _ _
 redirect_bare base q is original mementos (Some m) = bare (is_head q) is _ _ _
 
 routed_bare : (base : List ℕ) (shows : List ℕ → Mementos) (entries : Entries) (q : Request) → is_head q ≡ true → (route : Route)
-    → routed base shows entries q route ≡ without_body (routed base shows entries (as_get q) route)
+    → reply_at base shows entries q route ≡ without_body (reply_at base shows entries (as_get q) route)
 routed_bare base shows entries q is BadMethod = bare (is_head q) is _ _ _
 routed_bare base shows entries q is State = bare (is_head q) is _ _ _
 routed_bare base shows entries q is NoRoute = bare (is_head q) is _ _ _
 routed_bare base shows entries q is BadOriginal = bare (is_head q) is _ _ _
 routed_bare base shows entries q is BadDatetime = bare (is_head q) is _ _ _
-routed_bare base shows entries q is (TimeGate original asked) = redirect_bare base q is original (shows original) (chosen (shows original) asked)
+routed_bare base shows entries q is (TimeGate original asked) = redirect_bare base q is original (shows original) (choice_at (shows original) asked)
 routed_bare base shows entries q is (TimeMap original) =
     either_bare (length (set.items (shows original)) == 0) _ _ _ _ (bare (is_head q) is _ _ _) (bare (is_head q) is _ _ _)
 
@@ -62,7 +62,7 @@ pub head_is_bare : (base : List ℕ) (known : List Harvested) (q : Request) → 
 unfolding reply
 head_is_bare base known q is =
     let head : is_head q ≡ true = (bytes_eq-Decides q.method (codes "HEAD")).1 is in
-    ap (λ (route : Route). routed base (shown known) (lat known) q route) (same_route q head)
+    ap (λ (route : Route). reply_at base (shown known) (lat known) q route) (same_route q head)
     ∙ routed_bare base (shown known) (lat known) q head (route_of (as_get q))
 
 -- ---- the headers
@@ -145,13 +145,13 @@ keeps_redirect base q original mementos None = keeps_told (is_timegate q)
 keeps_redirect base q original mementos (Some m) = keeps_links (is_timegate q) m.uri (gate_links base original (set.items mementos))
 
 keeps_routed : (base : List ℕ) (shows : List ℕ → Mementos) (entries : Entries) (q : Request) (route : Route) → Elsewhere q route
-    → Keeps (is_timegate q) (routed base shows entries q route).headers
+    → Keeps (is_timegate q) (reply_at base shows entries q route).headers
 keeps_routed base shows entries q BadMethod here = keeps_refused (is_timegate q)
 keeps_routed base shows entries q State here = keeps_alone (is_timegate q) here (codes "text/plain")
 keeps_routed base shows entries q NoRoute here = keeps_told (is_timegate q)
 keeps_routed base shows entries q BadOriginal here = keeps_told (is_timegate q)
 keeps_routed base shows entries q BadDatetime here = keeps_told (is_timegate q)
-keeps_routed base shows entries q (TimeGate original asked) here = keeps_redirect base q original (shows original) (chosen (shows original) asked)
+keeps_routed base shows entries q (TimeGate original asked) here = keeps_redirect base q original (shows original) (choice_at (shows original) asked)
 keeps_routed base shows entries q (TimeMap original) here =
     keeps_either (is_timegate q) (length (set.items (shows original)) == 0) _ _ (keeps_told (is_timegate q)) (keeps_alone (is_timegate q) here (codes "application/link-format"))
 
@@ -186,12 +186,12 @@ at_target q target method same =
 
 pub gate_served : (base original : List ℕ) (q : Request) → original_at original ≡ Some original → q.method ≡ codes "GET"
     → base ++ q.target ≡ timegate_address base original → route_of q ≡ timegate_route q.asked original
-gate_served base original q names method told =
-    let target : q.target ≡ codes "/timegate/" ++ original = append_cancel_left base q.target (codes "/timegate/" ++ original) (told ∙ append_assoc base (codes "/timegate/") original) in
+gate_served base original q names method address =
+    let target : q.target ≡ codes "/timegate/" ++ original = append_cancel_left base q.target (codes "/timegate/" ++ original) (address ∙ append_assoc base (codes "/timegate/") original) in
     at_target q (codes "/timegate/" ++ original) method target ∙ gate_at q.asked original ∙ ap (original_route (timegate_route q.asked)) names
 
 pub map_served : (base original : List ℕ) (q : Request) → original_at original ≡ Some original → q.method ≡ codes "GET"
     → base ++ q.target ≡ timemap_address base original → route_of q ≡ TimeMap original
-map_served base original q names method told =
-    let target : q.target ≡ codes "/timemap/link/" ++ original = append_cancel_left base q.target (codes "/timemap/link/" ++ original) (told ∙ append_assoc base (codes "/timemap/link/") original) in
+map_served base original q names method address =
+    let target : q.target ≡ codes "/timemap/link/" ++ original = append_cancel_left base q.target (codes "/timemap/link/" ++ original) (address ∙ append_assoc base (codes "/timemap/link/") original) in
     at_target q (codes "/timemap/link/" ++ original) method target ∙ map_at q.asked original ∙ ap (original_route TimeMap) names

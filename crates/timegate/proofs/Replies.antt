@@ -1,15 +1,20 @@
 -- What a reply depends on, and which memento a redirect names.
 use Rattle.std.proofs.Common.{◌≡◌, ℕ, ◌<◌, ◌≤◌, ◌⊎◌, ◌↔◌, ◌==◌, Bool, true, false, length, Result, List, [], ◌∷◌, Option, Some, None, refl, ap, sym, subst, ◌∙◌, inl, inr, arith}
 use Rattle.std.specs.Prelude.{MatchOption, Contains, IfOk, if◌then◌else◌}
+use Rattle.std.specs.List.{list_any}
+use Rattle.std.specs.Ordering.{eq_by_cmp}
+use Rattle.std.specs.FinMap.{contains_key-keys}
+use Rattle.std.proofs.lemmas.Bool.{true≢false}
 use Rattle.memento_time.specs.declared.faults.NoMemory.{NoMemory}
+use Rattle.memento_time.specs.Mementos.{memento_cmp}
 use Rattle.std.proofs.lemmas.List.Elements.{Contains-append_right}
 use Rattle.memento_time.specs.declared.mementos.Memento.{Memento}
 use Rattle.harvest_lattice.specs.Sets as set
 use Rattle.harvest_lattice.specs.Lattice.{Mementos, Entries}
 use Rattle.harvest_lattice.specs.Knowledge.{Harvested, IsShown, lat, shown, shown_of}
-use Rattle.harvest_lattice.specs.Choice.{distance, IsNearest, IsLast}
+use Rattle.memento_index.specs.Choice.{distance, IsNearest, IsLast}
 use Rattle.harvest_lattice.proofs.Knowledge.{lat_same, shown-is, shown-lat}
-use Rattle.harvest_lattice.proofs.Choice.{nearest-is, last-is}
+use Rattle.memento_index.proofs.Choice.{nearest-is, last-is}
 use Rattle.timemap_writer.specs.TimeMap.{gate_links}
 use Rattle.timegate.specs.declared.reply.Reply.{Reply}
 use Rattle.timegate.specs.declared.reply.Header.{Header}
@@ -18,16 +23,16 @@ use Rattle.timegate.specs.declared.request.Request.{Request}
 use Rattle.timegate.specs.declared.route.Route.{Route}
 use Rattle.timegate.specs.declared.route.Route.TheVariants.{BadMethod, State, NoRoute, BadOriginal, BadDatetime, TimeGate, TimeMap}
 use Rattle.timegate.specs.Route.{route_of}
-use Rattle.timegate.specs.Reply.{routed, reply, reply_of, redirect, timemap, chosen, vary}
-use Rattle.timegate.specs.Redirect.{Redirects}
+use Rattle.timegate.specs.Reply.{reply_at, reply, reply_of, redirect, timemap, choice_at, vary}
+use Rattle.timegate.specs.Redirect.{Redirects, IsGateReply}
 
-routed_from_state : (base : List ℕ) (known : List Harvested) (q : Request) (route : Route) → routed base (shown known) (lat known) q route ≡ routed base (shown_of (lat known)) (lat known) q route
+routed_from_state : (base : List ℕ) (known : List Harvested) (q : Request) (route : Route) → reply_at base (shown known) (lat known) q route ≡ reply_at base (shown_of (lat known)) (lat known) q route
 routed_from_state base known q BadMethod = refl
 routed_from_state base known q State = refl
 routed_from_state base known q NoRoute = refl
 routed_from_state base known q BadOriginal = refl
 routed_from_state base known q BadDatetime = refl
-routed_from_state base known q (TimeGate original asked) = ap (λ (ms : Mementos). redirect base q original ms (chosen ms asked)) (shown-lat known original)
+routed_from_state base known q (TimeGate original asked) = ap (λ (ms : Mementos). redirect base q original ms (choice_at ms asked)) (shown-lat known original)
 routed_from_state base known q (TimeMap original) = ap (λ (ms : Mementos). timemap base q original (set.items ms)) (shown-lat known original)
 
 -- a reply is that of the state
@@ -39,7 +44,7 @@ reply_from_state base known q = routed_from_state base known q (route_of q)
 pub timemap_reply : (base : List ℕ) (known : List Harvested) (q : Request) (original : List ℕ) → route_of q ≡ TimeMap original
     → reply base known q ≡ timemap base q original (set.items (shown known original))
 unfolding reply
-timemap_reply base known q original is = ap (λ (route : Route). routed base (shown known) (lat known) q route) is
+timemap_reply base known q original is = ap (λ (route : Route). reply_at base (shown known) (lat known) q route) is
 
 -- equal states give equal replies
 pub same_reply : (base : List ℕ) (known others : List Harvested) (q : Request) → lat known ≡ lat others → reply base known q ≡ reply base others q
@@ -65,7 +70,7 @@ no_more : {P : Type 0} (a b : ℕ) → (a < b) ⊎ ((a ≡ b) × P) → a ≤ b
 no_more a b (inl less) = omega (arith, less)
 no_more a b (inr tie) = let e : a ≡ b = tie.0 in omega (arith, e)
 
-choice : (known : List Harvested) (original : List ℕ) (asked : Option ℕ) (m : Memento) → chosen (shown known original) asked ≡ Some m → IsChosen known original asked m
+choice : (known : List Harvested) (original : List ℕ) (asked : Option ℕ) (m : Memento) → choice_at (shown known original) asked ≡ Some m → IsChosen known original asked m
 choice known original None m is =
     let l : IsLast (shown known original) m = subst (λ (o : Option Memento). MatchOption o (set.items (shown known original) ≡ []) (IsLast (shown known original))) is (last-is (shown known original)) in
     record {
@@ -79,7 +84,7 @@ choice known original (Some second) m is =
       nearest = λ other there. no_more (distance second m) (distance second other) (n.nearest other ((shown-is known original other).1 there));
     }
 
-redirected : (base : List ℕ) (known : List Harvested) (q : Request) (original : List ℕ) (asked : Option ℕ) (c : Option Memento) → chosen (shown known original) asked ≡ c
+redirected : (base : List ℕ) (known : List Harvested) (q : Request) (original : List ℕ) (asked : Option ℕ) (c : Option Memento) → choice_at (shown known original) asked ≡ c
     → (redirect base q original (shown known original) c).status ≡ 302 → Redirects known original asked (redirect base q original (shown known original) c)
 redirected base known q original asked None is status = absurd (omega arith)
 redirected base known q original asked (Some m) is status =
@@ -92,6 +97,33 @@ redirected base known q original asked (Some m) is status =
       nearest = c.nearest;
     }
 
+-- nothing is shown where no memento can be chosen
+nothing_in : (ms : Mementos) (m : Memento) → set.items ms ≡ [] → ¬ (set.contains ms m ≡ true)
+nothing_in ms m none held =
+    let found : list_any (eq_by_cmp memento_cmp m) (set.items ms) ≡ true = sym (contains_key-keys ms m) ∙ held in
+    let lost : list_any (eq_by_cmp memento_cmp m) [] ≡ true = subst (λ (xs : List Memento). list_any (eq_by_cmp memento_cmp m) xs ≡ true) none found in
+    absurd (true≢false (sym lost))
+
+nothing_shown : (known : List Harvested) (original : List ℕ) (asked : Option ℕ) → choice_at (shown known original) asked ≡ None → (m : Memento) → ¬ IsShown known original m
+nothing_shown known original None is m there =
+    let none : set.items (shown known original) ≡ [] = subst (λ (o : Option Memento). MatchOption o (set.items (shown known original) ≡ []) (IsLast (shown known original))) is (last-is (shown known original)) in
+    nothing_in (shown known original) m none ((shown-is known original m).1 there)
+nothing_shown known original (Some second) is m there =
+    let none : set.items (shown known original) ≡ [] = subst (λ (o : Option Memento). MatchOption o (set.items (shown known original) ≡ []) (IsNearest (shown known original) second)) is (nearest-is (shown known original) second) in
+    nothing_in (shown known original) m none ((shown-is known original m).1 there)
+
+gate_at : (base : List ℕ) (known : List Harvested) (q : Request) (original : List ℕ) (asked : Option ℕ) (c : Option Memento) → choice_at (shown known original) asked ≡ c
+    → IsGateReply known original asked (redirect base q original (shown known original) c)
+gate_at base known q original asked None is = inl (nothing_shown known original asked is, refl)
+gate_at base known q original asked (Some m) is = inr ((m, (choice known original asked m is).shown), refl, redirected base known q original asked (Some m) is refl)
+
+-- a TimeGate redirects where anything is shown
+pub gate_reply : (base : List ℕ) (known : List Harvested) (q : Request) (original : List ℕ) (asked : Option ℕ) → route_of q ≡ TimeGate original asked
+    → IsGateReply known original asked (reply base known q)
+unfolding reply
+gate_reply base known q original asked is =
+    subst (λ (route : Route). IsGateReply known original asked (reply_at base (shown known) (lat known) q route)) (sym is) (gate_at base known q original asked _ refl)
+
 -- one of two replies, neither of them a redirect
 not_found : (b : Bool) (x y : Reply) → x.status ≡ 404 → y.status ≡ 200 → (if b then x else y).status ≡ 302 → ⊥
 not_found true x y is other status = omega (arith, is, status)
@@ -100,9 +132,9 @@ not_found false x y is other status = omega (arith, other, status)
 -- that the reply to what is asked for redirects well
 abbrev RedirectsAt : List ℕ → List Harvested → Request → Route → Type 0
 RedirectsAt base known q route =
-    (original : List ℕ) × (asked : Option ℕ) × (route ≡ TimeGate original asked) × Redirects known original asked (routed base (shown known) (lat known) q route)
+    (original : List ℕ) × (asked : Option ℕ) × (route ≡ TimeGate original asked) × Redirects known original asked (reply_at base (shown known) (lat known) q route)
 
-at_route : (base : List ℕ) (known : List Harvested) (q : Request) (route : Route) → (routed base (shown known) (lat known) q route).status ≡ 302 → RedirectsAt base known q route
+at_route : (base : List ℕ) (known : List Harvested) (q : Request) (route : Route) → (reply_at base (shown known) (lat known) q route).status ≡ 302 → RedirectsAt base known q route
 at_route base known q BadMethod status = absurd (omega arith)
 at_route base known q State status = absurd (omega arith)
 at_route base known q NoRoute status = absurd (omega arith)

@@ -1,8 +1,8 @@
--- Which memento a redirect names (RFC 7089, section 4.2): one of the latest harvests, than which none of these is nearer.
-use Rattle.std.specs.Prelude.{ℕ, ◌≤◌, List, Contains, Option, MatchOption}
+-- What a TimeGate replies (RFC 7089, section 4.2): a redirect to a memento of the latest harvests than which none of these is nearer, or a 404 where they have none.
+use Rattle.std.specs.Prelude.{◌≡◌, ℕ, ◌≤◌, ◌⊎◌, List, Contains, Option, MatchOption}
 use Rattle.memento_time.specs.declared.mementos.Memento.{Memento}
 use Rattle.harvest_lattice.specs.Knowledge.{Harvested, IsShown}
-use Rattle.harvest_lattice.specs.Choice.{distance}
+use Rattle.memento_index.specs.Choice.{distance}
 use Rattle.timegate.specs.declared.reply.Reply.{Reply}
 use Rattle.timegate.specs.declared.reply.Header.TheVariants.{Location}
 
@@ -12,3 +12,9 @@ pub record Redirects (known : List Harvested) (original : List ℕ) (asked : Opt
   pub location : Contains reply.headers (Location, memento.uri)
   pub shown : IsShown known original memento
   pub nearest : (other : Memento) → IsShown known original other → MatchOption asked (other.at ≤ memento.at) (λ second. distance second memento ≤ distance second other)
+
+-- the reply of an original's TimeGate: where nothing of it is shown 404, and wherever anything is a redirect
+abbrev pub IsGateReply : List Harvested → List ℕ → Option ℕ → Reply → Type 0
+IsGateReply known original asked reply =
+    (((m : Memento) → ¬ IsShown known original m) × (reply.status ≡ 404))
+    ⊎ (((m : Memento) × IsShown known original m) × (reply.status ≡ 302) × Redirects known original asked reply)

@@ -4,7 +4,7 @@ use Rattle.memento_time.specs.declared.mementos.Memento.{Memento}
 use Rattle.harvest_lattice.specs.Sets as set
 use Rattle.harvest_lattice.specs.Lattice.{Mementos, Entries}
 use Rattle.harvest_lattice.specs.Knowledge.{Harvested, lat, shown, shown_of}
-use Rattle.harvest_lattice.specs.Choice.{nearest, last}
+use Rattle.memento_index.specs.Choice.{nearest, last}
 use Rattle.replica_exchange.specs.StateText.{state_text}
 use Rattle.timemap_writer.specs.TimeMap.{timemap_text, gate_links}
 use Rattle.timegate.specs.declared.reply.Reply.{Reply}
@@ -28,55 +28,55 @@ abbrev pub Headers : Type 0
 Headers = List (Header × List ℕ)
 
 -- HEAD has the status and the headers, and no body
-abbrev pub answered : Request → ℕ → Headers → List ℕ → Reply
-answered q status headers body = record { status = status; headers = headers; body = if is_head q then [] else body }
+abbrev pub reply_with : Request → ℕ → Headers → List ℕ → Reply
+reply_with q status headers body = record { status = status; headers = headers; body = if is_head q then [] else body }
 
 -- whatever a TimeGate says depends on the datetime that is asked for (RFC 7089, section 2.1.2)
 abbrev pub vary : Request → Headers
 vary q = if is_timegate q then (Vary, codes "accept-datetime") ∷ [] else []
 
 -- a short text, behind these headers
-abbrev pub told : Request → ℕ → Headers → List ℕ → Reply
-told q status headers text = answered q status (headers ++ vary q ++ (ContentType, codes "text/plain") ∷ []) text
+abbrev pub short_reply : Request → ℕ → Headers → List ℕ → Reply
+short_reply q status headers text = reply_with q status (headers ++ vary q ++ (ContentType, codes "text/plain") ∷ []) text
 
 -- the methods that are allowed
 abbrev pub bad_method : Request → Reply
-bad_method q = told q 405 ((Allow, codes "GET, HEAD") ∷ []) (codes "bad method\n")
+bad_method q = short_reply q 405 ((Allow, codes "GET, HEAD") ∷ []) (codes "bad method\n")
 
 -- the nearest memento to the second that is asked for, or the last where none is
-abbrev pub chosen : Mementos → Option ℕ → Option Memento
-chosen mementos None = last mementos
-chosen mementos (Some second) = nearest mementos second
+abbrev pub choice_at : Mementos → Option ℕ → Option Memento
+choice_at mementos None = last mementos
+choice_at mementos (Some second) = nearest mementos second
 
 -- to the chosen memento, with links to the original and its TimeMap (RFC 7089, section 4.2)
 abbrev pub redirect : List ℕ → Request → List ℕ → Mementos → Option Memento → Reply
-redirect base q original mementos None = told q 404 [] (codes "no memento\n")
+redirect base q original mementos None = short_reply q 404 [] (codes "no memento\n")
 redirect base q original mementos (Some m) =
-    answered q 302 (vary q ++ (Location, m.uri) ∷ (Link, gate_links base original (set.items mementos)) ∷ []) []
+    reply_with q 302 (vary q ++ (Location, m.uri) ∷ (Link, gate_links base original (set.items mementos)) ∷ []) []
 
 -- the TimeMap, where any memento is shown (RFC 7089, section 5)
 abbrev pub timemap : List ℕ → Request → List ℕ → List Memento → Reply
 timemap base q original mementos =
-    if length mementos == 0 then told q 404 [] (codes "no memento\n")
-    else answered q 200 ((ContentType, codes "application/link-format") ∷ []) (timemap_text base original mementos)
+    if length mementos == 0 then short_reply q 404 [] (codes "no memento\n")
+    else reply_with q 200 ((ContentType, codes "application/link-format") ∷ []) (timemap_text base original mementos)
 
 -- by what is asked for, from what is shown of each original and what is kept of all
-abbrev pub routed : List ℕ → (List ℕ → Mementos) → Entries → Request → Route → Reply
-routed base shows entries q BadMethod = bad_method q
-routed base shows entries q State = answered q 200 ((ContentType, codes "text/plain") ∷ []) (state_text entries)
-routed base shows entries q NoRoute = told q 404 [] (codes "no such route\n")
-routed base shows entries q BadOriginal = told q 400 [] (codes "bad original\n")
-routed base shows entries q BadDatetime = told q 400 [] (codes "bad datetime\n")
-routed base shows entries q (TimeGate original asked) = redirect base q original (shows original) (chosen (shows original) asked)
-routed base shows entries q (TimeMap original) = timemap base q original (set.items (shows original))
+abbrev pub reply_at : List ℕ → (List ℕ → Mementos) → Entries → Request → Route → Reply
+reply_at base shows entries q BadMethod = bad_method q
+reply_at base shows entries q State = reply_with q 200 ((ContentType, codes "text/plain") ∷ []) (state_text entries)
+reply_at base shows entries q NoRoute = short_reply q 404 [] (codes "no such route\n")
+reply_at base shows entries q BadOriginal = short_reply q 400 [] (codes "bad original\n")
+reply_at base shows entries q BadDatetime = short_reply q 400 [] (codes "bad datetime\n")
+reply_at base shows entries q (TimeGate original asked) = redirect base q original (shows original) (choice_at (shows original) asked)
+reply_at base shows entries q (TimeMap original) = timemap base q original (set.items (shows original))
 
 -- the reply of one that has taken these harvests
 unfoldable pub reply : List ℕ → List Harvested → Request → Reply
-reply base known q = routed base (shown known) (lat known) q (route_of q)
+reply base known q = reply_at base (shown known) (lat known) q (route_of q)
 
 -- the reply of one that has this state
 unfoldable pub reply_of : List ℕ → Entries → Request → Reply
-reply_of base entries q = routed base (shown_of entries) entries q (route_of q)
+reply_of base entries q = reply_at base (shown_of entries) entries q (route_of q)
 
 -- the text of an original's TimeMap
 abbrev pub timemap_of : List ℕ → List Harvested → List ℕ → List ℕ

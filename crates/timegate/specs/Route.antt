@@ -8,11 +8,11 @@ use Rattle.timegate.specs.declared.request.Request.{Request}
 use Rattle.timegate.specs.declared.route.Route.{Route}
 use Rattle.timegate.specs.declared.route.Route.TheVariants.{BadMethod, State, NoRoute, BadOriginal, BadDatetime, TimeGate, TimeMap}
 
--- GET, with regard to case
+-- the method is GET, case-sensitive
 abbrev pub is_get : Request → Bool
 is_get q = bytes_eq q.method (codes "GET")
 
--- HEAD, with regard to case
+-- the method is HEAD, case-sensitive
 abbrev pub is_head : Request → Bool
 is_head q = bytes_eq q.method (codes "HEAD")
 

@@ -3,12 +3,12 @@ ghost use Rattle.std.specs.Prelude.{◌≡◌, ◌++◌, ◌∷◌, [], List, If
 ghost use Rattle.harvest_lattice.specs.Sets as set;
 ghost use Rattle.harvest_lattice.specs.Knowledge.{Harvested, lat, shown_of};
 ghost use Rattle.replica_exchange.specs.StateText.{state_text};
-ghost use Rattle.timegate.specs.Reply.{answered, vary, told, bad_method, redirect, timemap, routed, reply, reply_of};
+ghost use Rattle.timegate.specs.Reply.{reply_with, vary, short_reply, bad_method, redirect, timemap, reply_at, reply, reply_of};
 
 use crate::reply::{Header, Reply};
 use crate::request::Request;
 use crate::route::{Route, is_head, is_timegate, route_of};
-use harvest_lattice::Index;
+use memento_index::Index;
 use memento_time::{Items, Memento, NoMemory, Octets, Original};
 use replica_exchange::write_state;
 use std::alloc::Global;
@@ -41,25 +41,25 @@ pub fn answer(
         IfOk result (λ answer. answer ≡ reply service.now known request.now) }
 {
     let route = route_of(alloc, request)?;
-    routed(alloc, service, index, request, &route)
+    reply_at(alloc, service, index, request, &route)
 }
 
 // The reply to what the request asks for.
-fn routed(
+fn reply_at(
     alloc: Global,
     service: &Service,
     index: &Index,
     request: &Request,
     route: &Route,
 ) -> Result<Reply, NoMemory>
-    ensures { IfOk result (λ answer. answer ≡ routed service.now (shown_of index.now) index.now request.now route.now) }
+    ensures { IfOk result (λ answer. answer ≡ reply_at service.now (shown_of index.now) index.now request.now route.now) }
 {
     match route {
         Route::BadMethod => bad_method(alloc, request),
         Route::State => state(alloc, index, request),
-        Route::NoRoute => told(alloc, request, 404, Vec::new(alloc), b"no such route\n"),
-        Route::BadOriginal => told(alloc, request, 400, Vec::new(alloc), b"bad original\n"),
-        Route::BadDatetime => told(alloc, request, 400, Vec::new(alloc), b"bad datetime\n"),
+        Route::NoRoute => short_reply(alloc, request, 404, Vec::new(alloc), b"no such route\n"),
+        Route::BadOriginal => short_reply(alloc, request, 400, Vec::new(alloc), b"bad original\n"),
+        Route::BadDatetime => short_reply(alloc, request, 400, Vec::new(alloc), b"bad datetime\n"),
         Route::TimeGate(original, asked) => {
             let memento = match asked {
                 None => index.latest(original),
@@ -84,14 +84,14 @@ fn redirect(
         ≡ redirect service.now request.now original.now (shown_of index.now original.now) (option_copied memento.entry)) }
 {
     let Some(memento) = memento else {
-        return told(alloc, request, 404, Vec::new(alloc), b"no memento\n");
+        return short_reply(alloc, request, 404, Vec::new(alloc), b"no memento\n");
     };
     let links = write_gate_links(alloc, service, original, index.list(original))?;
     let mut headers = Vec::new(alloc);
     push_vary(alloc, &mut headers, request)?;
     headers.push((Header::Location, octets(alloc, memento.uri.as_bytes())?))?;
     headers.push((Header::Link, Octets::of(links)))?;
-    Ok(answered(request, 302, headers, Vec::new(alloc)))
+    Ok(reply_with(request, 302, headers, Vec::new(alloc)))
 }
 
 // The TimeMap, if any memento is shown.
@@ -107,7 +107,7 @@ fn timemap(
 {
     let mementos = index.list(original);
     if mementos.is_empty() {
-        return told(alloc, request, 404, Vec::new(alloc), b"no memento\n");
+        return short_reply(alloc, request, 404, Vec::new(alloc), b"no memento\n");
     }
     let text = if is_head(request) {
         Vec::new(alloc)
@@ -117,13 +117,13 @@ fn timemap(
     let mut headers = Vec::new(alloc);
     let kind = octets(alloc, b"application/link-format")?;
     headers.push((Header::ContentType, kind))?;
-    Ok(answered(request, 200, headers, text))
+    Ok(reply_with(request, 200, headers, text))
 }
 
 // The state bytes, which peers fetch.
 fn state(alloc: Global, index: &Index, request: &Request) -> Result<Reply, NoMemory>
     ensures { IfOk result (λ answer. answer
-        ≡ answered request.now 200 ((Header.ContentType, codes "text/plain") ∷ []) (state_text index.now)) }
+        ≡ reply_with request.now 200 ((Header.ContentType, codes "text/plain") ∷ []) (state_text index.now)) }
 {
     let text = if is_head(request) {
         Vec::new(alloc)
@@ -132,7 +132,7 @@ fn state(alloc: Global, index: &Index, request: &Request) -> Result<Reply, NoMem
     };
     let mut headers = Vec::new(alloc);
     headers.push((Header::ContentType, octets(alloc, b"text/plain")?))?;
-    Ok(answered(request, 200, headers, text))
+    Ok(reply_with(request, 200, headers, text))
 }
 
 fn bad_method(alloc: Global, request: &Request) -> Result<Reply, NoMemory>
@@ -140,24 +140,24 @@ fn bad_method(alloc: Global, request: &Request) -> Result<Reply, NoMemory>
 {
     let mut headers = Vec::new(alloc);
     headers.push((Header::Allow, octets(alloc, b"GET, HEAD")?))?;
-    told(alloc, request, 405, headers, b"bad method\n")
+    short_reply(alloc, request, 405, headers, b"bad method\n")
 }
 
 // A short text, behind these headers.
-fn told(
+fn short_reply(
     alloc: Global,
     request: &Request,
     status: u16,
     headers: Vec<(Header, Octets)>,
     text: &[u8],
 ) -> Result<Reply, NoMemory>
-    ensures { IfOk result (λ answer. answer ≡ told request.now status headers.items text.now) }
+    ensures { IfOk result (λ answer. answer ≡ short_reply request.now status headers.items text.now) }
 {
     let mut headers = headers;
     push_vary(alloc, &mut headers, request)?;
     headers.push((Header::ContentType, octets(alloc, b"text/plain")?))?;
     let body = Vec::from_slice(alloc, text)?;
-    Ok(answered(request, status, headers, body))
+    Ok(reply_with(request, status, headers, body))
 }
 
 // What a TimeGate says depends on the moment that is asked for.
@@ -175,8 +175,13 @@ fn push_vary(
 }
 
 // HEAD is answered without the body.
-fn answered(request: &Request, status: u16, headers: Vec<(Header, Octets)>, body: Vec<u8>) -> Reply
-    ensures { result ≡ answered request.now status headers.items body.items }
+fn reply_with(
+    request: &Request,
+    status: u16,
+    headers: Vec<(Header, Octets)>,
+    body: Vec<u8>,
+) -> Reply
+    ensures { result ≡ reply_with request.now status headers.items body.items }
 {
     let mut body = body;
     if is_head(request) {

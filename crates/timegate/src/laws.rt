@@ -4,7 +4,7 @@ ghost use Rattle.harvest_lattice.specs.Knowledge.{Harvested, lat};
 ghost use Rattle.timegate.specs.declared.request.Request.{Request};
 ghost use Rattle.timemap_writer.specs.TimeMap.{timegate_address, timemap_address};
 ghost use Rattle.timegate.specs.declared.route.Route.TheVariants.{TimeGate, TimeMap};
-ghost use Rattle.timegate.specs.Redirect.{Redirects};
+ghost use Rattle.timegate.specs.Redirect.{Redirects, IsGateReply};
 ghost use Rattle.timegate.specs.Reply.{reply, reply_of};
 ghost use Rattle.timegate.specs.Route.{is_timegate, original_at, timegate_route, route_of};
 ghost use Rattle.timegate.specs.Promises.{as_get, without_body, vary_values, AreInOrder};
@@ -20,10 +20,13 @@ pub fn same_harvests_same_reply()
         → (q : Request) → reply base known q ≡ reply base others q }
 {}
 
-/// Each redirect names a memento of the latest harvests of the original, and none of these is nearer to the second
-/// that is asked for; where none is asked for, none is later.
+/// A TimeGate redirects wherever anything of the original is shown, and is not found where nothing is. Each redirect
+/// names a memento of the latest harvests of the original, and none of these is nearer to the second that is asked
+/// for; where none is asked for, none is later.
 pub fn redirects_name_the_nearest()
-    ensures { (base : List ℕ) (known : List Harvested) (q : Request) → (reply base known q).status ≡ 302
+    ensures timegates { (base : List ℕ) (known : List Harvested) (q : Request) (original : List ℕ) (asked : Option ℕ)
+        → route_of q ≡ TimeGate original asked → IsGateReply known original asked (reply base known q) }
+    ensures redirects { (base : List ℕ) (known : List Harvested) (q : Request) → (reply base known q).status ≡ 302
         → (original : List ℕ) × (asked : Option ℕ) × (route_of q ≡ TimeGate original asked) × Redirects known original asked (reply base known q) }
 {}
 

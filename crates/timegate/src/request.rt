@@ -4,7 +4,7 @@ use memento_time::{Items, Octets};
 /// What a client asks, as it stands in the head of an HTTP request.
 #[derive(Debug, Drop)]
 pub struct Request {
-    /// The method. Methods are compared with regard to case.
+    /// The method; methods are case-sensitive.
     pub method: Octets,
     /// The path and the query.
     pub target: Octets,

@@ -5,6 +5,7 @@ pub mod Found
 mod Trims
 pub mod Datetimes
 pub mod FirstLemmas
+pub mod FirstLaws
 pub mod SetLemmas
 mod Named
 pub mod SameLists

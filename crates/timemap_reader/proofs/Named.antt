@@ -34,10 +34,10 @@ module _ {A : Type 0} (role : Link → Bool) (meaning : Link → Option A) (xs :
 -- What the links before a link name, what it names as a memento link, and then as the link of a further TimeMap, is what these links name with it.
 pub found_next : (base : Parts) (links : List Link) (k : ℕ) (link : Link) (old mid new : Found) → slice_get links k ≡ Some link
     → IsFoundIn base (take k links) old
-    → mid.mementos.items ≡ old.mementos.items ++ named is_memento_link (memento_of base) (link ∷ [])
+    → mid.mementos ≡ old.mementos ++ named is_memento_link (memento_of base) (link ∷ [])
     → mid.further.items ≡ old.further.items
     → mid.dropped ≡ old.dropped + left_out is_memento_link (memento_of base) (link ∷ [])
-    → new.mementos.items ≡ mid.mementos.items
+    → new.mementos ≡ mid.mementos
     → new.further.items ≡ mid.further.items ++ named is_further_link (further_of base) (link ∷ [])
     → new.dropped ≡ mid.dropped + left_out is_further_link (further_of base) (link ∷ [])
     → IsFoundIn base (take (k + 1) links) new

@@ -1,11 +1,15 @@
 -- Lists without repeats.
 use Rattle.std.specs.Prelude.{ℕ, Bool, not, List, [], ◌∷◌, ◌++◌, map, bytes_eq}
-use Rattle.std.specs.List.{filter, list_any, zip}
+use Rattle.std.specs.List.{filter, list_any, position_or_len, zip}
 
 -- each text once, where it stands first
 abbrev pub firsts : List (List ℕ) → List (List ℕ)
 firsts [] = []
 firsts (x ∷ xs) = x ∷ filter (λ y. not (bytes_eq y x)) (firsts xs)
+
+-- how many texts stand before the first that is this one
+abbrev pub first_place : List (List ℕ) → List ℕ → ℕ
+first_place texts text = position_or_len (bytes_eq text) texts
 
 -- of each text whether it is none of those before it
 abbrev pub marks_after : List (List ℕ) → List (List ℕ) → List Bool

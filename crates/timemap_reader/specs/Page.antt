@@ -1,20 +1,14 @@
 -- What a page of a TimeMap says (RFC 7089, section 5): its mementos, its further TimeMaps, and how many links were left out.
-use Rattle.std.specs.Prelude.{◌≡◌, ℕ, ◌+◌, ◌↔◌, Bool, List, Option, Contains, count_by}
+use Rattle.std.specs.Prelude.{◌≡◌, ℕ, ◌+◌, Bool, List, Option, count_by}
 use Rattle.std.specs.List.{filter, filter_map}
-use Rattle.std.specs.List.Sorted.{IsStrictlySortedBy}
 use Rattle.std.specs.Option.{is_none}
 use Rattle.url.specs.Parts.{Parts}
 use Rattle.memento_time.specs.declared.mementos.Memento.{Memento}
-use Rattle.memento_time.specs.Mementos.{memento_cmp}
+use Rattle.memento_time.specs.Mementos.{IsSetOf}
 use Rattle.link_format.specs.Grammar.{Link}
 use Rattle.timemap_reader.specs.declared.page.Page.{Page}
 use Rattle.timemap_reader.specs.Firsts.{firsts}
 use Rattle.timemap_reader.specs.Role.{is_memento_link, is_further_link, memento_of, further_of}
-
--- the list has the same members, in order and each once
-pub record IsSetOf (list members : List Memento) : Type 0 where
-  pub sorted : IsStrictlySortedBy memento_cmp list
-  pub same : (m : Memento) → Contains list m ↔ Contains members m
 
 -- what the links of a role name
 abbrev pub named : {A : Type 0} → (Link → Bool) → (Link → Option A) → List Link → List A

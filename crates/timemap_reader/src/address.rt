@@ -1,10 +1,11 @@
 //! The addresses that a page's links name.
-ghost use Rattle.std.specs.Prelude.{◌≡◌, ◌==◌, ◌<◌, IsTrue, IfOk, IfSome, length, option_map, string_bytes};
+ghost use Rattle.std.specs.Prelude.{◌≡◌, ◌==◌, ◌<◌, IsTrue, IfOk, IfSome, OnOk, is_some, length, option_map, string_bytes};
 ghost use Rattle.std.specs.List.{before_first};
 ghost use Rattle.url.specs.Parts.{serialize};
 ghost use Rattle.timemap_reader.specs.Address as spec;
+ghost use Rattle.timemap_reader.specs.Found.{with_found};
 
-use memento_time::{Clean, CleanFault};
+use memento_time::{Clean, CleanFault, MementosBuilder, Moment};
 use percent_encoding::{AsciiSet, CONTROLS, ascii_set, percent_encode};
 use std::alloc::{AllocError, Global};
 use url::{ParseError, Url};
@@ -100,21 +101,50 @@ fn joined(base: &Url, target: &[u8]) -> Result<Option<Url>, AllocError>
     }
 }
 
-/// The address of a memento; None where the target names none.
-pub(crate) fn memento_address(
+/// Adds the memento at the address that the text is in clean bytes. False where they are too many.
+fn push_at_text(
+    mementos: &mut MementosBuilder,
+    at: Moment,
+    alloc: Global,
+    text: &[u8],
+) -> Result<bool, AllocError>
+    requires { 0 < length text.now }
+    ensures mementos { OnOk result (mementos.new ≡ with_found mementos.old
+        (option_map (λ uri. record { at = at; uri = uri }) (spec.clean_address text.now))) }
+    ensures found { IfOk result (λ found. found ≡ is_some (spec.clean_address text.now)) }
+{
+    // Most addresses are clean as they stand.
+    match mementos.push(at, text) {
+        Ok(()) => return Ok(true),
+        Err(CleanFault::NotClean) => {}
+        Err(CleanFault::NoMemory) => return Err(AllocError),
+    }
+    match mementos.push(at, cleaned(alloc, text)?.as_bytes()) {
+        Ok(()) => Ok(true),
+        Err(CleanFault::NotClean) => Ok(false),
+        Err(CleanFault::NoMemory) => Err(AllocError),
+    }
+}
+
+/// Adds the memento of this second at the address that the target names. False where it names none.
+pub(crate) fn push_memento_at(
+    mementos: &mut MementosBuilder,
+    at: Moment,
     alloc: Global,
     base: &Url,
     target: &[u8],
-) -> Result<Option<Clean>, AllocError>
-    ensures { IfOk result (λ address. address ≡ spec.memento_address base.now target.now) }
+) -> Result<bool, AllocError>
+    ensures mementos { OnOk result (mementos.new ≡ with_found mementos.old
+        (option_map (λ uri. record { at = at; uri = uri }) (spec.memento_address base.now target.now))) }
+    ensures found { IfOk result (λ found. found ≡ is_some (spec.memento_address base.now target.now)) }
 {
     // Dot segments of an archived address stay, so it is not joined.
     if is_http_target(target) {
-        return clean_address(alloc, target);
+        return push_at_text(mementos, at, alloc, target);
     }
     match joined(base, target)? {
-        Some(url) => clean_address(alloc, url.as_str().as_bytes()),
-        None => Ok(None),
+        Some(url) => push_at_text(mementos, at, alloc, url.as_str().as_bytes()),
+        None => Ok(false),
     }
 }
 

@@ -2,14 +2,14 @@
 ghost use Rattle.std.specs.Prelude.{◌≡◌, ◌≤◌, ◌<◌, ◌+◌, ◌^◌, ◌⊎◌, ◌++◌, [], ◌∷◌, Some, None, IfOk, OnOk, MatchResult, length};
 ghost use Rattle.timemap_reader.specs.Answer.{IsAnswer, base_of, words_of};
 ghost use Rattle.timemap_reader.specs.Found.{IsFoundIn};
-ghost use Rattle.timemap_reader.specs.Page.{IsPageOf, IsSetOf, left_out, named};
+ghost use Rattle.timemap_reader.specs.Page.{IsPageOf, left_out, named};
 ghost use Rattle.timemap_reader.specs.Role.{further_of, is_further_link, is_memento_link, memento_of, rel_of};
 
 use crate::address::is_http;
 use crate::firsts::firsts;
 use crate::role;
 use link_format::{LinkFault, LinkRef, Links, read_links};
-use memento_time::{Clean, Items, Memento};
+use memento_time::{Clean, Items, Memento, MementosBuilder, in_order};
 use std::alloc::{AllocError, Global};
 use std::error::Error;
 use std::fmt;
@@ -72,7 +72,7 @@ impl From<AllocError> for PageFault {
 /// What the links so far name, with repeats.
 #[derive(Drop)]
 struct Found {
-    mementos: Vec<Memento>,
+    mementos: MementosBuilder,
     further: Vec<Clean>,
     dropped: u64,
 }
@@ -88,8 +88,8 @@ impl Found {
     ) -> Result<(), AllocError>
         requires rel { rel.now ≡ rel_of link.now }
         requires room { self.old.dropped < 2 ^ 63 }
-        ensures mementos { OnOk result (self.new.mementos.items
-            ≡ self.old.mementos.items ++ named is_memento_link (memento_of base.now) (link.now ∷ [])) }
+        ensures mementos { OnOk result (self.new.mementos
+            ≡ self.old.mementos ++ named is_memento_link (memento_of base.now) (link.now ∷ [])) }
         ensures further { OnOk result (self.new.further.items ≡ self.old.further.items) }
         ensures dropped { OnOk result (self.new.dropped
             ≡ self.old.dropped + left_out is_memento_link (memento_of base.now) (link.now ∷ [])) }
@@ -98,9 +98,8 @@ impl Found {
         if !role::is_memento_link(rel) {
             return Ok(());
         }
-        match role::memento(alloc, base, link)? {
-            Some(memento) => self.mementos.push(memento)?,
-            None => self.dropped += 1,
+        if !role::push_memento(&mut self.mementos, alloc, base, link)? {
+            self.dropped += 1;
         }
         Ok(())
     }
@@ -115,7 +114,7 @@ impl Found {
     ) -> Result<(), AllocError>
         requires rel { rel.now ≡ rel_of link.now }
         requires room { self.old.dropped < 2 ^ 63 }
-        ensures mementos { OnOk result (self.new.mementos.items ≡ self.old.mementos.items) }
+        ensures mementos { OnOk result (self.new.mementos ≡ self.old.mementos) }
         ensures further { OnOk result (self.new.further.items
             ≡ self.old.further.items ++ named is_further_link (further_of base.now) (link.now ∷ [])) }
         ensures dropped { OnOk result (self.new.dropped
@@ -139,7 +138,7 @@ fn find(alloc: Global, base: &Url, links: &Links<'_>) -> Result<Found, AllocErro
     ensures { IfOk result (λ found. IsFoundIn base.now links.now found) }
 {
     let mut found = Found {
-        mementos: Vec::new(alloc),
+        mementos: MementosBuilder::new(alloc),
         further: Vec::new(alloc),
         dropped: 0,
     };
@@ -152,15 +151,6 @@ fn find(alloc: Global, base: &Url, links: &Links<'_>) -> Result<Found, AllocErro
     Ok(found)
 }
 
-/// The mementos in order, each once.
-fn in_order(mut mementos: Vec<Memento>) -> Result<Vec<Memento>, AllocError>
-    ensures { IfOk result (λ list. IsSetOf list.items mementos.items) }
-{
-    mementos.sort()?;
-    mementos.dedup();
-    Ok(mementos)
-}
-
 /// What these links say on a page at this base.
 fn page_of(alloc: Global, base: &Url, links: &Links<'_>) -> Result<Page, AllocError>
     requires { length links.now ≤ 200000 }
@@ -168,7 +158,7 @@ fn page_of(alloc: Global, base: &Url, links: &Links<'_>) -> Result<Page, AllocEr
 {
     let found = find(alloc, base, links)?;
     Ok(Page {
-        mementos: Items::of(in_order(found.mementos)?),
+        mementos: Items::of(in_order(found.mementos.build(alloc)?)),
         further: Items::of(firsts(alloc, found.further)?),
         dropped: found.dropped,
     })

@@ -1,12 +1,13 @@
 //! What a link of a page is, by its relation types.
-ghost use Rattle.std.specs.Prelude.{◌≡◌, Some, IfOk, codes};
+ghost use Rattle.std.specs.Prelude.{◌≡◌, Some, IfOk, OnOk, is_some, codes};
 ghost use Rattle.std.specs.Cow.{cow_slice_items};
 ghost use Rattle.link_format.specs.Values.{first_value};
+ghost use Rattle.timemap_reader.specs.Found.{with_found};
 ghost use Rattle.timemap_reader.specs.Role as spec;
 
-use crate::address::{before_byte, further_address, is_same_word, memento_address};
+use crate::address::{before_byte, further_address, is_same_word, push_memento_at};
 use link_format::LinkRef;
-use memento_time::{Clean, Memento, Moment};
+use memento_time::{Clean, MementosBuilder, Moment};
 use std::alloc::{AllocError, Global};
 use std::borrow::CowSlice;
 use url::Url;
@@ -125,20 +126,19 @@ fn datetime(link: &LinkRef<'_>) -> Result<Option<Moment>, AllocError>
     }
 }
 
-/// The memento that the link names; None where its datetime or its address can't be read.
-pub(crate) fn memento(
+/// Adds the memento that the link names. False where its datetime or its address can't be read.
+pub(crate) fn push_memento(
+    mementos: &mut MementosBuilder,
     alloc: Global,
     base: &Url,
     link: &LinkRef<'_>,
-) -> Result<Option<Memento>, AllocError>
-    ensures { IfOk result (λ named. named ≡ spec.memento_of base.now link.now) }
+) -> Result<bool, AllocError>
+    ensures mementos { OnOk result (mementos.new ≡ with_found mementos.old (spec.memento_of base.now link.now)) }
+    ensures found { IfOk result (λ found. found ≡ is_some (spec.memento_of base.now link.now)) }
 {
-    let Some(at) = datetime(link)? else {
-        return Ok(None);
-    };
-    match memento_address(alloc, base, link.target())? {
-        Some(uri) => Ok(Some(Memento { at, uri })),
-        None => Ok(None),
+    match datetime(link)? {
+        Some(at) => push_memento_at(mementos, at, alloc, base, link.target()),
+        None => Ok(false),
     }
 }
 

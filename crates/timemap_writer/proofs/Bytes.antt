@@ -1,5 +1,5 @@
--- The bytes of what is written: of addresses they may stand in a target, and of datetimes in a quoted value as they are.
-use Rattle.std.proofs.Common.{◌≡◌, ℕ, zero, suc, ◌+◌, ◌-◌, ◌/◌, ◌%◌, ◌<◌, ◌≤◌, Bool, true, List, [], ◌∷◌, ◌++◌, codes, refl, ◌∙◌, arith}
+-- The bytes of what is written: of addresses they may stand in a target, and of datetimes in a quoted value.
+use Rattle.std.proofs.Common.{◌≡◌, ℕ, zero, suc, ◌+◌, ◌-◌, ◌/◌, ◌%◌, ◌<◌, ◌≤◌, Bool, true, List, [], ◌∷◌, ◌++◌, codes, refl, ◌∙◌, arith, not, ◌&&◌, ◌==◌}
 use Rattle.std.specs.Prelude.{All, slice_index_or}
 use Rattle.std.specs.List.{list_all}
 use Rattle.std.proofs.lemmas.Bool.{and_parts}
@@ -15,40 +15,37 @@ use Rattle.memento_time.specs.Names.{day_names, month_names}
 use Rattle.memento_time.specs.Second.{IsSecond, imf}
 use Rattle.memento_time.specs.Text.{IsCleanByte}
 use Rattle.memento_time.proofs.CivilLemmas.{civil_time-valid}
-use Rattle.link_format.specs.Bytes.{is_target_byte, is_plain}
-use Rattle.link_format.specs.Grammar.{Each}
-use Rattle.timemap_writer.specs.Service.{is_clean_byte}
+use Rattle.link_format.specs.Bytes.{is_target_byte, is_plain, is_quotable}
+use Rattle.link_format.specs.Grammar.{Each, IsTarget}
+use Rattle.link_format.specs.Writing.{IsValue}
 
 -- each byte passes where all do
 pub Each-from_list_all : (p : ℕ → Bool) (text : List ℕ) → list_all p text ≡ true → Each p text
 Each-from_list_all p [] all = tt
 Each-from_list_all p (b ∷ text) all = let parts = and_parts (p b) (list_all p text) all in (parts.0, Each-from_list_all p text parts.1)
 
-pub all_append : (p : ℕ → Bool) (a b : List ℕ) → list_all p a ≡ true → list_all p b ≡ true → list_all p (a ++ b) ≡ true
+all_append : (p : ℕ → Bool) (a b : List ℕ) → list_all p a ≡ true → list_all p b ≡ true → list_all p (a ++ b) ≡ true
 all_append p a b here there = list_all-append p a b ∙ rw (here, there) refl
 
--- a weaker test
-all_weaker : (p q : ℕ → Bool) → ((b : ℕ) → p b ≡ true → q b ≡ true) → (text : List ℕ) → list_all p text ≡ true → list_all q text ≡ true
-all_weaker p q weaker [] all = refl
-all_weaker p q weaker (b ∷ text) all =
-    let parts = and_parts (p b) (list_all p text) all in
-    rw (weaker b parts.0, all_weaker p q weaker text parts.1) refl
+-- and so do two texts together
+pub Each-append : (p : ℕ → Bool) (a b : List ℕ) → Each p a → Each p b → Each p (a ++ b)
+Each-append p [] b here there = there
+Each-append p (x ∷ a) b here there = (here.0, Each-append p a b here.1 there)
+
+plain_value : (text : List ℕ) → list_all is_plain text ≡ true → IsValue text
+plain_value [] all = tt
+plain_value (b ∷ text) all =
+    let parts = and_parts (is_plain b) (list_all is_plain text) all in
+    let here = and_parts (is_quotable b && not (b == 34)) (not (b == 92)) parts.0 in
+    ((and_parts (is_quotable b) (not (b == 34)) here.0).0, plain_value text parts.1)
 
 clean_byte_target : (b : ℕ) → IsCleanByte b → is_target_byte b ≡ true
 clean_byte_target b is = grind (arith, nat_tests)
 
 -- a clean text may be a target
-pub clean_target : (text : List ℕ) → All IsCleanByte text → list_all is_target_byte text ≡ true
-clean_target [] clean = refl
-clean_target (b ∷ text) clean =
-    rw (clean_byte_target b (All-head IsCleanByte b text clean), clean_target text (All-tail IsCleanByte b text clean)) refl
-
-base_byte_target : (b : ℕ) → is_clean_byte b ≡ true → is_target_byte b ≡ true
-base_byte_target b is = grind (arith, nat_tests)
-
--- and so may a base
-pub base_target : (text : List ℕ) → list_all is_clean_byte text ≡ true → list_all is_target_byte text ≡ true
-base_target text clean = all_weaker is_clean_byte is_target_byte base_byte_target text clean
+pub clean_target : (text : List ℕ) → All IsCleanByte text → IsTarget text
+clean_target [] clean = tt
+clean_target (b ∷ text) clean = (clean_byte_target b (All-head IsCleanByte b text clean), clean_target text (All-tail IsCleanByte b text clean))
 
 name_plain : (names : List (List ℕ)) (k : ℕ) → list_all (list_all is_plain) names ≡ true → list_all is_plain (slice_index_or names k []) ≡ true
 name_plain [] k all = refl
@@ -90,7 +87,7 @@ imf_fixdate_plain p is =
     let upto_time = join (day_name p.wday ++ codes ", " ++ two_digits p.day ++ codes " " ++ month_name p.mon ++ codes " " ++ four_digits p.year ++ codes " ") (time_of_day p) upto_break time in
     join (day_name p.wday ++ codes ", " ++ two_digits p.day ++ codes " " ++ month_name p.mon ++ codes " " ++ four_digits p.year ++ codes " " ++ time_of_day p) (codes " GMT") upto_time refl
 
--- an IMF-fixdate stands as it is in a quoted value
-pub imf_plain : (s : ℕ) → IsSecond s → list_all is_plain (imf s) ≡ true
+-- a quoted value can say an IMF-fixdate
+pub imf_value : (s : ℕ) → IsSecond s → IsValue (imf s)
 unfolding imf
-imf_plain s is = imf_fixdate_plain (civil_time s) (civil_time-valid s is)
+imf_value s is = plain_value _ (imf_fixdate_plain (civil_time s) (civil_time-valid s is))

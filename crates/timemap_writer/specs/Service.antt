@@ -1,16 +1,13 @@
 -- Which texts name the base of a service, and what is kept of them.
-use Rattle.std.specs.Prelude.{ℕ, Bool, ◌&&◌, ◌||◌, not, ◌==◌, nat_lt, nat_le, List, length, codes, bytes_eq, is_none, IsTrue, Result, Ok, Err, Option, Some, None, if◌then◌else◌}
+use Rattle.std.specs.Prelude.{ℕ, Bool, ◌&&◌, ◌||◌, nat_lt, nat_le, List, length, codes, bytes_eq, is_none, IsTrue, Result, Ok, Err, Option, Some, None, if◌then◌else◌}
 use Rattle.std.specs.List.{list_all}
+use Rattle.memento_time.specs.Text.{is_clean_byte}
 use Rattle.url.specs.Parts.{Parts, text_between}
 use Rattle.url.specs.Parser.{parse_url}
 use Rattle.url.specs.Input.{is_empty}
 use Rattle.url.specs.declared.slicing.Position.TheVariants.{BeforeScheme, BeforePath}
 use Rattle.timemap_writer.specs.declared.service.ServiceFault.{ServiceFault}
 use Rattle.timemap_writer.specs.declared.service.ServiceFault.TheVariants.{BadBase, NoMemory}
-
--- a visible ASCII character but `"`, `<` and `>`
-abbrev pub is_clean_byte : ℕ → Bool
-is_clean_byte b = nat_le 0x21 b && nat_le b 0x7E && not (b == 0x22) && not (b == 0x3C) && not (b == 0x3E)
 
 -- a clean text of 1 to 256 bytes
 abbrev pub is_base : List ℕ → Bool

@@ -9,6 +9,6 @@ mod service;
 mod tests;
 mod timemap;
 
-pub use laws::{ends_are_named, timemaps_are_read};
+pub use laws::{bases_are_urls, ends_are_named, timemaps_are_read};
 pub use service::{Service, ServiceFault};
 pub use timemap::{write_gate_links, write_timemap};

@@ -1,72 +1,99 @@
 //! The text of one link, appended to what is written so far.
-ghost use Rattle.std.specs.Prelude.{◌≡◌, ◌++◌, ◌∷◌, [], OnOk, codes};
+ghost use Rattle.std.specs.Prelude.{◌≡◌, ◌++◌, ◌∷◌, [], ◌≤◌, length, IfOk, OnOk, codes};
 ghost use Rattle.std.specs.Option.{option_copied};
-ghost use Rattle.timemap_writer.specs.TimeMap.{Attribute, attribute_text, attributes_text, statement_text, datetime_of, original_statement, timegate_statement, timemap_statement, memento_relations, memento_statement};
+ghost use Rattle.link_format.specs.Grammar.{IsName, IsTarget};
+ghost use Rattle.link_format.specs.Writing.{IsValue, link_text, params_text};
+ghost use Rattle.memento_time.specs.Second.{imf};
+ghost use Rattle.timemap_writer.specs.TimeMap.{datetime_of, original_link, timegate_link, timemap_link, memento_relations, memento_link};
 
 use crate::service::Service;
+use link_format::{write_param, write_target};
 use memento_time::{Memento, NoMemory, Original};
+use std::alloc::Global;
 
 /// `<http://a.example/>; rel="original"`
 pub fn push_original(out: &mut Vec<u8>, original: &Original) -> Result<(), NoMemory>
-    ensures { OnOk result (out.new.items ≡ out.old.items ++ statement_text (original_statement original.now)) }
+    ensures { OnOk result (out.new.items ≡ out.old.items ++ link_text (original_link original.now)) }
 {
-    out.extend_from_slice(b"<")?;
-    out.extend_from_slice(original.as_bytes())?;
-    out.extend_from_slice(b">; rel=\"original\"")?;
+    write_target(out, original.as_bytes())?;
+    write_param(out, b"rel", b"original")?;
     Ok(())
 }
 
 /// `<http://agg.example/timegate/http://a.example/>; rel="timegate"`
 pub fn push_timegate(
     out: &mut Vec<u8>,
+    alloc: Global,
     service: &Service,
     original: &Original,
 ) -> Result<(), NoMemory>
-    ensures { OnOk result (out.new.items ≡ out.old.items ++ statement_text (timegate_statement service.now original.now)) }
+    ensures { OnOk result (out.new.items ≡ out.old.items ++ link_text (timegate_link service.now original.now)) }
 {
-    out.extend_from_slice(b"<")?;
-    out.extend_from_slice(service.base())?;
-    out.extend_from_slice(b"/timegate/")?;
-    out.extend_from_slice(original.as_bytes())?;
-    out.extend_from_slice(b">; rel=\"timegate\"")?;
+    write_target(out, &address(alloc, service, b"/timegate/", original)?)?;
+    write_param(out, b"rel", b"timegate")?;
     Ok(())
 }
 
 /// The link to the TimeMap, with the datetimes of the first and the last of its mementos.
 pub fn push_timemap(
     out: &mut Vec<u8>,
+    alloc: Global,
     relation: &[u8],
     service: &Service,
     original: &Original,
     mementos: &[Memento],
 ) -> Result<(), NoMemory>
-    ensures { OnOk result (out.new.items ≡ out.old.items ++ statement_text (timemap_statement relation.now service.now original.now mementos.now)) }
+    requires { IsValue relation.now }
+    ensures { OnOk result (out.new.items
+        ≡ out.old.items ++ link_text (timemap_link relation.now service.now original.now mementos.now)) }
 {
-    out.extend_from_slice(b"<")?;
-    out.extend_from_slice(service.base())?;
-    out.extend_from_slice(b"/timemap/link/")?;
-    out.extend_from_slice(original.as_bytes())?;
-    out.extend_from_slice(b">; rel=\"")?;
-    out.extend_from_slice(relation)?;
-    out.extend_from_slice(b"\"; type=\"application/link-format\"")?;
-    let (first, last) = (mementos.first(), mementos.last());
-    push_datetime(out, b"from", first)?;
-    push_datetime(out, b"until", last)?;
+    write_target(out, &address(alloc, service, b"/timemap/link/", original)?)?;
+    write_param(out, b"rel", relation)?;
+    write_param(out, b"type", b"application/link-format")?;
+    push_datetime(out, b"from", mementos.first())?;
+    push_datetime(out, b"until", mementos.last())?;
     Ok(())
 }
 
-// The parameter of this name with the datetime of the memento, if there is one.
-fn push_datetime(out: &mut Vec<u8>, name: &[u8], memento: Option<&Memento>) -> Result<(), NoMemory>
-    ensures { OnOk result (out.new.items ≡ out.old.items ++ attributes_text (datetime_of name.now (option_copied memento.entry))) }
+/// Where the service has what the path leads to, of this original.
+fn address(
+    alloc: Global,
+    service: &Service,
+    path: &[u8],
+    original: &Original,
+) -> Result<Vec<u8>, NoMemory>
+    requires short { length path.now ≤ 14 }
+    requires target { IsTarget path.now }
+    ensures value { IfOk result (λ address. address.items ≡ service.now ++ path.now ++ original.now) }
+    ensures target { IfOk result (λ address. IsTarget address.items) }
 {
-    let Some(memento) = memento else {
-        return Ok(());
-    };
-    out.extend_from_slice(b"; ")?;
-    out.extend_from_slice(name)?;
-    out.extend_from_slice(b"=\"")?;
-    out.extend_from_slice(&memento.at.to_imf())?;
-    out.extend_from_slice(b"\"")?;
+    let (base, original) = (service.base(), original.as_bytes());
+    let mut address = Vec::with_capacity(alloc, base.len() + path.len() + original.len())?;
+    address.extend_from_slice(base)?;
+    address.extend_from_slice(path)?;
+    address.extend_from_slice(original)?;
+    Ok(address)
+}
+
+/// The datetime of the memento, which a quoted text can say.
+fn datetime(memento: &Memento) -> [u8; 29]
+    ensures value { result ≡ imf memento.now.at }
+    ensures valid { IsValue result }
+{
+    // Read for its contract: the moment is one that has a date.
+    let _second = memento.at.secs();
+    memento.at.to_imf()
+}
+
+/// The parameter of this name with the datetime of the memento, if there is one.
+fn push_datetime(out: &mut Vec<u8>, name: &[u8], memento: Option<&Memento>) -> Result<(), NoMemory>
+    requires { IsName name.now }
+    ensures { OnOk result (out.new.items
+        ≡ out.old.items ++ params_text (datetime_of name.now (option_copied memento.entry))) }
+{
+    if let Some(memento) = memento {
+        write_param(out, name, &datetime(memento))?;
+    }
     Ok(())
 }
 
@@ -77,24 +104,22 @@ pub fn push_memento(
     last: bool,
     memento: &Memento,
 ) -> Result<(), NoMemory>
-    ensures { OnOk result (out.new.items ≡ out.old.items ++ codes ",\n" ++ statement_text (memento_statement first last memento.now)) }
+    ensures { OnOk result (out.new.items ≡ out.old.items ++ codes ",\n" ++ link_text (memento_link first last memento.now)) }
 {
-    out.extend_from_slice(b",\n<")?;
-    out.extend_from_slice(memento.uri.as_bytes())?;
-    out.extend_from_slice(relations(first, last))?;
-    out.extend_from_slice(&memento.at.to_imf())?;
-    out.extend_from_slice(b"\"")?;
+    out.extend_from_slice(b",\n")?;
+    write_target(out, memento.uri.as_bytes())?;
+    write_param(out, b"rel", relations(first, last))?;
+    write_param(out, b"datetime", &datetime(memento))?;
     Ok(())
 }
 
-// What stands between a memento's address and its datetime.
 fn relations(first: bool, last: bool) -> &'static [u8]
-    ensures { result.now ≡ codes ">; rel=\"" ++ memento_relations first last ++ codes "\"; datetime=\"" }
+    ensures { result.now ≡ memento_relations first last }
 {
     match (first, last) {
-        (true, true) => b">; rel=\"first last memento\"; datetime=\"",
-        (true, false) => b">; rel=\"first memento\"; datetime=\"",
-        (false, true) => b">; rel=\"last memento\"; datetime=\"",
-        (false, false) => b">; rel=\"memento\"; datetime=\"",
+        (true, true) => b"first last memento",
+        (true, false) => b"first memento",
+        (false, true) => b"last memento",
+        (false, false) => b"memento",
     }
 }

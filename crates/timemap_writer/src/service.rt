@@ -1,10 +1,9 @@
 //! The base of a service.
 ghost use Rattle.std.specs.Prelude.{◌≡◌, ◌<◌, Some, None, Err, IfOk, IsErrOf, length};
-ghost use Rattle.std.specs.List.{list_all};
-ghost use Rattle.timemap_writer.specs.Service.{is_clean_byte, is_base, IsBase, is_bare, base_of, words_of};
+ghost use Rattle.timemap_writer.specs.Service.{IsBase, is_bare, base_of, words_of};
 ghost use Rattle.timemap_writer.specs.declared.service.ServiceFault.TheVariants.{NoMemory as OutOfMemory};
 
-use memento_time::{NoMemory, Octets};
+use memento_time::{Clean, CleanFault, NoMemory};
 use std::alloc::{AllocError, Global};
 use std::error::Error;
 use std::fmt;
@@ -21,7 +20,7 @@ const MAX_BASE: usize = 256;
 /// its text, which ends without `/`.
 #[derive(Debug, Drop)]
 pub struct Service {
-    base: Octets,
+    base: Clean,
 }
 
 impl Model for Service {
@@ -66,24 +65,6 @@ impl From<AllocError> for ServiceFault {
     }
 }
 
-fn is_clean_byte(byte: u8) -> bool
-    ensures { result ≡ is_clean_byte byte }
-{
-    0x21 <= byte && byte <= 0x7E && byte != b'"' && byte != b'<' && byte != b'>'
-}
-
-fn is_base(text: &[u8]) -> bool
-    ensures { result ≡ is_base text.now }
-{
-    !text.is_empty() && text.len() <= MAX_BASE && is_clean(text)
-}
-
-fn is_clean(text: &[u8]) -> bool
-    ensures { result ≡ list_all is_clean_byte text.now }
-{
-    text.iter().all(|byte| is_clean_byte(*byte))
-}
-
 // Whether the URL says no more than where the service stands.
 fn is_bare(url: &Url) -> bool
     ensures { result ≡ is_bare url.now }
@@ -117,11 +98,14 @@ impl Service {
         let text = url
             .slice(Position::BeforeScheme, Position::BeforePath)
             .as_bytes();
-        if !is_bare(&url) || !is_base(text) {
+        if !is_bare(&url) || text.len() > MAX_BASE {
             return Err(ServiceFault::BadBase);
         }
-        let base = Octets::of(Vec::from_slice(alloc, text)?);
-        Ok(Service { base })
+        match Clean::new(alloc, text) {
+            Ok(base) => Ok(Service { base }),
+            Err(CleanFault::NotClean) => Err(ServiceFault::BadBase),
+            Err(CleanFault::NoMemory) => Err(ServiceFault::NoMemory),
+        }
     }
 
     /// The text, as `http://agg.example`.
@@ -129,10 +113,10 @@ impl Service {
         ensures value { result.now ≡ self.now }
         ensures valid { IsBase result.now }
     {
-        self.base.as_slice()
+        self.base.as_bytes()
     }
 
-    /// The same service once more.
+    /// A copy of the service.
     pub fn try_clone(&self) -> Result<Service, NoMemory>
         ensures { IfOk result (λ copy. copy ≡ self.now) }
     {

@@ -1,6 +1,7 @@
 //! TimeMaps, and the `Link` header of a redirect.
 ghost use Rattle.std.specs.Prelude.{◌≡◌, ◌++◌, IfOk, OnOk, codes, true};
-ghost use Rattle.timemap_writer.specs.TimeMap.{followed, memento_statements, timemap_text, gate_links};
+ghost use Rattle.link_format.specs.Writing.{followed};
+ghost use Rattle.timemap_writer.specs.TimeMap.{memento_links, timemap_text, gate_links};
 
 use crate::lines::{push_memento, push_original, push_timegate, push_timemap};
 use crate::service::Service;
@@ -30,9 +31,9 @@ pub fn write_timemap(
     let mut text = Vec::with_capacity(alloc, timemap_size(service, original, mementos))?;
     push_original(&mut text, original)?;
     text.extend_from_slice(b",\n")?;
-    push_timegate(&mut text, service, original)?;
+    push_timegate(&mut text, alloc, service, original)?;
     text.extend_from_slice(b",\n")?;
-    push_timemap(&mut text, b"self", service, original, mementos)?;
+    push_timemap(&mut text, alloc, b"self", service, original, mementos)?;
     push_mementos(&mut text, mementos)?;
     text.extend_from_slice(b"\n")?;
     Ok(text)
@@ -40,7 +41,7 @@ pub fn write_timemap(
 
 // The lines of all mementos.
 fn push_mementos(out: &mut Vec<u8>, mementos: &[Memento]) -> Result<(), NoMemory>
-    ensures { OnOk result (out.new.items ≡ out.old.items ++ followed (codes ",\n") (memento_statements true mementos.now)) }
+    ensures { OnOk result (out.new.items ≡ out.old.items ++ followed (codes ",\n") (memento_links true mementos.now)) }
 {
     let mut first = true;
     let mut left = mementos;
@@ -77,6 +78,6 @@ pub fn write_gate_links(
     let mut text = Vec::with_capacity(alloc, LINKS_FRAME + addresses)?;
     push_original(&mut text, original)?;
     text.extend_from_slice(b", ")?;
-    push_timemap(&mut text, b"timemap", service, original, mementos)?;
+    push_timemap(&mut text, alloc, b"timemap", service, original, mementos)?;
     Ok(text)
 }

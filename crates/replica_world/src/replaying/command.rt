@@ -5,11 +5,11 @@ ghost use Rattle.replica_world.specs.Script.{get, gate_request, asking_of, recei
 ghost use Rattle.replica_world.specs.Spelled.{command_view, asking_view};
 ghost use Rattle.replica_world.specs.Fields.{field};
 
-use crate::event::Event;
 use crate::replaying::fields::{
     are_visible, block, cut, last_number, line, lines, number_field, word_field,
 };
 use memento_time::{Items, NoMemory, Octets};
+use replica_events::Event;
 use std::alloc::Global;
 use timegate::Request;
 

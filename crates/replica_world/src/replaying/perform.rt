@@ -8,13 +8,13 @@ ghost use Rattle.replica_world.specs.Output.{IsPage};
 ghost use Rattle.replica_world.specs.Performing.{IsHappening, IsHarvestTaken, IsPageTaken, IsPerformed};
 ghost use Rattle.replica_world.specs.Spelled.{command_view, taking_view};
 
-use crate::event::Event;
 use crate::replaying::command::{Command, Taking};
 use crate::replaying::fields::utf8_text;
 use crate::replaying::texts::{accepted_line, answer_text, refused, taken_line};
 use crate::world::World;
 use harvest_lattice::{Harvest, HarvestFault};
 use memento_time::{ArchiveName, NoMemory, Original};
+use replica_events::Event;
 use std::alloc::Global;
 use timemap_reader::{OriginalFault, Page, PageFault, read_original, read_page};
 

@@ -1,7 +1,7 @@
 //! A whole script.
 ghost use Rattle.std.specs.Prelude.{◌≡◌, ◌+◌, ◌-◌, ◌≤◌, ◌==◌, length, take, count_by, None, IfOk, IfSome, MatchOption, ◌<◌};
 ghost use Rattle.replica_world.specs.Script.{command_at, number_of_line};
-ghost use Rattle.replica_world.specs.World.{World as Replicas};
+ghost use Rattle.replica_events.specs.World.{World as Replicas};
 ghost use Rattle.replica_world.specs.Stands.{Stands};
 ghost use Rattle.replica_world.specs.Output.{Replays, ReplaysFrom};
 ghost use Rattle.replica_world.specs.Performing.{IsFirstPerformed};

@@ -2,8 +2,8 @@
 ghost use Rattle.std.specs.Prelude.{◌≡◌, ◌≢◌, ◌++◌, ◌∷◌, [], IfOk, OnOk, Err, codes, length, string_bytes};
 ghost use Rattle.replica_world.specs.Output.{line, counted, refused, header_line, reply_text, taken_line, refusal_line, answer_text, accepted_line};
 
-use crate::event::{Event, Refused, Said};
 use memento_time::{NoMemory, Octets};
+use replica_events::{Event, Refused, Said};
 use std::alloc::Global;
 use timegate::{Header, Reply};
 use timemap_reader::Page;

@@ -3,6 +3,7 @@ use Rattle.std.specs.Result.{result_ok}
 use Rattle.std.specs.Array.{IsWholeChunk}
 use Rattle.std.proofs.lemmas.Option.{same_Some}
 use Rattle.memento_time.specs.Names.{day_names}
+use Rattle.memento_time.proofs.EarlyLemmas.{Reads_fits}
 use Rattle.memento_time.proofs.ReadLemmas.{Reads_unique, Reads_shown, take_three}
 use Rattle.memento_time.proofs.moments.read_date.Goals as goal
 
@@ -29,3 +30,9 @@ returns-in-Some-clause-read c =
 
 pub returns-in-Some-clause-exact : goal.returns-in-Some-clause-exact
 returns-in-Some-clause-exact c s h = ap Some (Reads_unique c.args.text.now c.unix_secs.result s (returns-in-Some-clause-read c) h)
+
+pub returns-then-not-fits_form-clause-exact : goal.returns-then-not-fits_form-clause-exact
+returns-then-not-fits_form-clause-exact c s h =
+    let (same, len) = whole c.args.text.now _ _ c.try_into.ensures.1 c.in_ok-bytes.ensures.value in
+    let no = rw same at c.if-not-fits_form.ensures in
+    absurd (true≢false (sym (Reads_fits c.args.text.now s h) ∙ sym no))

@@ -2,15 +2,15 @@ use Rattle.std.proofs.Common.{◌≡◌, subst}
 use Rattle.std.specs.Prelude.{IfOk}
 use Rattle.harvest_lattice.specs.Knowledge.{shown_of}
 use Rattle.timegate.specs.declared.route.Route.{Route}
-use Rattle.timegate.specs.Reply.{reply_of, routed}
+use Rattle.timegate.specs.Reply.{reply_of, reply_at}
 use Rattle.timegate.proofs.Replies.{known_reply}
 use Rattle.timegate.proofs.answering.answer.Goals as goal
 
 pub returns-clause-state : goal.returns-clause-state
 unfolding reply_of
 returns-clause-state c =
-    let P : Route → Type 0 = λ route. IfOk c.routed.result (λ answer. answer ≡ routed c.args.service.now (shown_of c.args.index.now) c.args.index.now c.args.request.now route) in
-    subst P c.in_ok-route.ensures c.routed.ensures
+    let P : Route → Type 0 = λ route. IfOk c.reply_at.result (λ answer. answer ≡ reply_at c.args.service.now (shown_of c.args.index.now) c.args.index.now c.args.request.now route) in
+    subst P c.in_ok-route.ensures c.reply_at.ensures
 
 pub returns-clause-knowledge : goal.returns-clause-knowledge
-returns-clause-knowledge c = λ known is. known_reply c.args.service.now c.args.index.now known c.args.request.now c.routed.result is (returns-clause-state c)
+returns-clause-knowledge c = λ known is. known_reply c.args.service.now c.args.index.now known c.args.request.now c.reply_at.result is (returns-clause-state c)

@@ -1,5 +1,8 @@
-use Rattle.timegate.proofs.Replies.{redirects}
+use Rattle.timegate.proofs.Replies.{gate_reply, redirects}
 use Rattle.timegate.proofs.laws.redirects_name_the_nearest.Goals as goal
 
-pub returns : goal.returns
-returns c = redirects
+pub returns-clause-timegates : goal.returns-clause-timegates
+returns-clause-timegates c = gate_reply
+
+pub returns-clause-redirects : goal.returns-clause-redirects
+returns-clause-redirects c = redirects

@@ -1,5 +1,5 @@
 use Rattle.std.proofs.Common.{◌≤◌, length}
-use Rattle.replica_world.specs.World.{World}
+use Rattle.replica_events.specs.World.{World}
 use Rattle.replica_world.specs.Stands.{Stands}
 use Rattle.replica_world.proofs.Progress.{Progress}
 use Rattle.replica_world.proofs.replaying.run.replay_commands.Given as goal

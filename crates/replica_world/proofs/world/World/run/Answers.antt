@@ -1,7 +1,7 @@
 use Rattle.std.proofs.Common.{rules, ◌≡◌, ◌+◌, ◌++◌, ◌∷◌, [], take, List, sym, ap, subst, ◌∙◌}
 use Rattle.std.proofs.lemmas.List.{take_more}
-use Rattle.replica_world.specs.declared.event.Event.{Event}
-use Rattle.replica_world.specs.World.{Answer}
+use Rattle.replica_events.specs.declared.event.Event.{Event}
+use Rattle.replica_events.specs.World.{Answer}
 use Rattle.replica_world.specs.Stands.{Runs}
 use Rattle.replica_world.proofs.Worlds.{runs_push}
 use Rattle.replica_world.proofs.world.World.run.Goals as goal

@@ -1,0 +1,81 @@
+//! Lists of mementos whose addresses share one buffer.
+ghost use Rattle.std.specs.Prelude.{◌≡◌, ◌↔◌, [], ◌∷◌, ◌++◌, IfOk, IsErrOf, OnOk, OnErr};
+ghost use Rattle.memento_time.specs.Text.{IsClean};
+
+use crate::faults::CleanFault;
+use crate::mementos::Memento;
+use crate::moments::Moment;
+use crate::texts::{Clean, is_clean};
+use std::alloc::{AllocError, Global};
+use std::marker::Model;
+use std::sync::Arc;
+
+/// Gathers mementos, so that their addresses stand in one buffer in place of one each.
+#[derive(Debug, Drop)]
+pub struct MementosBuilder {
+    marks: Vec<(Moment, u32)>,
+    bytes: Vec<u8>,
+}
+
+impl Model for MementosBuilder {
+    ghost use Rattle.std.specs.Prelude.{List};
+    ghost use Rattle.memento_time.specs.declared.mementos.Memento.{Memento};
+    ghost use Rattle.memento_time.specs.Builder.{listed, IsBuilder};
+
+    ghost Value = { List Memento };
+
+    ghost view = { λ builder. listed builder.marks.items builder.bytes.items };
+
+    ghost invariant = { λ builder. IsBuilder builder.marks.items builder.bytes.items };
+}
+
+impl MementosBuilder {
+    /// No mementos yet.
+    pub fn new(alloc: Global) -> MementosBuilder
+        ensures { result ≡ [] }
+    {
+        MementosBuilder {
+            marks: Vec::new(alloc),
+            bytes: Vec::new(alloc),
+        }
+    }
+
+    /// Adds a memento, whose address is copied. `NotClean` where it isn't a clean text; `NoMemory` also where the
+    /// addresses would have 4 GiB.
+    pub fn push(&mut self, at: Moment, uri: &[u8]) -> Result<(), CleanFault>
+        ensures ok { OnOk result (self.new ≡ self.old ++ record { at = at; uri = uri.now } ∷ []) }
+        ensures clean { OnOk result (IsClean uri.now) }
+        ensures not_clean { IsErrOf result CleanFault.NotClean ↔ ¬ IsClean uri.now }
+        ensures err { OnErr result (self.new ≡ self.old) }
+    {
+        if !is_clean(uri) {
+            return Err(CleanFault::NotClean);
+        }
+        if uri.len() > u32::MAX as usize - self.bytes.len() {
+            return Err(CleanFault::NoMemory);
+        }
+        self.marks.reserve(1)?;
+        self.bytes.extend_from_slice(uri)?;
+        match self.marks.push((at, uri.len() as u32)) {
+            Ok(()) => Ok(()),
+            Err(_) => unreachable!(),
+        }
+    }
+
+    /// The mementos, in the order in which they were added. Their addresses share one buffer without spare room.
+    pub fn build(self, alloc: Global) -> Result<Vec<Memento>, AllocError>
+        ensures { IfOk result (λ mementos. mementos.items ≡ self) }
+    {
+        let MementosBuilder { marks, mut bytes } = self;
+        bytes.shrink_to_fit();
+        let buffer = Arc::new(alloc, bytes)?;
+        let mut mementos = Vec::with_capacity(alloc, marks.len())?;
+        let mut start = 0;
+        for (at, len) in &marks {
+            let uri = Clean::range(&buffer, start, *len)?;
+            mementos.push(Memento { at: *at, uri })?;
+            start += *len;
+        }
+        Ok(mementos)
+    }
+}

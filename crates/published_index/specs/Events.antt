@@ -1,0 +1,25 @@
+-- A merge as an event of a replica, and what is said to it.
+use Rattle.std.specs.Prelude.{◌≤◌, ℕ, List, length, Ok}
+use Rattle.memento_index.specs.declared.merge.Merge.{Merge}
+use Rattle.memento_index.specs.declared.merge.Merge.TheVariants.{Harvest, State}
+use Rattle.replica_exchange.specs.StateText.{IsState, state_text}
+use Rattle.replica_exchange.specs.Faults.{longest_text}
+use Rattle.replica_events.specs.declared.event.Event.{Event}
+use Rattle.replica_events.specs.declared.event.Event.TheVariants.{Take, Receive}
+use Rattle.replica_events.specs.declared.event.Said.TheVariants.{Taken, Joined}
+use Rattle.replica_events.specs.World.{Answer}
+
+-- the event by which the replica of this number takes the merge: a harvest is taken, a state is received as its text
+abbrev pub event_of : ℕ → Merge → Event
+event_of i (Harvest h) = Take i h
+event_of i (State s) = Receive i (state_text s)
+
+-- what is said to it
+abbrev pub answer_to : Merge → Answer
+answer_to (Harvest h) = Ok Taken
+answer_to (State s) = Ok Joined
+
+-- a merge that can be an event: a state's text may be received
+abbrev pub IsReceivable : Merge → Type 0
+IsReceivable (Harvest h) = Unit {0}
+IsReceivable (State s) = IsState s × (length (state_text s) ≤ longest_text)

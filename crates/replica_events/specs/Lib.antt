@@ -1,0 +1,5 @@
+pub mod World
+pub mod Refusals
+pub mod History
+pub mod Faults
+pub mod Agreement

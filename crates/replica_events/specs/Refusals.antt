@@ -1,0 +1,55 @@
+-- Why an event is refused, and the result of one that is accepted.
+use Rattle.std.specs.Prelude.{◌≡◌, ℕ, ◌+◌, ◌<◌, ◌≤◌, length, Option, Some, None}
+use Rattle.harvest_lattice.specs.Lattice.{Entries}
+use Rattle.replica_exchange.specs.StateText.{IsState, state_text}
+use Rattle.timegate.specs.declared.reply.Reply.{Reply}
+use Rattle.replica_events.specs.declared.event.Event.{Event}
+use Rattle.replica_events.specs.declared.event.Event.TheVariants.{Take, Send, Deliver, Receive, Restart, Ask}
+use Rattle.replica_events.specs.declared.event.Said.{Said}
+use Rattle.replica_events.specs.declared.event.Said.TheVariants.{Taken, Sent, Joined, Restarted, Replied}
+use Rattle.replica_events.specs.declared.event.Refused.{Refused}
+use Rattle.replica_events.specs.declared.event.Refused.TheVariants.{NoReplica, NoMessage, BadState, NoMemory}
+use Rattle.replica_events.specs.World.{World, Message, HasReplica, replica, message}
+
+-- the number of the replica that an event is about
+abbrev pub replica_of : Event → ℕ
+replica_of (Take i h) = i
+replica_of (Send i) = i
+replica_of (Deliver i k) = i
+replica_of (Receive i bytes) = i
+replica_of (Restart i) = i
+replica_of (Ask i q) = i
+
+-- the number of the message that an event delivers, if it delivers one
+abbrev pub message_of : Event → Option ℕ
+message_of (Take i h) = None
+message_of (Send i) = None
+message_of (Deliver i k) = Some k
+message_of (Receive i bytes) = None
+message_of (Restart i) = None
+message_of (Ask i q) = None
+
+-- the event brings bytes that are no state's text, or more than 268,435,456
+abbrev pub IsBadState : World → Event → Type 0
+IsBadState w (Take i h) = ⊥
+IsBadState w (Send i) = ⊥
+IsBadState w (Deliver i k) = (m : Message) × (message w k ≡ Some m) × (268435456 < length m.bytes)
+IsBadState w (Receive i bytes) = (s : Entries) → IsState s → length bytes ≤ 268435456 → ¬ (bytes ≡ state_text s)
+IsBadState w (Restart i) = ⊥
+IsBadState w (Ask i q) = ⊥
+
+-- no replica has the number; no message has it; the bytes are bad; or memory was refused, which a restart doesn't take
+abbrev pub IsCause : World → Event → Refused → Type 0
+IsCause w event NoReplica = replica w (replica_of event) ≡ None
+IsCause w event NoMessage = HasReplica w (replica_of event) × ((k : ℕ) × (message_of event ≡ Some k) × (message w k ≡ None))
+IsCause w event BadState = HasReplica w (replica_of event) × IsBadState w event
+IsCause w event NoMemory = HasReplica w (replica_of event) × ((i : ℕ) → ¬ (event ≡ Restart i))
+
+-- the result that goes with an event: a message that is sent is the last of the world, and a question changes nothing
+abbrev pub IsResult : World → Event → Said → World → Type 0
+IsResult w (Take i h) said next = said ≡ Taken
+IsResult w (Send i) said next = (said ≡ Sent (length next.messages)) × (length next.messages ≡ length w.messages + 1)
+IsResult w (Deliver i k) said next = said ≡ Joined
+IsResult w (Receive i bytes) said next = said ≡ Joined
+IsResult w (Restart i) said next = said ≡ Restarted
+IsResult w (Ask i q) said next = ((r : Reply) × (said ≡ Replied r)) × (next ≡ w)

@@ -1,0 +1,169 @@
+-- Worlds of replicas: what each replica has taken, the messages that were sent, and what each event does.
+use Rattle.std.specs.Prelude.{◌≡◌, ℕ, zero, suc, ◌+◌, ◌<◌, ◌≤◌, ◌⊎◌, List, [], ◌∷◌, ◌++◌, length, replicate, slice_get, slice_set, Option, Some, None, MatchOption, Result, Ok, Err}
+use Rattle.harvest_lattice.specs.Lattice.{Entries}
+use Rattle.harvest_lattice.specs.Knowledge.{Harvested, lat, adds}
+use Rattle.replica_exchange.specs.StateText.{IsState, state_text}
+use Rattle.replica_exchange.specs.Faults.{longest_text}
+use Rattle.timegate.specs.declared.request.Request.{Request}
+use Rattle.timegate.specs.declared.reply.Reply.{Reply}
+use Rattle.timegate.specs.Reply.{reply}
+use Rattle.replica_events.specs.declared.event.Event.{Event}
+use Rattle.replica_events.specs.declared.event.Event.TheVariants.{Take, Send, Deliver, Receive, Restart, Ask}
+use Rattle.replica_events.specs.declared.event.Said.{Said}
+use Rattle.replica_events.specs.declared.event.Said.TheVariants.{Taken, Sent, Joined, Restarted, Replied}
+use Rattle.replica_events.specs.declared.event.Refused.{Refused}
+use Rattle.replica_events.specs.declared.event.Refused.TheVariants.{NoReplica, NoMessage, BadState, NoMemory}
+
+-- a set of harvests, as a list of which only the members matter
+abbrev pub Knowledge : Type 0
+Knowledge = List Harvested
+
+-- what a replica has taken since its last restart, directly or through others
+pub record Replica : Type 0 where
+  pub taken : Knowledge
+
+-- who sent it, what the sender had taken then, and the bytes that travel
+pub record Message : Type 0 where
+  pub sender : ℕ
+  pub taken : Knowledge
+  pub bytes : List ℕ
+
+-- the replicas, and every message that was ever sent: one that no delivery names is lost
+pub record World : Type 0 where
+  pub replicas : List Replica
+  pub messages : List Message
+
+-- the answer to an event
+abbrev pub Answer : Type 0
+Answer = Result Said Refused
+
+-- a replica that has taken nothing
+abbrev pub fresh : Replica
+fresh = record { taken = [] }
+
+-- a world of `count` replicas that have taken nothing, with no messages
+abbrev pub start : ℕ → World
+start count = record { replicas = replicate count fresh; messages = [] }
+
+-- the one of that number, counted from 1
+abbrev pub numbered : {X : Type 0} → List X → ℕ → Option X
+numbered all zero = None
+numbered all (suc place) = slice_get all place
+
+-- the replica of that number, if there is one
+abbrev pub replica : World → ℕ → Option Replica
+replica w i = numbered w.replicas i
+
+-- the message of that number, if there is one
+abbrev pub message : World → ℕ → Option Message
+message w k = numbered w.messages k
+
+-- the world with this replica in place of the one of that number
+abbrev pub with_replica : World → ℕ → Replica → World
+with_replica w zero r = w
+with_replica w (suc place) r = record w { replicas = slice_set w.replicas place r }
+
+-- the replica once it has taken these too
+abbrev pub taking : Replica → Knowledge → Replica
+taking r more = record r { taken = r.taken ++ more }
+
+-- what a replica sends: the text of the state of all that it has taken
+abbrev pub sent_by : ℕ → Replica → Message
+sent_by i r = record { sender = i; taken = r.taken; bytes = state_text (lat r.taken) }
+
+-- what a replica replies to a request: the reply of what it has taken
+abbrev pub replica_reply : List ℕ → Replica → Request → Reply
+replica_reply base r q = reply base r.taken q
+
+-- the world with one more message
+abbrev pub with_message : World → Message → World
+with_message w m = record w { messages = w.messages ++ m ∷ [] }
+
+-- an outcome of an event: the answer, and the world after it
+abbrev pub Outcome : Type 1
+Outcome = Answer → World → Type 0
+
+-- the event is accepted with this result, and this is the world then
+abbrev pub Accepts : Said → World → Outcome
+Accepts result next answer new = (answer ≡ Ok result) × (new ≡ next)
+
+-- the event is refused, and changes nothing
+abbrev pub Refuses : Refused → World → Outcome
+Refuses why w answer new = (answer ≡ Err why) × (new ≡ w)
+
+-- the outcome of an event at the replica of this number, if there is one
+abbrev pub AtReplica : World → ℕ → (Replica → Outcome) → Outcome
+AtReplica w i happens answer new = MatchOption (replica w i) (Refuses NoReplica w answer new) (λ r. happens r answer new)
+
+-- the outcome of an event with the message of this number, if there is one
+abbrev pub WithMessage : World → ℕ → (Message → Outcome) → Outcome
+WithMessage w k happens answer new = MatchOption (message w k) (Refuses NoMessage w answer new) (λ m. happens m answer new)
+
+-- the outcome of an event with bytes of at most 268,435,456, or else with more
+abbrev pub IfWithinLimit : List ℕ → Outcome → Outcome → Outcome
+IfWithinLimit bytes happens otherwise answer new = ((length bytes ≤ longest_text) × happens answer new) ⊎ ((longest_text < length bytes) × otherwise answer new)
+
+-- the bytes are the text of a state, and at most 268,435,456
+pub record IsText (bytes : List ℕ) (s : Entries) : Type 0 where
+  pub state : IsState s
+  pub text : bytes ≡ state_text s
+  pub within : length bytes ≤ longest_text
+
+-- the outcome of an event with bytes that are the text of a state, or else with others
+abbrev pub IfText : List ℕ → (Entries → Outcome) → Outcome → Outcome
+IfText bytes happens otherwise answer new = ((s : Entries) × IsText bytes s × happens s answer new) ⊎ (((s : Entries) → ¬ IsText bytes s) × otherwise answer new)
+
+-- the outcome of an event by which a replica sends what it has taken
+abbrev pub Sends : World → ℕ → Outcome
+Sends w i = AtReplica w i (λ r. Accepts (Sent (length w.messages + 1)) (with_message w (sent_by i r)))
+
+-- the outcome of an event where there is memory
+abbrev pub Effect : List ℕ → World → Event → Outcome
+Effect base w (Take i h) = AtReplica w i (λ r. Accepts Taken (with_replica w i (taking r (h ∷ []))))
+Effect base w (Send i) = Sends w i
+Effect base w (Deliver i k) =
+    AtReplica w i (λ r. WithMessage w k (λ m. IfWithinLimit m.bytes (Accepts Joined (with_replica w i (taking r m.taken))) (Refuses BadState w)))
+Effect base w (Receive i bytes) =
+    AtReplica w i (λ r. IfText bytes (λ s. Accepts Joined (with_replica w i (taking r (adds s)))) (Refuses BadState w))
+Effect base w (Restart i) = AtReplica w i (λ r. Accepts Restarted (with_replica w i fresh))
+Effect base w (Ask i q) = AtReplica w i (λ r. Accepts (Replied (replica_reply base r q)) w)
+
+-- the replica of this number is there
+abbrev pub HasReplica : World → ℕ → Type 0
+HasReplica w i = (r : Replica) × (replica w i ≡ Some r)
+
+-- the message of this number is there, and its bytes are within the limit
+abbrev pub HasMessage : World → ℕ → Type 0
+HasMessage w k = (m : Message) × (message w k ≡ Some m) × (length m.bytes ≤ longest_text)
+
+-- an event takes memory only once all that it names is there and its bytes are within the limit; a restart takes none
+abbrev pub TakesMemory : World → Event → Type 0
+TakesMemory w (Take i h) = HasReplica w i
+TakesMemory w (Send i) = HasReplica w i
+TakesMemory w (Deliver i k) = HasReplica w i × HasMessage w k
+TakesMemory w (Receive i bytes) = HasReplica w i × (length bytes ≤ longest_text)
+TakesMemory w (Restart i) = ⊥
+TakesMemory w (Ask i q) = HasReplica w i
+
+-- the outcome of an event whose memory is refused: it changes nothing
+abbrev pub RunsOut : World → Event → Outcome
+RunsOut w event answer new = (answer ≡ Err NoMemory) × (new ≡ w) × TakesMemory w event
+
+-- one event in a world whose service has this base
+abbrev pub Step : List ℕ → World → Event → Outcome
+Step base w event answer new = Effect base w event answer new ⊎ RunsOut w event answer new
+
+-- events one after the other, with one answer to each
+abbrev pub Run : List ℕ → World → List Event → List Answer → World → Type 0
+Run base w [] [] end = end ≡ w
+Run base w (event ∷ events) (answer ∷ answers) end = (mid : World) × Step base w event answer mid × Run base mid events answers end
+Run base w [] (answer ∷ answers) end = ⊥
+Run base w (event ∷ events) [] end = ⊥
+
+-- a list of events in a world of `count` replicas that have taken nothing: the answer to each, and the world after them
+pub record Course (base : List ℕ) : Type 0 where
+  pub count : ℕ
+  pub events : List Event
+  pub answers : List Answer
+  pub world : World
+  pub run : Run base (start count) events answers world

@@ -1,0 +1,106 @@
+//! Events, and how a world answers them.
+ghost use Rattle.std.specs.Prelude.{◌≡◌, Some};
+ghost use Rattle.replica_events.specs.declared.event.Refused.TheVariants.{NoMemory as OutOfMemory};
+ghost use Rattle.replica_events.specs.Faults.{refusal, words_of};
+
+use harvest_lattice::Harvest;
+use memento_time::{NoMemory, Octets};
+use replica_exchange::StateFault;
+use std::alloc::{AllocError, AllocFailed};
+use std::error::Error;
+use std::fmt;
+use timegate::{Reply, Request};
+
+/// An event in a world. Replicas and messages are numbered from 1.
+#[derive(Debug, Drop)]
+pub enum Event {
+    /// The replica of this number takes a harvest.
+    Take(usize, Harvest),
+    /// It sends a message with all that it has taken.
+    Send(usize),
+    /// It gets the message of the second number, which may be its own.
+    Deliver(usize, usize),
+    /// It gets bytes from outside.
+    Receive(usize, Octets),
+    /// It forgets all that it has taken.
+    Restart(usize),
+    /// It is asked for a reply.
+    Ask(usize, Request),
+}
+
+/// The result of an accepted event.
+#[derive(Debug, Drop)]
+pub enum Said {
+    Taken,
+    /// The message has this number.
+    Sent(usize),
+    /// A delivered message, or received bytes, were merged.
+    Joined,
+    Restarted,
+    Replied(Reply),
+}
+
+/// Why an event was refused. It then changed nothing.
+#[derive(Clone, Copy, Debug, PartialEq, Eq)]
+pub enum Refused {
+    /// No replica has the number.
+    NoReplica,
+    /// No message has the number.
+    NoMessage,
+    /// The bytes aren't the text of a state, or are more than 268,435,456.
+    BadState,
+    NoMemory,
+}
+
+/// The answer to an event.
+pub type Answer = Result<Said, Refused>;
+
+impl fmt::Display for Refused {
+    ghost output = { λ refused. Some (words_of refused) };
+
+    fn fmt<W: fmt::Write>(&self, f: &mut fmt::Formatter<W>) -> fmt::Result {
+        f.write_str(match self {
+            Refused::NoReplica => "no replica",
+            Refused::NoMessage => "no message",
+            Refused::BadState => "bad state",
+            Refused::NoMemory => "no memory",
+        })
+    }
+}
+
+impl Error for Refused {}
+
+impl From<AllocError> for Refused {
+    ghost from_gives = { λ _ refused. refused ≡ OutOfMemory };
+
+    fn from(_refused: AllocError) -> Refused {
+        Refused::NoMemory
+    }
+}
+
+impl<T: Drop> From<AllocFailed<T>> for Refused {
+    ghost from_gives = { λ _ refused. refused ≡ OutOfMemory };
+
+    fn from(_refused: AllocFailed<T>) -> Refused {
+        Refused::NoMemory
+    }
+}
+
+impl From<NoMemory> for Refused {
+    ghost from_gives = { λ _ refused. refused ≡ OutOfMemory };
+
+    fn from(_refused: NoMemory) -> Refused {
+        Refused::NoMemory
+    }
+}
+
+impl From<StateFault> for Refused {
+    ghost from_gives = { λ fault refused. refused ≡ refusal fault };
+
+    fn from(fault: StateFault) -> Refused {
+        match fault {
+            StateFault::TooLong | StateFault::NotState => Refused::BadState,
+            StateFault::NoMemory => Refused::NoMemory,
+        }
+    }
+}

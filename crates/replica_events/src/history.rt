@@ -1,0 +1,43 @@
+//! What replicas have taken, by the events that were accepted.
+ghost use Rattle.std.specs.Prelude.{◌≡◌, ◌↔◌, ◌++◌, ℕ, List, ◌∷◌, Some, Ok, Contains};
+ghost use Rattle.harvest_lattice.specs.Knowledge.{Harvested, lat};
+ghost use Rattle.replica_exchange.specs.StateText.{state_text};
+ghost use Rattle.replica_events.specs.declared.event.Event.{Event};
+ghost use Rattle.replica_events.specs.declared.event.Event.TheVariants.{Deliver};
+ghost use Rattle.replica_events.specs.declared.event.Said.TheVariants.{Sent, Joined};
+ghost use Rattle.replica_events.specs.World.{Knowledge, World, Message, Course, message};
+ghost use Rattle.replica_events.specs.Agreement.{HasTaken};
+ghost use Rattle.replica_events.specs.History.{Happened, History, NoRestart, IsLocal, Learnt, Carries, HasSent, history_of};
+
+/// After every list of events, what a replica has taken is what it has learnt since its last restart: the harvests
+/// that it took itself, those of the states that it received, and those that the sender of a message that it was
+/// delivered had learnt before it sent the message. And each message has its sender, what the sender had learnt then,
+/// and the text of the state of this.
+pub fn what_replicas_have_taken()
+    ensures taken { (base : List ℕ) (course : Course base) (i : ℕ) (known : Knowledge) → HasTaken course.world i known →
+        (h : Harvested) → Contains known h ↔ Learnt (history_of course) i h }
+    ensures carried { (base : List ℕ) (course : Course base) (k : ℕ) (m : Message) → message course.world k ≡ Some m →
+        (h : Harvested) → Contains m.taken h ↔ Carries (history_of course) k h }
+    ensures sender { (base : List ℕ) (course : Course base) (k : ℕ) (m : Message) → message course.world k ≡ Some m →
+        HasSent (history_of course) m.sender k }
+    ensures bytes { (base : List ℕ) (course : Course base) (k : ℕ) (m : Message) → message course.world k ≡ Some m →
+        m.bytes ≡ state_text (lat m.taken) }
+{}
+
+/// A message that no delivery names changes nothing of what replicas have learnt; nor does a further delivery of the
+/// same message to the same replica, if neither was the replica restarted nor the number sent anew in between; and two
+/// events in turn, of which none is a restart or sends, may come the other way round.
+pub fn deliveries_in_any_order()
+    ensures lost { (before after : History) (sending : Event) (k : ℕ) →
+        ((i : ℕ) → ¬ Contains after (Deliver i k, Ok Joined)) →
+        (i : ℕ) (h : Harvested) →
+        Learnt (before ++ (sending, Ok (Sent k)) ∷ after) i h ↔ Learnt (before ++ after) i h }
+    ensures repeated { (before between after : History) (i k : ℕ) →
+        NoRestart between i → ((sending : Event) → ¬ Contains between (sending, Ok (Sent k))) →
+        (j : ℕ) (h : Harvested) →
+        Learnt (before ++ (Deliver i k, Ok Joined) ∷ between ++ (Deliver i k, Ok Joined) ∷ after) j h
+        ↔ Learnt (before ++ (Deliver i k, Ok Joined) ∷ between ++ after) j h }
+    ensures reordered { (before after : History) (x y : Happened) → IsLocal x → IsLocal y →
+        (i : ℕ) (h : Harvested) →
+        Learnt (before ++ x ∷ y ∷ after) i h ↔ Learnt (before ++ y ∷ x ∷ after) i h }
+{}

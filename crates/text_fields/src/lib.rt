@@ -1,0 +1,16 @@
+//! The fields of a text's lines: what stands before a space or an LF, and decimals of 64 bits.
+//!
+//! `split_once` cuts a text at the first of a byte; `next_field` does so at a space and `next_line` at an LF.
+//! `read_decimal` reads just what `write_decimal` writes: the decimals of the numbers below 2^64, without a sign and
+//! with no zero in front of another digit.
+#![tactic(auto)]
+
+mod decimals;
+mod laws;
+mod parts;
+#[cfg(test)]
+mod tests;
+
+pub use decimals::{read_decimal, write_decimal};
+pub use laws::{decimals_are_read_back, parts_are_read_back};
+pub use parts::{next_field, next_line, split_once};

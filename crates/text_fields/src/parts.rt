@@ -1,0 +1,37 @@
+//! The parts of a text that a byte ends.
+ghost use Rattle.std.specs.Prelude.{◌≡◌, ◌++◌, ◌∷◌, IfSome, IfNone};
+ghost use Rattle.std.specs.Option.{option_map};
+ghost use Rattle.text_fields.specs.Parts.{Lacks, parts_at, space, line_end};
+
+use memchr::memchr;
+
+/// What stands before the first of a byte, and what stands behind it.
+pub fn split_once(text: &[u8], byte: u8) -> Option<(&[u8], &[u8])>
+    ensures found { IfSome result (λ p. text.now ≡ p.0.now ++ byte ∷ p.1.now) }
+    ensures first { IfSome result (λ p. Lacks byte p.0.now) }
+    ensures none { IfNone result (Lacks byte text.now) }
+    ensures parts { option_map (λ p. (p.0.now, p.1.now)) result ≡ parts_at byte text.now }
+{
+    let at = memchr(byte, text)?;
+    Some((&text[..at], &text[at + 1..]))
+}
+
+/// The field that a space ends, and what stands behind the space.
+pub fn next_field(text: &[u8]) -> Option<(&[u8], &[u8])>
+    ensures found { IfSome result (λ p. text.now ≡ p.0.now ++ space ∷ p.1.now) }
+    ensures first { IfSome result (λ p. Lacks space p.0.now) }
+    ensures none { IfNone result (Lacks space text.now) }
+    ensures parts { option_map (λ p. (p.0.now, p.1.now)) result ≡ parts_at space text.now }
+{
+    split_once(text, b' ')
+}
+
+/// The line that an LF ends, and what stands behind the LF.
+pub fn next_line(text: &[u8]) -> Option<(&[u8], &[u8])>
+    ensures found { IfSome result (λ p. text.now ≡ p.0.now ++ line_end ∷ p.1.now) }
+    ensures first { IfSome result (λ p. Lacks line_end p.0.now) }
+    ensures none { IfNone result (Lacks line_end text.now) }
+    ensures parts { option_map (λ p. (p.0.now, p.1.now)) result ≡ parts_at line_end text.now }
+{
+    split_once(text, b'\n')
+}
