@@ -4,7 +4,7 @@ use crate::settings::Settings;
 use crossbeam_channel::{Receiver, Sender, bounded};
 use hyper_edge::{GateService, bind, serve_gate};
 use published_index::Gate;
-use std::alloc::{AllocError, AllocGlobal, Global};
+use std::alloc::{AllocGlobal, Global};
 use std::net::{Net, TcpListener, TcpStream};
 use std::random::RandomSource;
 use std::sync::Wait;
@@ -176,11 +176,11 @@ where
     let mut fault = before;
     for door in doors {
         match door.port.recv(rt) {
-            Ok(port) => ports.push(port).map_err(AllocError::from)?,
+            Ok(port) => ports.push(port)?,
             Err(_) => fault = Some(ServeFault::NoGate),
         }
-        threads.push(door.thread).map_err(AllocError::from)?;
-        starts.push(door.start).map_err(AllocError::from)?;
+        threads.push(door.thread)?;
+        starts.push(door.start)?;
     }
     if let Some(fault) = fault {
         drop(starts);

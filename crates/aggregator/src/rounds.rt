@@ -3,7 +3,7 @@ ghost use Rattle.std.specs.Prelude.{◌≤◌, All};
 ghost use Rattle.harvester.specs.Answers.{HasFirstUrl};
 
 use crate::settings::Settings;
-use harvest_lattice::Merge;
+use memento_index::Merge;
 use harvester::{Job, Outcome, have_first_urls, run_round};
 use hyper_edge::{HyperFetch, pull_state};
 use memento_time::{ArchiveName, Clean, Original};
@@ -20,6 +20,7 @@ use std::time::{Clock, Duration, SystemTime, UNIX_EPOCH};
 const JOBS_EACH: usize = 8;
 
 /// What a round came to.
+#[derive(Clone, Copy, Debug, PartialEq, Eq)]
 pub(crate) struct Round {
     jobs: u64,
     /// Harvests that were appended.

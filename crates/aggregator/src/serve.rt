@@ -6,7 +6,7 @@ use crate::rounds::{Round, sleep_between};
 use crate::settings::Settings;
 use hyper_edge::EdgeFault;
 use published_index::{Gate, Merger, OpenFault, open};
-use std::alloc::{AllocError, AllocGlobal};
+use std::alloc::{AllocError, AllocFailed, AllocGlobal};
 use std::io::{self, Write};
 use std::net::{Net, SocketAddr, TcpListener, TcpStream};
 use std::random::RandomSource;
@@ -37,6 +37,12 @@ impl From<io::Error> for ServeFault {
 
 impl From<AllocError> for ServeFault {
     fn from(_refused: AllocError) -> ServeFault {
+        ServeFault::NoMemory
+    }
+}
+
+impl<T: Drop> From<AllocFailed<T>> for ServeFault {
+    fn from(_refused: AllocFailed<T>) -> ServeFault {
         ServeFault::NoMemory
     }
 }
@@ -75,7 +81,7 @@ where
         + Clone
         + Drop
         + 'static,
-    W: Write,
+    W: Write + Drop,
 {
     let settings = settings_in(rt, file)?;
     serve_settings(rt, &settings, out)?;
@@ -103,7 +109,7 @@ where
         + Clone
         + Drop
         + 'static,
-    W: Write,
+    W: Write + Drop,
 {
     let service = match settings.base.try_clone() {
         Ok(service) => service,

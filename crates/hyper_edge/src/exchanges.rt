@@ -188,12 +188,11 @@ fn answer_of(
     })
 }
 
-// The pieces of a body in one, each copied once.
+// The bytes of a body: its own block, where nobody else holds it.
 fn body_of(alloc: Global, collected: Collected) -> Result<Vec<u8>, AllocError> {
-    let mut pieces = collected.aggregate();
-    let mut body = Vec::with_capacity(alloc, pieces.len())?;
-    while let Some(piece) = pieces.pop() {
-        body.extend_from_slice(piece.as_slice())?;
+    let bytes = collected.to_bytes()?;
+    match bytes.try_into_mut() {
+        Ok(own) => Ok(own.into_vec()?),
+        Err(shared) => Ok(shared.as_slice().to_vec(alloc)?),
     }
-    Ok(body)
 }
