@@ -1,18 +1,15 @@
 #!/usr/bin/env bash
 # Refuses each request for memory in turn, first while the program replays a script, then while two replicas exchange
-# what they know, and last while a merger publishes to a gate:
+# what they know:
 #
-#     ./run --build && (cd crates/refusals && rt run >/dev/null) && (cd crates/gate_trials && rt run >/dev/null) &&
-#         examples/memory/check.sh
+#     ./run --build && (cd crates/refusals && rt run >/dev/null) && examples/memory/check.sh
 #
 # A replay must end with status 3 and `no memory`, and must have written a beginning of the script's output: never another
-# answer in place of the fault. `refusals` and `gate_trials refusals` call again whatever was refused, and must print the
-# same in every case.
+# answer in place of the fault. `refusals` calls again whatever was refused, and must print the same in every case.
 set -euo pipefail
 top=$(cd "$(dirname "$0")/../.." && pwd)
 program=${PROGRAM:-$top/crates/aggregator/out/aggregator}
 refusals=${REFUSALS:-$top/crates/refusals/out/refusals}
-trials=${TRIALS:-$top/crates/gate_trials/out/gate_trials}
 work=$(mktemp -d)
 trap 'rm -r "$work"' EXIT
 cc -O2 -shared -fPIC -o "$work/refuse.so" "$top/examples/memory/refuse.c" -ldl
@@ -58,20 +55,7 @@ check_exchange() {
     echo "refusals: $count requests for memory refused in turn, each time the same answers at the next call"
 }
 
-check_gates() {
-    local number count
-    count=$(requests_of "$trials" refusals)
-    for number in $(seq "$count"); do
-        run_refused "$number" "$trials" refusals && cmp "$work/out" "$top/examples/memory/gates.expected" || {
-            echo "gate_trials: request $number refused: $(cat "$work/err")" >&2
-            exit 1
-        }
-    done
-    echo "gate_trials: $count requests for memory refused in turn, each time the same answers at the next call"
-}
-
 for script in "$top"/examples/*.replay; do
     check_replay "$script"
 done
 check_exchange
-check_gates

@@ -75,7 +75,7 @@ impl Harvest {
         ensures too_many { IsErrOf result HarvestFault.TooMany → 100000 < length (set.items (set.from_list {R = memento_cmp} mementos.items)) }
     {
         let original = original.try_clone()?;
-        let latest = Latest::of(revision, mementos)?;
+        let latest = Latest::of(revision, mementos);
         if latest.len() > Harvest::MAX_MEMENTOS {
             return Err(HarvestFault::TooMany);
         }

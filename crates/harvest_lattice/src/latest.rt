@@ -66,11 +66,11 @@ impl Latest {
     }
 
     // Takes mementos in any order, each as often as it comes.
-    pub fn of(revision: u64, mementos: Vec<Memento>) -> Result<Latest, NoMemory>
-        ensures { IfOk result (λ l. l ≡ record { revision = revision; mementos = set.from_list mementos.items }) }
+    pub fn of(revision: u64, mementos: Vec<Memento>) -> Latest
+        ensures { result ≡ record { revision = revision; mementos = set.from_list mementos.items } }
     {
-        let mementos = in_order(mementos)?;
-        Ok(Latest { revision, mementos })
+        let mementos = in_order(mementos);
+        Latest { revision, mementos }
     }
 
     /// The same once more.

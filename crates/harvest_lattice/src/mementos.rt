@@ -26,14 +26,17 @@ pub fn append_copies(list: &mut Vec<Memento>, mementos: &[Memento]) -> Result<()
     Ok(())
 }
 
-// The mementos in order, each once.
-pub fn in_order(mut mementos: Vec<Memento>) -> Result<Vec<Memento>, NoMemory>
-    ensures sorted { IfOk result (λ list. IsStrictlySortedBy memento_cmp list.items) }
-    ensures members { IfOk result (λ list. set.from_list {R = memento_cmp} list.items ≡ set.from_list mementos.items) }
+// The mementos in order, each once. Takes no memory, and no more than one walk where they are in order already.
+pub fn in_order(mut mementos: Vec<Memento>) -> Vec<Memento>
+    ensures sorted { IsStrictlySortedBy memento_cmp result.items }
+    ensures members { set.from_list {R = memento_cmp} result.items ≡ set.from_list mementos.items }
 {
-    mementos.sort()?;
+    if mementos_rise(&mementos) {
+        return mementos;
+    }
+    mementos.sort_unstable();
     mementos.dedup();
-    Ok(mementos)
+    mementos
 }
 
 // The mementos of both lists in order, each once.
@@ -44,7 +47,7 @@ pub fn united(alloc: Global, left: &[Memento], right: &[Memento]) -> Result<Vec<
     let mut both = Vec::with_capacity(alloc, left.len())?;
     append_copies(&mut both, left)?;
     append_copies(&mut both, right)?;
-    in_order(both)
+    Ok(in_order(both))
 }
 
 // Whether each memento is below the next.

@@ -26,6 +26,5 @@ pub fn shown_in(
             append_copies(&mut all, latest.mementos())?;
         }
     }
-    let list = in_order(all)?;
-    Ok(list)
+    Ok(in_order(all))
 }

@@ -50,8 +50,8 @@ fn harvest(
 #[test]
 fn a_lesser_revision_adds_nothing(rt: HostRuntime) -> Result<(), Fail> {
     let alloc = rt.alloc();
-    let newer = Latest::of(7, mementos(alloc, &[FIRST])?)?;
-    let older = Latest::of(3, mementos(alloc, &[SECOND])?)?;
+    let newer = Latest::of(7, mementos(alloc, &[FIRST])?);
+    let older = Latest::of(3, mementos(alloc, &[SECOND])?);
     for both in [newer.joined(alloc, &older)?, older.joined(alloc, &newer)?] {
         assert!(rt; both.revision() == 7);
         assert!(rt; both.mementos() == newer.mementos());

@@ -57,10 +57,7 @@ fn page(alloc: Global, number: u64) -> Result<Vec<u8>> {
 fn pages(alloc: Global) -> Result<MemoryFetch> {
     let mut fetch = MemoryFetch::new(alloc);
     for number in 0..PAGES {
-        fetch.add(
-            url(alloc, number)?,
-            answer_of(alloc, page(alloc, number)?),
-        )?;
+        fetch.add(url(alloc, number)?, answer_of(alloc, page(alloc, number)?))?;
     }
     Ok(fetch)
 }

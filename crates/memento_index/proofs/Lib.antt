@@ -1,2 +1,9 @@
 pub mod Choice
 pub mod ListLemmas
+pub mod Halves
+pub mod Places
+pub mod Showing
+pub mod Tallies
+pub mod Listed
+pub mod Columns
+pub mod Gathering

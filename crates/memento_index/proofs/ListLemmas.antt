@@ -1,109 +1,253 @@
--- The lists of an index, after one is put.
-use Rattle.std.proofs.Common.{◌≡◌, ℕ, Bool, true, false, cond, ◌&&◌, ◌||◌, map, length, List, [], ◌∷◌, Option, Some, None, is_some, IsSome, IfSome, unwrap_or, refl, sym, ap, subst, ◌∙◌, arith}
+-- The lists of an index.
+use Rattle.std.proofs.Common.{◌≡◌, ℕ, ◌+◌, ◌≤◌, Bool, true, false, cond, length, List, [], ◌∷◌, Option, Some, None, is_some, IsSome, IfSome, unwrap_or, ◌⊎◌, inl, inr, refl, sym, ap, subst, ◌∙◌, arith}
 use Rattle.std.specs.Map.{lookup, keys_of}
-use Rattle.std.specs.List.{list_any, All, AllByRecursion}
-use Rattle.std.specs.declared.cmp.Ordering.TheVariants.{Less}
-use Rattle.std.proofs.lemmas.List.Elements.{All-head, All-tail}
+use Rattle.std.specs.List.{AllByRecursion}
 use Rattle.std.specs.List.Sorted.{IsStrictlySortedBy}
-use Rattle.std.specs.Ordering.{eq_by_cmp}
+use Rattle.std.specs.Ordering.{eq_by_cmp, is_eq}
+use Rattle.std.specs.Cmp.{eq_by_cmp_equiv, tied_itself}
+use Rattle.std.specs.Cmp.Lexicographic.{nat_list_cmp_total}
+use Rattle.std.specs.declared.cmp.Ordering.TheVariants.{Less}
 use Rattle.std.specs.BTreeMap as tree
 use Rattle.std.specs.BTreeMap.{is_at}
 use Rattle.std.specs.FinMap as fmap
-use Rattle.std.specs.Cmp.{eq_by_cmp_equiv}
-use Rattle.std.specs.Cmp.Lexicographic.{nat_list_cmp_total}
 use Rattle.std.proofs.lemmas.Bool.{true≢false}
 use Rattle.memento_time.specs.Mementos.{text_cmp, memento_cmp}
 use Rattle.memento_time.specs.declared.mementos.Memento.{Memento}
+use Rattle.memento_time.proofs.MementoLemmas.{memento_cmp_total, memento_cmp_exact}
 use Rattle.harvest_lattice.specs.Sets as set
-use Rattle.harvest_lattice.specs.Lattice.{Key, key_cmp, Kept, Entries, Mementos}
+use Rattle.harvest_lattice.specs.Lattice.{Key, key_cmp, Kept, Entries, Mementos, join}
 use Rattle.harvest_lattice.specs.Knowledge.{shown_of}
-use Rattle.memento_index.specs.Lists.{Lists, list_of, AreLists, AllListed}
-use Rattle.harvest_lattice.proofs.Sets.{contains-empty}
+use Rattle.harvest_lattice.proofs.Sets.{contains-from_list}
 use Rattle.harvest_lattice.proofs.Entries.{same_mementos}
-use Rattle.harvest_lattice.proofs.Knowledge.{contains-shown_of}
-use Rattle.harvest_lattice.proofs.ShelfLemmas.{same_text}
+use Rattle.harvest_lattice.proofs.ShelfLemmas.{same_text, none_after}
+use Rattle.memento_index.specs.declared.counted.Counted.{Counted}
+use Rattle.memento_index.specs.declared.counted.Step.{Step}
+use Rattle.memento_index.specs.Counts.{IsTally, count_of, begun, ceased, mementos_of, IsRecounted}
+use Rattle.memento_index.specs.Showing.{showing, showing_by, shown_before, shown_after}
+use Rattle.memento_index.specs.Tallies.{Tallied}
+use Rattle.memento_index.specs.Lists.{Lists, StepLists, tally_in, tally_of, steps_of, Grows, HasRoom, HaveRoom, CanCount, IsCounted, AreGathered}
+use Rattle.memento_index.proofs.Showing.{join_shows, before-le, showing-le, shown_counts, not_shown_counts}
+use Rattle.memento_index.proofs.Tallies.{begun-le}
+use Rattle.memento_index.proofs.Listed.{tally_lists}
 
-module _ (m n : Lists) (a : List ℕ) (w : List Memento) (put : (q : List ℕ) → tree.get text_cmp n q ≡ cond (is_at (text_cmp a) q) (Some w) (tree.get text_cmp m q)) where
-  pub list_stay : (o : List ℕ) → IsSome (tree.get text_cmp m o) → IsSome (tree.get text_cmp n o)
-  list_stay o had = subst IsSome (sym (put o)) (elim (is_at (text_cmp a) o) as (λ b. IsSome (cond b (Some w) (tree.get text_cmp m o))) [ true ↦ refl | false ↦ had ])
+-- a set is that of its own members in order
+pub from_items : (s : Mementos) → set.from_list {R = memento_cmp} (set.items s) ≡ s
+from_items s = same_mementos _ _ (λ m. contains-from_list memento_cmp_total memento_cmp_exact (set.items s) m ∙ sym (fmap.contains_key-keys s m))
 
-  -- one more list of what is shown
-  pub one_listed : (x : Entries) → w ≡ set.items (shown_of x a) → AreLists x m → AreLists x n
-  one_listed x is lists o =
-      subst (λ (l : Option (List Memento)). IfSome l (λ list. list ≡ set.items (shown_of x o))) (sym (put o))
-      (elim (is_at (text_cmp a) o) as (λ b. is_at (text_cmp a) o ≡ b → IfSome (cond b (Some w) (tree.get text_cmp m o)) (λ list. list ≡ set.items (shown_of x o))) [
-        | true ↦ λ t. is ∙ ap (λ p. set.items (shown_of x p)) (same_text a o t)
-        | false ↦ λ _. lists o
-      ] refl)
+-- ---- lists that grow
 
-no_length : {A : Type 0} (xs : List A) → length xs ≡ 0 → xs ≡ []
-no_length [] e = refl
-no_length (x ∷ xs) e = absurd (omega arith)
+pub grows_same : (a : Option Tallied) → Grows a a
+grows_same None = refl
+grows_same (Some t) = (refl, omega arith)
 
-no_items : set.items (set.empty {R = memento_cmp}) ≡ []
-no_items = ap (map (λ e. e.0)) (no_length (fmap.entries (set.empty {R = memento_cmp})) (sym (fmap.len-entries (set.empty {R = memento_cmp})) ∙ fmap.len-empty memento_cmp (Unit {0})))
+pub grows_on : (a b c : Option Tallied) → Grows a b → Grows b c → Grows a c
+grows_on None None c p q = q
+grows_on None (Some u) None p q = absurd q
+grows_on None (Some u) (Some v) p q = q.0 ∙ p
+grows_on (Some t) None c p q = absurd p
+grows_on (Some t) (Some u) None p q = absurd q
+grows_on (Some t) (Some u) (Some v) p q = (q.0 ∙ p.0, let r = p.1 in let s = q.1 in omega arith)
 
--- nothing is shown of any original where there is no entry
-pub none_shown : (o : List ℕ) → set.items (shown_of fmap.empty o) ≡ []
-none_shown o =
-    let none : fmap.entries (fmap.empty {X = Kept} {R = key_cmp}) ≡ [] = no_length (fmap.entries (fmap.empty {X = Kept} {R = key_cmp})) (sym (fmap.len-entries (fmap.empty {X = Kept} {R = key_cmp})) ∙ fmap.len-empty key_cmp Kept) in
-    ap (λ (s : Mementos). set.items s) (same_mementos (shown_of fmap.empty o) set.empty (λ m.
-    contains-shown_of fmap.empty o m ∙ (ap (list_any (λ (e : Key × Kept). eq_by_cmp text_cmp o e.0.1 && set.contains e.1.mementos m)) none ∙ sym (contains-empty memento_cmp m))))
-    ∙ no_items
+pub grown_same : (a b : Option Tallied) → Grows a b → tally_in b ≡ tally_in a
+grown_same None b p = p
+grown_same (Some t) None p = absurd p
+grown_same (Some t) (Some u) p = p.0
 
--- ---- the lists of a state
+pub grown_room : (keys : ℕ) (a b : Option Tallied) (spare wide more : ℕ) → Grows a b → spare ≤ wide → HasRoom keys a spare more → HasRoom keys b wide more
+grown_room keys None b spare wide more p le h = absurd h
+grown_room keys (Some t) None spare wide more p le h = absurd p
+grown_room keys (Some t) (Some u) spare wide more p le h =
+    let same : length u.entries ≡ length t.entries = ap (λ es. length es) p.0 in
+    let wider = p.1 in
+    let here = h.0 in
+    let there = h.1 in
+    (omega arith, omega arith, h.2)
 
--- whether an entry is of an original
-abbrev pub is_of : List ℕ → Key × Kept → Bool
-is_of o e = eq_by_cmp text_cmp o e.0.1
+pub fewer_keys : (keys : ℕ) (a : Option Tallied) (spare more : ℕ) → HasRoom keys a spare more → HasRoom 0 a spare more
+fewer_keys keys None spare more h = absurd h
+fewer_keys keys (Some t) spare more h = let few = h.2 in (h.0, h.1, omega arith)
 
--- nothing is shown of an original of which there is no entry
-pub no_entry_shown : (x : Entries) (o : List ℕ) → list_any (is_of o) (fmap.entries x) ≡ false → set.items (shown_of x o) ≡ []
-no_entry_shown x o none =
-    ap (λ (s : Mementos). set.items s) (same_mementos (shown_of x o) set.empty (λ m.
-    contains-shown_of x o m ∙ (none_of m (fmap.entries x) none ∙ sym (contains-empty memento_cmp m))))
-    ∙ no_items
+pub fewer_keys_all : (keys : ℕ) (all : StepLists) (lists : Lists) (spare : ℕ) → HaveRoom keys all lists spare → HaveRoom 0 all lists spare
+fewer_keys_all keys all lists spare h o = by (tree.get text_cmp all o) (h o)
   where
-    none_of : (m : Memento) (es : List (Key × Kept)) → list_any (is_of o) es ≡ false → list_any (λ (e : Key × Kept). is_of o e && set.contains e.1.mementos m) es ≡ false
-    none_of m [] h = refl
-    none_of m (e ∷ es) h =
-        elim (is_of o e) as (λ b. (b || list_any (is_of o) es) ≡ false → ((b && set.contains e.1.mementos m) || list_any (λ (e : Key × Kept). is_of o e && set.contains e.1.mementos m) es) ≡ false) [
-          | true ↦ λ t. absurd (true≢false t)
-          | false ↦ λ f. none_of m es f
-        ] h
+    by : (s : Option (List Step)) → IfSome s (λ steps. HasRoom keys (tree.get text_cmp lists o) spare (length steps)) → IfSome s (λ steps. HasRoom 0 (tree.get text_cmp lists o) spare (length steps))
+    by None h = tt
+    by (Some steps) h = fewer_keys keys (tree.get text_cmp lists o) spare (length steps) h
 
--- an original of a state has its list, or an entry among those that are left
-abbrev pub HasListOr : Lists → List (Key × Kept) → List ℕ → Type 0
-HasListOr lists left o = (is_some (tree.get text_cmp lists o) || list_any (is_of o) left) ≡ true
+pub none_there : (t : Option Tallied) → is_some t ≡ false → t ≡ None
+none_there None h = refl
+none_there (Some t) h = absurd (true≢false h)
 
--- one list more
-pub one_more_has : (was now : Lists) (left new : List (Key × Kept)) (e : Key × Kept) → left ≡ e ∷ new → ((o : List ℕ) → IsSome (tree.get text_cmp was o) → IsSome (tree.get text_cmp now o)) → IsSome (tree.get text_cmp now e.0.1) → (o : List ℕ) → HasListOr was left o → HasListOr now new o
-one_more_has was now left new e is stay made o had =
-    elim (is_some (tree.get text_cmp was o)) as (λ b. is_some (tree.get text_cmp was o) ≡ b → (b || list_any (is_of o) left) ≡ true → HasListOr now new o) [
-      | true ↦ λ t _. ap (λ b. b || list_any (is_of o) new) (stay o t)
-      | false ↦ λ _ rest. here (subst (λ (es : List (Key × Kept)). list_any (is_of o) es ≡ true) is rest)
-    ] refl had
+-- one put where none was
+pub one_grows : (m n : Lists) (a : List ℕ) (w : Tallied) → ((q : List ℕ) → tree.get text_cmp n q ≡ cond (is_at (text_cmp a) q) (Some w) (tree.get text_cmp m q)) → Grows (tree.get text_cmp m a) (Some w) → (o : List ℕ) → Grows (tree.get text_cmp m o) (tree.get text_cmp n o)
+one_grows m n a w put grow o =
+    subst (Grows (tree.get text_cmp m o)) (sym (put o))
+    (elim (is_at (text_cmp a) o) as (λ b. is_at (text_cmp a) o ≡ b → Grows (tree.get text_cmp m o) (cond b (Some w) (tree.get text_cmp m o))) [
+      | true ↦ λ t. subst (λ p. Grows (tree.get text_cmp m p) (Some w)) (same_text a o t) grow
+      | false ↦ λ _. grows_same (tree.get text_cmp m o)
+    ] refl)
+
+-- ---- a walk over the steps of each original
+
+-- an original's steps are still to come, or it has its room
+abbrev pub HasRoomOr : ℕ → StepLists → List (List ℕ × List Step) → Lists → ℕ → List ℕ → Type 0
+HasRoomOr keys all left lists spare o = (lookup (is_at (text_cmp o)) left ≡ tree.get text_cmp all o) ⊎ IfSome (tree.get text_cmp all o) (λ steps. HasRoom keys (tree.get text_cmp lists o) spare (length steps))
+
+pub room_stays : (keys : ℕ) (s : Option (List Step)) (a b : Option Tallied) (spare wide : ℕ) → Grows a b → spare ≤ wide → IfSome s (λ steps. HasRoom keys a spare (length steps)) → IfSome s (λ steps. HasRoom keys b wide (length steps))
+room_stays keys None a b spare wide grow le h = tt
+room_stays keys (Some steps) a b spare wide grow le h = grown_room keys a b spare wide (length steps) grow le h
+
+pub one_more_room : (keys : ℕ) (all : StepLists) (left new : List (List ℕ × List Step)) (e : List ℕ × List Step) (was now : Lists) (spare wide : ℕ) → left ≡ e ∷ new → ((o : List ℕ) → Grows (tree.get text_cmp was o) (tree.get text_cmp now o)) → spare ≤ wide → HasRoom keys (tree.get text_cmp now e.0) wide (length e.1) → (o : List ℕ) → HasRoomOr keys all left was spare o → HasRoomOr keys all new now wide o
+one_more_room keys all left new e was now spare wide is grow le made o (inr had) = inr (room_stays keys (tree.get text_cmp all o) (tree.get text_cmp was o) (tree.get text_cmp now o) spare wide (grow o) le had)
+one_more_room keys all left new e was now spare wide is grow le made o (inl to_come) =
+    elim (is_at (text_cmp o) e.0) as (λ b. is_at (text_cmp o) e.0 ≡ b → cond b (Some e.1) (lookup (is_at (text_cmp o)) new) ≡ tree.get text_cmp all o → HasRoomOr keys all new now wide o) [
+      | true ↦ λ t its. inr (subst (λ (s : Option (List Step)). IfSome s (λ steps. HasRoom keys (tree.get text_cmp now o) wide (length steps))) its (subst (λ p. HasRoom keys (tree.get text_cmp now p) wide (length e.1)) (sym (same_text o e.0 t)) made))
+      | false ↦ λ _ rest. inl rest
+    ] refl (ap (lookup (is_at (text_cmp o))) (sym is) ∙ to_come)
+
+pub all_roomy : (keys : ℕ) (all : StepLists) (left : List (List ℕ × List Step)) (lists : Lists) (spare : ℕ) → left ≡ [] → ((o : List ℕ) → HasRoomOr keys all left lists spare o) → HaveRoom keys all lists spare
+all_roomy keys all left lists spare is has o =
+    elim (has o) [
+      | inr room ↦ room
+      | inl to_come ↦ subst (λ (s : Option (List Step)). IfSome s (λ steps. HasRoom keys (tree.get text_cmp lists o) spare (length steps))) (ap (lookup (is_at (text_cmp o))) (sym is) ∙ to_come) tt
+    ]
+
+-- ---- a walk that counts
+
+-- an original's steps are still to come and its list is as it was, or they are counted
+abbrev pub IsCountedOr : StepLists → List (List ℕ × List Step) → Lists → Lists → List ℕ → Type 0
+IsCountedOr all left was now o =
+    ((lookup (is_at (text_cmp o)) left ≡ tree.get text_cmp all o) × (tree.get text_cmp now o ≡ tree.get text_cmp was o)) ⊎ ((lookup (is_at (text_cmp o)) left ≡ None) × IsRecounted (tally_of was o) (steps_of all o) (tally_of now o))
+
+-- the steps that come next are those of their original
+pub next_is : (all : StepLists) (left new : List (List ℕ × List Step)) (e : List ℕ × List Step) (was now : Lists) → left ≡ e ∷ new → ((o : List ℕ) → IsCountedOr all left was now o) → (tree.get text_cmp all e.0 ≡ Some e.1) × (tree.get text_cmp now e.0 ≡ tree.get text_cmp was e.0)
+next_is all left new e was now is each =
+    let here : lookup (is_at (text_cmp e.0)) left ≡ Some e.1 = ap (lookup (is_at (text_cmp e.0))) is ∙ ap (λ b. cond b (Some e.1) (lookup (is_at (text_cmp e.0)) new)) (text_itself e.0) in
+    elim (each e.0) [
+      | inl to_come ↦ (sym to_come.0 ∙ here, to_come.1)
+      | inr done ↦ absurd (not_none e.1 (sym here ∙ done.0))
+    ]
   where
-    or_true : (a b : Bool) → b ≡ true → (a || b) ≡ true
-    or_true true b h = refl
-    or_true false b h = h
+    text_itself : (a : List ℕ) → is_at (text_cmp a) a ≡ true
+    text_itself a = ap is_eq (tied_itself nat_list_cmp_total a)
 
-    here : (is_of o e || list_any (is_of o) new) ≡ true → HasListOr now new o
-    here h =
-        elim (is_of o e) as (λ b. is_of o e ≡ b → (b || list_any (is_of o) new) ≡ true → HasListOr now new o) [
-          | true ↦ λ t _. ap (λ b. b || list_any (is_of o) new) (subst (λ p. IsSome (tree.get text_cmp now p)) (sym (same_text o e.0.1 t)) made)
-          | false ↦ λ _ rest. or_true (is_some (tree.get text_cmp now o)) (list_any (is_of o) new) rest
-        ] refl h
+    not_none : (s : List Step) → Some s ≡ None → ⊥
+    not_none s e = cc
 
--- at the end each original of the state has its list
-pub all_listed : (x : Entries) (lists : Lists) → AreLists x lists → ((o : List ℕ) → list_any (is_of o) (fmap.entries x) ≡ true → HasListOr lists [] o) → AllListed x lists
-all_listed x lists are has o = listed (tree.get text_cmp lists o) refl
+-- so what is asked of each original holds of the next one
+pub next_tally : (all : StepLists) (left new : List (List ℕ × List Step)) (e : List ℕ × List Step) (was now : Lists) → left ≡ e ∷ new → ((o : List ℕ) → IsCountedOr all left was now o) → ((o : List ℕ) → IsTally (tally_of was o)) → IsTally (tally_of now e.0)
+next_tally all left new e was now is each tally = subst (λ (t : Option Tallied). IsTally (tally_in t)) (sym (next_is all left new e was now is each).1) (tally e.0)
+
+pub next_can : (all : StepLists) (left new : List (List ℕ × List Step)) (e : List ℕ × List Step) (was now : Lists) → left ≡ e ∷ new → ((o : List ℕ) → IsCountedOr all left was now o) → ((o : List ℕ) → CanCount (tally_of was o) (steps_of all o)) → CanCount (tally_of now e.0) e.1
+next_can all left new e was now is each can =
+    let its = next_is all left new e was now is each in
+    subst (λ (t : Option Tallied). CanCount (tally_in t) e.1) (sym its.1) (subst (λ (s : Option (List Step)). CanCount (tally_of was e.0) (unwrap_or s [])) its.0 (can e.0))
+
+pub next_room : (all : StepLists) (left new : List (List ℕ × List Step)) (e : List ℕ × List Step) (was now : Lists) → left ≡ e ∷ new → ((o : List ℕ) → IsCountedOr all left was now o) → (spare wide : ℕ) → spare ≤ wide → HaveRoom 0 all was spare → HasRoom 0 (tree.get text_cmp now e.0) wide (length e.1)
+next_room all left new e was now is each spare wide le room =
+    let its = next_is all left new e was now is each in
+    let here : HasRoom 0 (tree.get text_cmp was e.0) spare (length e.1) = subst (λ (s : Option (List Step)). IfSome s (λ steps. HasRoom 0 (tree.get text_cmp was e.0) spare (length steps))) its.0 (room e.0) in
+    subst (λ (t : Option Tallied). HasRoom 0 t wide (length e.1)) (sym its.1) (grown_room 0 (tree.get text_cmp was e.0) (tree.get text_cmp was e.0) spare wide (length e.1) (grows_same (tree.get text_cmp was e.0)) le here)
+
+pub one_more_counted : (all : StepLists) (left new : List (List ℕ × List Step)) (e : List ℕ × List Step) (was now next : Lists) → left ≡ e ∷ new → IsStrictlySortedBy text_cmp (keys_of left) → ((o : List ℕ) → IsCountedOr all left was now o) → IsRecounted (tally_of now e.0) e.1 (tally_of next e.0) → ((o : List ℕ) → eq_by_cmp text_cmp e.0 o ≡ false → tree.get text_cmp next o ≡ tree.get text_cmp now o) → (o : List ℕ) → IsCountedOr all new was next o
+unfolding IsStrictlySortedBy
+one_more_counted all left new e was now next is sorted each recounted others o =
+    elim (eq_by_cmp text_cmp e.0 o) as (λ b. eq_by_cmp text_cmp e.0 o ≡ b → IsCountedOr all new was next o) [
+      | true ↦ λ t. subst (IsCountedOr all new was next) (same_text e.0 o t) (inr (gone, here))
+      | false ↦ λ f. other f (each o)
+    ] refl
   where
-    listed : (was : Option (List Memento)) → tree.get text_cmp lists o ≡ was → unwrap_or (tree.get text_cmp lists o) [] ≡ set.items (shown_of x o)
-    listed (Some list) is = ap (λ v. unwrap_or v []) is ∙ subst (λ (v : Option (List Memento)). IfSome v (λ list. list ≡ set.items (shown_of x o))) is (are o)
-    listed None is =
-        ap (λ v. unwrap_or v []) is
-        ∙ sym (no_entry_shown x o (elim (list_any (is_of o) (fmap.entries x)) as (λ b. list_any (is_of o) (fmap.entries x) ≡ b → b ≡ false) [
-          | true ↦ λ t. absurd (true≢false (sym (has o t) ∙ ap (λ v. is_some v || false) is))
-          | false ↦ λ _. refl
-        ] refl))
+    gone : lookup (is_at (text_cmp e.0)) new ≡ None
+    gone = let h : IsStrictlySortedBy text_cmp (keys_of (e ∷ new)) = subst (λ (es : List (List ℕ × List Step)). IsStrictlySortedBy text_cmp (keys_of es)) is sorted in none_after e.0 new h.0
+
+    here : IsRecounted (tally_of was e.0) (steps_of all e.0) (tally_of next e.0)
+    here =
+        let its = next_is all left new e was now is each in
+        subst (λ (s : List Step). IsRecounted (tally_of was e.0) s (tally_of next e.0)) (sym (ap (λ (s : Option (List Step)). unwrap_or s []) its.0))
+        (subst (λ (t : Option Tallied). IsRecounted (tally_in t) e.1 (tally_of next e.0)) its.1 recounted)
+
+    other : eq_by_cmp text_cmp e.0 o ≡ false → IsCountedOr all left was now o → IsCountedOr all new was next o
+    other f before =
+        let apart : is_at (text_cmp o) e.0 ≡ false = (eq_by_cmp_equiv nat_list_cmp_total).symm o e.0 ∙ f in
+        let left_is : lookup (is_at (text_cmp o)) left ≡ lookup (is_at (text_cmp o)) new = ap (lookup (is_at (text_cmp o))) is ∙ ap (λ b. cond b (Some e.1) (lookup (is_at (text_cmp o)) new)) apart in
+        elim before [
+          | inl to_come ↦ inl (sym left_is ∙ to_come.0, others o f ∙ to_come.1)
+          | inr done ↦ inr (sym left_is ∙ done.0, subst (λ (t : Option Tallied). IsRecounted (tally_of was o) (steps_of all o) (tally_in t)) (sym (others o f)) done.1)
+        ]
+
+-- at the end all are counted
+pub all_counted : (all : StepLists) (left : List (List ℕ × List Step)) (was now : Lists) → left ≡ [] → ((o : List ℕ) → IsTally (tally_of was o)) → ((o : List ℕ) → IsCountedOr all left was now o) → (o : List ℕ) → IsRecounted (tally_of was o) (steps_of all o) (tally_of now o)
+all_counted all left was now is tally each o =
+    elim (each o) [
+      | inr done ↦ done.1
+      | inl to_come ↦
+          let none : steps_of all o ≡ [] = ap (λ (s : Option (List Step)). unwrap_or s []) (sym to_come.0 ∙ ap (lookup (is_at (text_cmp o))) is) in
+          subst (λ (s : List Step). IsRecounted (tally_of was o) s (tally_of now o)) (sym none)
+          (subst (λ (t : Option Tallied). IsRecounted (tally_of was o) [] (tally_in t)) (sym to_come.1) (record { tally = tally o; counts = λ m. refl }))
+    ]
+
+pub later_sorted : (left new : List (List ℕ × List Step)) (e : List ℕ × List Step) → left ≡ e ∷ new → IsStrictlySortedBy text_cmp (keys_of left) → IsStrictlySortedBy text_cmp (keys_of new)
+unfolding IsStrictlySortedBy
+later_sorted left new e is sorted = let h : IsStrictlySortedBy text_cmp (keys_of (e ∷ new)) = subst (λ (es : List (List ℕ × List Step)). IsStrictlySortedBy text_cmp (keys_of es)) is sorted in h.1
+
+-- ---- an index of nothing
+
+pub none_counted : (x : Entries) (lists : Lists) → x ≡ fmap.empty → ((o : List ℕ) → tree.get text_cmp lists o ≡ None) → IsCounted x lists
+none_counted x lists is none = record {
+  tally = λ o. subst (λ (t : Option Tallied). IsTally (tally_in t)) (sym (none o)) tt;
+  counts = λ o m. ap (λ (t : Option Tallied). count_of (tally_in t) m) (none o) ∙ sym (ap (λ (y : Entries). showing y o m) is ∙ ap (λ (es : List (Key × Kept)). showing_by (λ e. Some e.1) es o m) no_entries);
+}
+  where
+    no_length : (es : List (Key × Kept)) → length es ≡ 0 → es ≡ []
+    no_length [] e = refl
+    no_length (x ∷ es) e = absurd (omega arith)
+
+    no_entries : fmap.entries (fmap.empty {X = Kept} {R = key_cmp}) ≡ []
+    no_entries = no_length (fmap.entries (fmap.empty {X = Kept} {R = key_cmp})) (sym (fmap.len-entries (fmap.empty {X = Kept} {R = key_cmp})) ∙ fmap.len-empty key_cmp Kept)
+
+-- room made leaves the counts as they are
+pub counted_made : (x : Entries) (lists made : Lists) → IsCounted x lists → ((o : List ℕ) → Grows (tree.get text_cmp lists o) (tree.get text_cmp made o)) → IsCounted x made
+counted_made x lists made counted grow = record {
+  tally = λ o. subst IsTally (sym (grown_same (tree.get text_cmp lists o) (tree.get text_cmp made o) (grow o))) (counted.tally o);
+  counts = λ o m. ap (λ (es : List Counted). count_of es m) (grown_same (tree.get text_cmp lists o) (tree.get text_cmp made o) (grow o)) ∙ counted.counts o m;
+}
+
+-- ---- an index after a merge
+
+module _ (x news : Entries) (all : StepLists) (lists made : Lists) (counted : IsCounted x lists) (gathered : AreGathered x (fmap.entries news) all) (grow : (o : List ℕ) → Grows (tree.get text_cmp lists o) (tree.get text_cmp made o)) where
+  made_tally : (o : List ℕ) → tally_of made o ≡ tally_of lists o
+  made_tally o = grown_same (tree.get text_cmp lists o) (tree.get text_cmp made o) (grow o)
+
+  pub tally_made : (o : List ℕ) → IsTally (tally_of made o)
+  tally_made o = subst IsTally (sym (made_tally o)) (counted.tally o)
+
+  counts_made : (o : List ℕ) (m : Memento) → count_of (tally_of made o) m ≡ showing x o m
+  counts_made o m = ap (λ (es : List Counted). count_of es m) (made_tally o) ∙ counted.counts o m
+
+  -- the steps can be counted
+  pub can_count : (keys spare : ℕ) → keys ≡ fmap.len x → keys ≤ 18446744073709551615 → HaveRoom keys all made spare → (o : List ℕ) → CanCount (tally_of made o) (steps_of all o)
+  can_count keys spare is fits room o = record {
+    shown = λ m. omega (arith, gathered.shown o m, before-le x news o m, counts_made o m);
+    few = λ m. omega (arith, counts_made o m, showing-le x o m, few (tree.get text_cmp all o) (tree.get text_cmp made o) m (room o));
+  }
+    where
+      few : (s : Option (List Step)) (t : Option Tallied) (m : Memento) → IfSome s (λ steps. HasRoom keys t spare (length steps)) → keys + begun (unwrap_or s []) m ≤ 18446744073709551615
+      few None t m h = omega arith
+      few (Some steps) None m h = absurd h
+      few (Some steps) (Some t) m h = let most = h.2 in omega (arith, begun-le steps m, most)
+
+  -- and once they are, the counts are those of the join
+  pub counted_after : (y : Entries) (after : Lists) → y ≡ join x news → ((o : List ℕ) → IsRecounted (tally_of made o) (steps_of all o) (tally_of after o)) → IsCounted y after
+  counted_after y after is recounted = record {
+    tally = λ o. (recounted o).tally;
+    counts = λ o m.
+        let joined = ap (λ (z : Entries). showing z o m) is in
+        let steps = (recounted o).counts m in
+        omega (arith, joined, steps, counts_made o m, join_shows x news o m, gathered.counts o m);
+  }
+
+-- the list of an original has what is shown of it
+pub listed : (x : Entries) (lists : Lists) → IsCounted x lists → (o : List ℕ) → mementos_of (tally_of lists o) ≡ set.items (shown_of x o)
+listed x lists counted o = tally_lists (tally_of lists o) (shown_of x o) (counted.tally o)
+    (λ m held. let some = shown_counts x o m held in omega (arith, some, counted.counts o m))
+    (λ m not. let none = not_shown_counts x o m not in omega (arith, none, counted.counts o m))

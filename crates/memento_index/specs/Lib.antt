@@ -1,3 +1,7 @@
 pub mod Choice
 pub mod Lists
 pub mod Merges
+pub mod Probes
+pub mod Showing
+pub mod Tallies
+pub mod Counts

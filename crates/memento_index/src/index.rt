@@ -4,11 +4,13 @@ ghost use Rattle.harvest_lattice.specs.Sets as set;
 ghost use Rattle.harvest_lattice.specs.Lattice.{join};
 ghost use Rattle.harvest_lattice.specs.Knowledge.{Harvested, lat, shown, shown_of};
 ghost use Rattle.memento_index.specs.Choice.{nearest, last};
-ghost use Rattle.memento_index.specs.Lists.{AllListed};
 
-use crate::lists::{Lists, lists_of};
+use crate::gather::gather_steps;
+use crate::last::last_of;
+use crate::lists::{Lists, make_rooms, recount_all};
 use crate::merge::Merge;
-use crate::nearest::{last_of, nearest_of};
+use crate::nearest::nearest_of;
+use crate::tally::Tally;
 use harvest_lattice::State;
 use memento_time::{Memento, Moment, NoMemory, Original};
 use std::alloc::Global;
@@ -31,11 +33,11 @@ impl Model for Index {
 
     ghost coded = { map.code coded_key coded_kept };
 
-    ghost use Rattle.memento_index.specs.Lists.{AllListed};
+    ghost use Rattle.memento_index.specs.Lists.{IsCounted};
 
     ghost view = { λ i. i.state };
 
-    ghost invariant = { λ i. AllListed i.state i.lists };
+    ghost invariant = { λ i. IsCounted i.state i.lists };
 }
 
 impl Index {
@@ -53,16 +55,24 @@ impl Index {
         }
     }
 
-    /// Takes a harvest, or all that a state has, and makes all lists anew.
+    /// Takes a harvest, or all that a state has.
+    ///
+    /// It has all its memory before the first change, and then changes only the counts of what begins or ceases to be
+    /// shown. It takes time in the size of what it takes and of the entries at its keys; of a list that changes, in what
+    /// stands from the first change on; and logarithmic in the number of keys and of lists. Neither the number of
+    /// archives nor the lists that don't change make a difference.
     pub fn absorb(&mut self, merge: &Merge) -> Result<(), NoMemory>
         ensures ok { OnOk result (self.new ≡ join self.old (lat (adds_of merge.now))) }
         ensures stands { (hs : List Harvested) → self.old ≡ lat hs → OnOk result (self.new ≡ lat (hs ++ adds_of merge.now)) }
         ensures err { OnErr result (self.new ≡ self.old) }
     {
-        let state = merge.merged(&self.state)?;
-        let lists = lists_of(self.alloc, &state)?;
-        self.state = state;
-        self.lists = lists;
+        let changes = merge.changes(&self.state)?;
+        let steps = gather_steps(self.alloc, &self.state, &changes)?;
+        let keys = self.state.len();
+        let mut lifted = Tally::new(self.alloc);
+        make_rooms(&mut self.lists, &mut lifted, self.alloc, &steps, keys)?;
+        self.state.put(changes)?;
+        recount_all(&mut self.lists, &mut lifted, steps);
         Ok(())
     }
 
@@ -78,7 +88,7 @@ impl Index {
         ensures { result.now ≡ set.items (shown_of self.now original.now) }
     {
         match self.lists.get(original) {
-            Some(list) => list.as_slice(),
+            Some(list) => list.mementos(),
             None => &[],
         }
     }

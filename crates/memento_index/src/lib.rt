@@ -4,14 +4,25 @@
 //! to a moment, and which is the last.
 #![tactic(auto)]
 
+mod counted;
+mod counts;
+mod gather;
 mod index;
+mod last;
 mod laws;
 mod lists;
 mod merge;
 mod nearest;
+#[cfg(test)]
+mod plain;
+mod probed;
+mod steps;
+mod tally;
 #[cfg(test)]
 mod tests;
 
 pub use index::Index;
 pub use laws::{distances_are_between, one_is_last, one_is_nearest};
 pub use merge::Merge;
+pub use nearest::nearest_in;
+pub use probed::Probed;

@@ -1,40 +1,139 @@
 // The lists of an index.
-ghost use Rattle.std.specs.Prelude.{◌≡◌, ℕ, List, IsSome, IfOk, OnOk};
+ghost use Rattle.std.specs.Prelude.{◌≡◌, ◌+◌, ◌≤◌, ℕ, List, [], true, false, IfOk, IfSome, IsSome, OnOk, length};
 ghost use Rattle.std.specs.BTreeMap as tree;
+ghost use Rattle.std.specs.Ordering.{eq_by_cmp};
 ghost use Rattle.memento_time.specs.Mementos.{text_cmp};
-ghost use Rattle.memento_index.specs.Lists.{AllListed, AreLists};
+ghost use Rattle.memento_index.specs.Counts.{IsTally, IsRecounted};
+ghost use Rattle.memento_index.specs.Lists.{Grows, tally_of, steps_of, HasRoom, HaveRoom, CanCount};
 
-use harvest_lattice::State;
-use memento_time::{Items, Memento, NoMemory, Original};
+use crate::counted::Step;
+use crate::counts::recount;
+use crate::tally::Tally;
+use memento_time::{Items, NoMemory, Original};
 use std::alloc::Global;
 use std::collections::BTreeMap;
 
-pub type Lists = BTreeMap<Original, Items<Memento>>;
+pub type Lists = BTreeMap<Original, Tally>;
 
-// The list of each original of a state.
-pub fn lists_of(alloc: Global, state: &State) -> Result<Lists, NoMemory>
-    ensures { IfOk result (AllListed state.now) }
+// What begins and ceases to be shown of each original.
+pub type StepLists = BTreeMap<Original, Items<Step>>;
+
+// Makes room in the list of each original for its steps, and room to lift the longest of these lists. No count of so
+// many keys and the steps is too large.
+pub fn make_rooms(
+    lists: &mut Lists,
+    lifted: &mut Tally,
+    alloc: Global,
+    all: &StepLists,
+    keys: usize,
+) -> Result<(), NoMemory>
+    ensures grow { (o : List ℕ) → Grows (tree.get text_cmp lists.old o) (tree.get text_cmp lists.new o) }
+    ensures lifted { lifted.new.entries ≡ lifted.old.entries }
+    ensures made { OnOk result (HaveRoom keys all.now lists.new lifted.new.room) }
 {
-    let mut lists = BTreeMap::new(alloc);
-    for row in state.rows() {
-        let ((_, original), _) = row;
-        add_list(&mut lists, state, original)?;
+    for (original, steps) in all {
+        make_room(lists, lifted, alloc, original, steps.as_slice().len(), keys)?;
     }
-    Ok(lists)
+    Ok(())
 }
 
-// Adds the list of an original where there is none.
-fn add_list(lists: &mut Lists, state: &State, original: &Original) -> Result<(), NoMemory>
-    requires { AreLists state.now lists.old }
-    ensures lists { OnOk result (AreLists state.now lists.new) }
-    ensures stay { OnOk result ((o : List ℕ)
-        → IsSome (tree.get text_cmp lists.old o) → IsSome (tree.get text_cmp lists.new o)) }
+fn make_room(
+    lists: &mut Lists,
+    lifted: &mut Tally,
+    alloc: Global,
+    original: &Original,
+    more: usize,
+    keys: usize,
+) -> Result<(), NoMemory>
+    ensures grow { (o : List ℕ) → Grows (tree.get text_cmp lists.old o) (tree.get text_cmp lists.new o) }
+    ensures lifted { lifted.new.entries ≡ lifted.old.entries }
+    ensures lifted_room { lifted.old.room ≤ lifted.new.room }
+    ensures made { OnOk result (HasRoom keys (tree.get text_cmp lists.new original.now) lifted.new.room more) }
+{
+    // No memory has room for so many.
+    if keys.checked_add(more).is_none() {
+        return Err(NoMemory);
+    }
+    make_list(lists, alloc, original)?;
+    let most = reserve(lists, original, more)?;
+    lifted.reserve(most)?;
+    Ok(())
+}
+
+// Gives an original an empty list where it has none.
+fn make_list(lists: &mut Lists, alloc: Global, original: &Original) -> Result<(), NoMemory>
+    ensures grow { (o : List ℕ) → Grows (tree.get text_cmp lists.old o) (tree.get text_cmp lists.new o) }
     ensures made { OnOk result (IsSome (tree.get text_cmp lists.new original.now)) }
 {
     if !lists.contains_key(original) {
-        let list = state.shown(original)?;
         let original = original.try_clone()?;
-        lists.insert(original, Items::of(list))?;
+        lists.insert(original, Tally::new(alloc))?;
     }
     Ok(())
+}
+
+// Makes room in the list of an original, and gives the length that it may then have.
+fn reserve(lists: &mut Lists, original: &Original, more: usize) -> Result<usize, NoMemory>
+    ensures grow { (o : List ℕ) → Grows (tree.get text_cmp lists.old o) (tree.get text_cmp lists.new o) }
+    ensures made { IfOk result (λ most. IfSome (tree.get text_cmp lists.new original.now) (λ t. (most ≡ length t.entries + more) × (most ≤ t.room))) }
+{
+    match lists.get_mut(original) {
+        Some(list) => list.reserve(more),
+        None => Ok(0),
+    }
+}
+
+// Counts the steps of each original in its list, and drops the lists that become empty.
+pub fn recount_all(lists: &mut Lists, lifted: &mut Tally, all: StepLists)
+    requires tally { (o : List ℕ) → IsTally (tally_of lists.old o) }
+    requires can { (o : List ℕ) → CanCount (tally_of lists.old o) (steps_of all o) }
+    requires room { HaveRoom 0 all lists.old lifted.old.room }
+    requires settled { lifted.old.entries ≡ [] }
+    ensures { (o : List ℕ) → IsRecounted (tally_of lists.old o) (steps_of all o) (tally_of lists.new o) }
+{
+    for entry in all {
+        let (original, steps) = entry;
+        recount_list(lists, lifted, &original, steps.into_vec());
+    }
+}
+
+fn recount_list(lists: &mut Lists, lifted: &mut Tally, original: &Original, steps: Vec<Step>)
+    requires tally { IsTally (tally_of lists.old original.now) }
+    requires can { CanCount (tally_of lists.old original.now) steps.items }
+    requires room { HasRoom 0 (tree.get text_cmp lists.old original.now) lifted.old.room (length steps.items) }
+    requires settled { lifted.old.entries ≡ [] }
+    ensures recounted { IsRecounted (tally_of lists.old original.now) steps.items (tally_of lists.new original.now) }
+    ensures others { (o : List ℕ) → eq_by_cmp text_cmp original.now o ≡ false → tree.get text_cmp lists.new o ≡ tree.get text_cmp lists.old o }
+    ensures settled { lifted.new.entries ≡ [] }
+    ensures lifted_room { lifted.old.room ≤ lifted.new.room }
+{
+    if recount_in_place(lists, lifted, original, steps) {
+        lists.remove(original);
+    }
+}
+
+// Counts the steps, and tells whether nothing is left.
+fn recount_in_place(
+    lists: &mut Lists,
+    lifted: &mut Tally,
+    original: &Original,
+    steps: Vec<Step>,
+) -> bool
+    requires tally { IsTally (tally_of lists.old original.now) }
+    requires can { CanCount (tally_of lists.old original.now) steps.items }
+    requires room { HasRoom 0 (tree.get text_cmp lists.old original.now) lifted.old.room (length steps.items) }
+    requires settled { lifted.old.entries ≡ [] }
+    ensures recounted { IsRecounted (tally_of lists.old original.now) steps.items (tally_of lists.new original.now) }
+    ensures others { (o : List ℕ) → eq_by_cmp text_cmp original.now o ≡ false → tree.get text_cmp lists.new o ≡ tree.get text_cmp lists.old o }
+    ensures settled { lifted.new.entries ≡ [] }
+    ensures lifted_room { lifted.old.room ≤ lifted.new.room }
+    ensures empty { result ≡ true → tally_of lists.new original.now ≡ [] }
+{
+    match lists.get_mut(original) {
+        Some(list) => {
+            recount(list, lifted, steps);
+            list.len() == 0
+        }
+        None => false,
+    }
 }

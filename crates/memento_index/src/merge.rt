@@ -1,9 +1,9 @@
 //! What an index takes in.
 ghost use Rattle.std.specs.Prelude.{◌≡◌, IfOk};
-ghost use Rattle.harvest_lattice.specs.Lattice.{join};
 ghost use Rattle.harvest_lattice.specs.Knowledge.{lat};
+ghost use Rattle.harvest_lattice.specs.News.{IsNews};
 
-use harvest_lattice::{Harvest, State};
+use harvest_lattice::{Changes, Harvest, State};
 use memento_time::NoMemory;
 
 /// What an index takes in: a harvest, or all that another replica's state has.
@@ -32,20 +32,13 @@ impl Merge {
         }
     }
 
-    // The state in which this is merged with another.
-    pub(crate) fn merged(&self, state: &State) -> Result<State, NoMemory>
-        ensures { IfOk result (λ merged. merged ≡ join state.now (lat (adds_of self.now))) }
+    // What of this is news to a state.
+    pub(crate) fn changes(&self, state: &State) -> Result<Changes, NoMemory>
+        ensures { IfOk result (IsNews state.now (lat (adds_of self.now))) }
     {
-        let mut merged = state.try_clone()?;
         match self {
-            Merge::Harvest(harvest) => {
-                merged.merge(harvest)?;
-                Ok(merged)
-            }
-            Merge::State(other) => {
-                merged.join(other)?;
-                Ok(merged)
-            }
+            Merge::Harvest(harvest) => state.changes_by(harvest),
+            Merge::State(other) => state.changes(other),
         }
     }
 }

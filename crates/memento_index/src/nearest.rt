@@ -1,55 +1,90 @@
-// The memento of a list that a gate names.
-ghost use Rattle.std.specs.Prelude.{◌≡◌, option_copied};
-ghost use Rattle.memento_index.specs.Choice.{distance, nearness_cmp, recency_cmp, least_by};
+//! The memento that a gate names, by binary search.
+ghost use Rattle.std.specs.Prelude.{◌≡◌, ◌↔◌, ℕ, ◌+◌, ◌*◌, ◌^◌, ◌<◌, ◌≤◌, IsTrue, IfSome, length, slice_index, slice_get, option_copied};
+ghost use Rattle.std.specs.Option.{option_and_then};
+ghost use Rattle.std.specs.List.Sorted.{IsNonDecreasing, IsStrictlySortedBy};
+ghost use Rattle.memento_time.specs.Mementos.{memento_cmp};
+ghost use Rattle.harvest_lattice.specs.Sets as set;
+ghost use Rattle.memento_index.specs.Choice.{nearest};
+ghost use Rattle.memento_index.specs.Probes.{datetimes, gap};
 
+use crate::probed::Probed;
 use memento_time::{Memento, Moment};
-use std::cmp::Ordering;
 
-// The seconds between a memento and a moment.
-fn distance(memento: &Memento, moment: Moment) -> u64
-    ensures { result ≡ distance moment memento.now }
+// The first place below the end whose datetime isn't before the moment, or else the end.
+fn first_from(list: &mut Probed<'_>, end: usize, moment: Moment) -> usize
+    requires in_order { IsNonDecreasing (datetimes list.old.list) }
+    requires in_range { end ≤ length list.old.list }
+    requires few { list.old.probes ≤ 2000000000 }
+    ensures within { result ≤ end }
+    ensures before { (k : ℕ) → k < result → slice_index (datetimes list.old.list) k < moment }
+    ensures after { (k : ℕ) → result ≤ k → k < end → moment ≤ slice_index (datetimes list.old.list) k }
+    ensures same { list.new.list ≡ list.old.list }
+    ensures few { (digits : ℕ) → end < 2 ^ digits → list.new.probes ≤ list.old.probes + digits }
 {
-    memento.at.secs().abs_diff(moment.secs())
+    let mut low = 0;
+    let mut high = end;
+    while low < high {
+        let middle = low + (high - low) / 2;
+        if list.at(middle) < moment {
+            low = middle + 1;
+        } else {
+            high = middle;
+        }
+    }
+    low
 }
 
-fn by_nearness(moment: Moment, left: &Memento, right: &Memento) -> Ordering
-    ensures { result ≡ nearness_cmp moment left.now right.now }
+// Whether there is a memento at the place, nearer to the moment than one of this datetime.
+fn is_nearer_than(list: &mut Probed<'_>, place: usize, other: Moment, moment: Moment) -> bool
+    requires in_range { place ≤ length list.old.list }
+    requires few { list.old.probes ≤ 2000000000 }
+    ensures answer { IsTrue result
+        ↔ ((place < length list.old.list) × (gap moment (slice_index (datetimes list.old.list) place) < gap moment other)) }
+    ensures same { list.new.list ≡ list.old.list }
+    ensures few { list.new.probes ≤ list.old.probes + 1 }
 {
-    let distances = distance(left, moment).cmp(&distance(right, moment));
-    distances.then(left.cmp(right))
+    if place == list.len() {
+        return false;
+    }
+    let at = list.at(place);
+    at.secs().abs_diff(moment.secs()) < other.secs().abs_diff(moment.secs())
 }
 
-fn by_recency(left: &Memento, right: &Memento) -> Ordering
-    ensures { result ≡ recency_cmp left.now right.now }
+/// The place of the memento at the least distance in seconds; of two as far that of the earlier,
+/// and at one datetime that with the least URI. None where the list is empty.
+///
+/// Sees the list by its datetimes alone: at most twice as many as its length has binary digits,
+/// and 2.
+pub fn nearest_in(list: &mut Probed<'_>, moment: Moment) -> Option<usize>
+    requires in_order { IsStrictlySortedBy memento_cmp list.old.list }
+    requires few { list.old.probes ≤ 1000000000 }
+    ensures within { IfSome result (λ k. k < length list.old.list) }
+    ensures nearest { option_and_then (slice_get list.old.list) result ≡ nearest (set.from_list list.old.list) moment }
+    ensures same { list.new.list ≡ list.old.list }
+    ensures few { (digits : ℕ) → length list.old.list < 2 ^ digits → list.new.probes ≤ list.old.probes + (2 * digits + 2) }
 {
-    let moments = right.at.cmp(&left.at);
-    moments.then(left.uri.cmp(&right.uri))
+    let len = list.len();
+    if len == 0 {
+        return None;
+    }
+    let place = first_from(list, len, moment);
+    if place == 0 {
+        return Some(0);
+    }
+    let before = list.at(place - 1);
+    if is_nearer_than(list, place, before, moment) {
+        return Some(place);
+    }
+    Some(first_from(list, place - 1, before))
 }
 
-// The one nearest to the moment.
+// The memento at the least distance in seconds.
 pub fn nearest_of(list: &[Memento], moment: Moment) -> Option<&Memento>
-    ensures { option_copied result ≡ least_by (nearness_cmp moment) list.now }
+    requires { IsStrictlySortedBy memento_cmp list.now }
+    ensures { option_copied result ≡ nearest (set.from_list list.now) moment }
 {
-    let (first, rest) = list.split_first()?;
-    let mut nearest = first;
-    for memento in rest {
-        if by_nearness(moment, nearest, memento).is_gt() {
-            nearest = memento;
-        }
+    match nearest_in(&mut Probed::new(list), moment) {
+        Some(place) => Some(&list[place]),
+        None => None,
     }
-    Some(nearest)
-}
-
-// The one of the greatest datetime, there that with the least URI.
-pub fn last_of(list: &[Memento]) -> Option<&Memento>
-    ensures { option_copied result ≡ least_by recency_cmp list.now }
-{
-    let (first, rest) = list.split_first()?;
-    let mut last = first;
-    for memento in rest {
-        if by_recency(last, memento).is_gt() {
-            last = memento;
-        }
-    }
-    Some(last)
 }

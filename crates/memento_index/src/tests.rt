@@ -1,3 +1,6 @@
+ghost use Rattle.std.specs.Prelude.{◌<◌};
+
+use crate::plain::Plain;
 use crate::*;
 use harvest_lattice::{Harvest, State};
 use memento_time::{ArchiveName, Clean, Memento, Moment, Original};
@@ -195,6 +198,102 @@ fn a_refused_merge_changes_nothing(rt: HostRuntime) -> Result<(), Fail> {
             assert!(rt; index.state().len() == 1);
             assert!(rt; index.state().entry(archive("b1")?, &root).is_none());
         }
+    }
+    Ok(())
+}
+
+#[test]
+fn nearest_in_asks_few_datetimes(rt: HostRuntime) -> Result<(), Fail> {
+    let alloc = rt.alloc();
+    let root = Original::new(alloc, b"http://a.example/")?;
+    let index = indexed(alloc, &[("a1", 1, &[FIRST, SECOND, THIRD])])?;
+    let asked = Moment::from_secs(SECOND.0).ok_or("a second")?;
+    let mut probed = Probed::new(index.list(&root));
+    assert!(rt; nearest_in(&mut probed, asked) == Some(1));
+    assert!(rt; probed.probes() <= 6);
+    let middle = Moment::from_secs(946_771_200).ok_or("a second")?;
+    let mut probed = Probed::new(index.list(&root));
+    assert!(rt; nearest_in(&mut probed, middle) == Some(0));
+    assert!(rt; probed.len() == 3);
+    assert!(rt; probed.probes() <= 6);
+    let none = Index::new(alloc);
+    let mut probed = Probed::new(none.list(&root));
+    assert!(rt; nearest_in(&mut probed, asked).is_none());
+    assert!(rt; probed.probes() <= 2);
+    Ok(())
+}
+
+// Numbers that are the same in each run.
+#[derive(Drop)]
+struct Generator {
+    seed: u64,
+}
+
+impl Generator {
+    // One below a bound.
+    fn below(&mut self, bound: u64) -> u64
+        requires { 0 < bound }
+        ensures { result < bound }
+    {
+        self.seed = self
+            .seed
+            .wrapping_mul(6_364_136_223_846_793_005)
+            .wrapping_add(1_442_695_040_888_963_407);
+        (self.seed >> 33) % bound
+    }
+}
+
+const ARCHIVES: [&str; 3] = ["a1", "b1", "c1"];
+
+const ORIGINALS: [&[u8]; 2] = [b"http://a.example/", b"http://b.example/"];
+
+// What one of three archives had of one of two originals at a revision from 0 to 9: some of four mementos.
+fn some_harvest(alloc: Global, generator: &mut Generator) -> Result<Harvest, Fail> {
+    let name = ARCHIVES[generator.below(3) as usize];
+    let original = Original::new(alloc, ORIGINALS[generator.below(2) as usize])?;
+    let revision = generator.below(10);
+    let mut list = Vec::new(alloc);
+    for capture in [FIRST, SECOND, THIRD, (946_900_000, b'4')] {
+        if generator.below(2) == 0 {
+            list.push(memento(alloc, capture)?)?;
+        }
+    }
+    let harvest = Harvest::new(archive(name)?, &original, revision, list)?;
+    Ok(harvest)
+}
+
+// A harvest, or a state of two.
+fn some_merge(alloc: Global, generator: &mut Generator) -> Result<Merge, Fail> {
+    let harvest = some_harvest(alloc, generator)?;
+    if generator.below(3) > 0 {
+        return Ok(Merge::Harvest(harvest));
+    }
+    let mut state = State::new(alloc);
+    state.merge(&harvest)?;
+    state.merge(&some_harvest(alloc, generator)?)?;
+    Ok(Merge::State(state))
+}
+
+#[test]
+fn a_thousand_merges_make_the_lists_of_the_plain_index(rt: HostRuntime) -> Result<(), Fail> {
+    let alloc = rt.alloc();
+    let mut generator = Generator { seed: 7 };
+    // A new index now and then, since at the greatest revision little changes.
+    for _ in 0..40 {
+        let mut index = Index::new(alloc);
+        let mut plain = Plain::new(alloc);
+        for _ in 0..25 {
+            let merge = some_merge(alloc, &mut generator)?;
+            index.absorb(&merge)?;
+            plain.absorb(&merge)?;
+            for name in ORIGINALS {
+                let original = Original::new(alloc, name)?;
+                let list = plain.list(&original)?;
+                assert!(rt; index.list(&original) == list.as_slice());
+            }
+        }
+        assert!(rt; index.state().le(plain.state()));
+        assert!(rt; plain.state().le(index.state()));
     }
     Ok(())
 }

@@ -2,6 +2,7 @@
 use Rattle.std.proofs.Common.{◌≡◌, ℕ, zero, suc, List, [], ◌∷◌, ◌++◌, map, All, Some, Ok, Option, MatchOption, refl, sym, ap, ◌∙◌, subst, inl, append_assoc, append-nil}
 use Rattle.std.specs.Prelude.{slice_get, slice_set}
 use Rattle.std.proofs.lemmas.List.{set-set}
+use Rattle.std.proofs.lemmas.List.Elements.{All-head, All-tail}
 use Rattle.memento_index.specs.declared.merge.Merge.{Merge}
 use Rattle.memento_index.specs.declared.merge.Merge.TheVariants.{Harvest, State}
 use Rattle.memento_index.specs.Merges.{adds_of}
@@ -63,7 +64,7 @@ batch_runs base w i r (m ∷ ms) there fits =
     let mid = with_replica w i (taking r (adds_of m)) in
     let end : with_replica mid i (taking (taking r (adds_of m)) (harvests_of ms)) ≡ with_replica w i (taking r (adds_of m ++ harvests_of ms)) =
     put_twice w i (taking r (adds_of m)) _ ∙ ap (with_replica w i) (take_more r (adds_of m) (harvests_of ms)) in
-    (mid, takes base w i r m there fits.0, subst (Run base mid (map (event_of i) ms) (map answer_to ms)) end (batch_runs base mid i (taking r (adds_of m)) ms (put_there w i r _ there) fits.1))
+    (mid, takes base w i r m there (All-head IsReceivable m ms fits), subst (Run base mid (map (event_of i) ms) (map answer_to ms)) end (batch_runs base mid i (taking r (adds_of m)) ms (put_there w i r _ there) (All-tail IsReceivable m ms fits)))
 
 -- and takes what the published list has with it
 pub batch_taken : (list : List Batch) (batch : Batch) (r : Replica) → r.taken ≡ fold_of list → (taking r (harvests_of batch)).taken ≡ fold_of (list ++ batch ∷ [])

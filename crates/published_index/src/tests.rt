@@ -201,6 +201,23 @@ fn two_merges_are_shown_by_one_publish(rt: HostRuntime) -> Result<(), Fail> {
     Ok(())
 }
 
+/// Appends the merge and publishes it.
+fn publish_merge<R: Wait>(rt: &R, merger: &mut Merger, merge: &Merge) -> Option<Receipt>
+    ensures merger { merger.new.opening ≡ merger.old.opening }
+    ensures receipt { IfSome result (λ told. told.opening ≡ merger.old.opening) }
+{
+    let appended = merger.append(merge);
+    match merger.publish(rt) {
+        Ok(receipt) => {
+            if appended.is_err() {
+                return None;
+            }
+            Some(receipt)
+        }
+        Err(_) => None,
+    }
+}
+
 /// Learns the newer of two receipts first, and then the older.
 fn ask_after_both(gate: &mut Gate, newer: Receipt, older: Receipt, request: &Request) -> bool
     requires newer { newer.opening ≡ gate.old.opening }
@@ -218,16 +235,14 @@ fn an_older_receipt_that_is_learnt_later_takes_nothing_away(rt: HostRuntime) -> 
     let Ok((mut merger, mut gates)) = open(&rt, rt.alloc(), service(&rt)?, 1) else {
         return Err(Fail::from("not opened"));
     };
-    let first = merger.append(&one);
-    let older = merger.publish(&rt);
-    let second = merger.append(&two);
-    let newer = merger.publish(&rt);
+    let older = publish_merge(&rt, &mut merger, &one);
+    let newer = publish_merge(&rt, &mut merger, &two);
     let mut both = false;
-    if let (Some(mut gate), Ok(older), Ok(newer)) = (gates.pop(), older, newer) {
+    if let (Some(mut gate), Some(older), Some(newer)) = (gates.pop(), older, newer) {
         both = ask_after_both(&mut gate, newer, older, &asked);
     }
     merger.close(&rt);
-    assert!(rt; first.is_ok() && second.is_ok() && both);
+    assert!(rt; both);
     Ok(())
 }
 

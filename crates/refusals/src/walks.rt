@@ -15,7 +15,12 @@ pub(crate) struct Archive {
 /// An archive whose first page lists two further ones.
 pub(crate) fn archive(alloc: Global) -> Result<Archive> {
     let mut fetch = MemoryFetch::new(alloc);
-    add(&mut fetch, alloc, b"http://arc.example/i", b"</p1>;rel=timemap,</p2>;rel=timemap")?;
+    add(
+        &mut fetch,
+        alloc,
+        b"http://arc.example/i",
+        b"</p1>;rel=timemap,</p2>;rel=timemap",
+    )?;
     add(
         &mut fetch,
         alloc,

@@ -3,3 +3,4 @@ pub mod Sequences
 pub mod PartLemmas
 pub mod StateLemmas
 pub mod WritingLemmas
+pub mod EndLemmas

@@ -3,3 +3,4 @@ pub mod Faults
 pub mod Spelling
 pub mod Parts
 pub mod LineOrder
+pub mod Ends

@@ -1,7 +1,9 @@
 //! Reading a state from its text.
 ghost use Rattle.std.specs.Prelude.{◌≡◌, ◌≤◌, ◌↔◌, [], length, codes, IsTrue, map as map_list, IfOk, IfErr};
+ghost use Rattle.std.specs.Arc.{arc_value};
 ghost use Rattle.harvest_lattice.specs.Rows.{row_entry};
 ghost use Rattle.replica_exchange.specs.StateText.{state_text, IsState};
+ghost use Rattle.replica_exchange.specs.Ends.{IsEndOf};
 ghost use Rattle.replica_exchange.specs.Faults.{IsCause, longest_text};
 ghost use Rattle.replica_exchange.specs.Spelling.{Begins, Refuses, RefusesWhole};
 ghost use Rattle.replica_exchange.specs.Parts.{memento, head, entry, many, listing};
@@ -11,12 +13,17 @@ use crate::fields::{cut, read_number, read_original, read_uri, skip};
 use harvest_lattice::{Row, State};
 use memento_time::{ArchiveName, Memento, Moment, Original};
 use std::alloc::Global;
+use std::sync::Arc;
 
 /// The most bytes of a state's text.
 const MAX_LEN: usize = 268_435_456;
 
 /// A memento's line, and what follows.
-fn read_memento(alloc: Global, text: &[u8]) -> Result<(Memento, &[u8]), StateFault>
+fn read_memento<'a>(
+    buffer: &Arc<Vec<u8>>,
+    text: &'a [u8],
+) -> Result<(Memento, &'a [u8]), StateFault>
+    requires { IsEndOf text.now (arc_value buffer.now).items }
     ensures found { IfOk result (λ read. Begins memento text.now read.0 read.1.now) }
     ensures refused { IfErr result (λ fault. Refuses memento text.now fault) }
 {
@@ -24,16 +31,18 @@ fn read_memento(alloc: Global, text: &[u8]) -> Result<(Memento, &[u8]), StateFau
     let Some(at) = Moment::from_secs(second) else {
         return Err(StateFault::NotState);
     };
-    let (uri, rest) = read_uri(alloc, rest)?;
+    let (uri, rest) = read_uri(buffer, rest)?;
     Ok((Memento { at, uri }, rest))
 }
 
 /// The lines of so many mementos, and what follows. Nothing is reserved for lines that may not come.
-fn read_mementos(
+fn read_mementos<'a>(
     alloc: Global,
+    buffer: &Arc<Vec<u8>>,
     count: u64,
-    text: &[u8],
-) -> Result<(Vec<Memento>, &[u8]), StateFault>
+    text: &'a [u8],
+) -> Result<(Vec<Memento>, &'a [u8]), StateFault>
+    requires { IsEndOf text.now (arc_value buffer.now).items }
     ensures found { IfOk result (λ read.
         Begins (many count memento) text.now read.0.items read.1.now) }
     ensures refused { IfErr result (λ fault. Refuses (many count memento) text.now fault) }
@@ -41,7 +50,7 @@ fn read_mementos(
     let mut mementos = Vec::new(alloc);
     let mut rest = text;
     for _ in 0..count {
-        let (memento, after) = read_memento(alloc, rest)?;
+        let (memento, after) = read_memento(buffer, rest)?;
         mementos.push(memento)?;
         rest = after;
     }
@@ -57,7 +66,8 @@ struct Head {
     original: Original,
 }
 
-fn read_head(alloc: Global, text: &[u8]) -> Result<(Head, &[u8]), StateFault>
+fn read_head<'a>(buffer: &Arc<Vec<u8>>, text: &'a [u8]) -> Result<(Head, &'a [u8]), StateFault>
+    requires { IsEndOf text.now (arc_value buffer.now).items }
     ensures found { IfOk result (λ read. let h = read.0 in
         Begins head text.now ((h.archive, h.original), (h.revision, h.count)) read.1.now) }
     ensures refused { IfErr result (λ fault. Refuses head text.now fault) }
@@ -69,7 +79,7 @@ fn read_head(alloc: Global, text: &[u8]) -> Result<(Head, &[u8]), StateFault>
     };
     let (revision, rest) = read_number(rest, b' ')?;
     let (count, rest) = read_number(rest, b' ')?;
-    let (original, rest) = read_original(alloc, rest)?;
+    let (original, rest) = read_original(buffer, rest)?;
     let head = Head {
         archive,
         revision,
@@ -80,12 +90,17 @@ fn read_head(alloc: Global, text: &[u8]) -> Result<(Head, &[u8]), StateFault>
 }
 
 /// An entry's line and the lines of its mementos, and what follows.
-fn read_entry(alloc: Global, text: &[u8]) -> Result<(Row, &[u8]), StateFault>
+fn read_entry<'a>(
+    alloc: Global,
+    buffer: &Arc<Vec<u8>>,
+    text: &'a [u8],
+) -> Result<(Row, &'a [u8]), StateFault>
+    requires { IsEndOf text.now (arc_value buffer.now).items }
     ensures found { IfOk result (λ read. Begins entry text.now (row_entry read.0) read.1.now) }
     ensures refused { IfErr result (λ fault. Refuses entry text.now fault) }
 {
-    let (head, rest) = read_head(alloc, text)?;
-    let (mementos, rest) = read_mementos(alloc, head.count, rest)?;
+    let (head, rest) = read_head(buffer, text)?;
+    let (mementos, rest) = read_mementos(alloc, buffer, head.count, rest)?;
     let Some(row) = Row::new(head.archive, head.original, head.revision, mementos) else {
         return Err(StateFault::NotState);
     };
@@ -93,7 +108,13 @@ fn read_entry(alloc: Global, text: &[u8]) -> Result<(Row, &[u8]), StateFault>
 }
 
 /// So many entries, and what follows. Nothing is reserved for entries that may not come.
-fn read_entries(alloc: Global, count: u64, text: &[u8]) -> Result<(Vec<Row>, &[u8]), StateFault>
+fn read_entries<'a>(
+    alloc: Global,
+    buffer: &Arc<Vec<u8>>,
+    count: u64,
+    text: &'a [u8],
+) -> Result<(Vec<Row>, &'a [u8]), StateFault>
+    requires { IsEndOf text.now (arc_value buffer.now).items }
     ensures found { IfOk result (λ read.
         Begins (many count entry) text.now (map_list row_entry read.0.items) read.1.now) }
     ensures refused { IfErr result (λ fault. Refuses (many count entry) text.now fault) }
@@ -101,7 +122,7 @@ fn read_entries(alloc: Global, count: u64, text: &[u8]) -> Result<(Vec<Row>, &[u
     let mut rows = Vec::new(alloc);
     let mut rest = text;
     for _ in 0..count {
-        let (row, after) = read_entry(alloc, rest)?;
+        let (row, after) = read_entry(alloc, buffer, rest)?;
         rows.push(row)?;
         rest = after;
     }
@@ -115,21 +136,23 @@ fn is_end(text: &[u8]) -> bool
 }
 
 /// The entries from `entries N` to `end`, after which nothing comes.
-fn read_listing(alloc: Global, text: &[u8]) -> Result<Vec<Row>, StateFault>
+fn read_listing(alloc: Global, buffer: &Arc<Vec<u8>>, text: &[u8]) -> Result<Vec<Row>, StateFault>
+    requires { IsEndOf text.now (arc_value buffer.now).items }
     ensures found { IfOk result (λ rows.
         Begins listing text.now (map_list row_entry rows.items) []) }
     ensures refused { IfErr result (λ fault. RefusesWhole listing text.now fault) }
 {
     let rest = skip(text, b"entries ")?;
     let (count, rest) = read_number(rest, b'\n')?;
-    let (rows, rest) = read_entries(alloc, count, rest)?;
+    let (rows, rest) = read_entries(alloc, buffer, count, rest)?;
     if !is_end(rest) {
         return Err(StateFault::NotState);
     }
     Ok(rows)
 }
 
-/// The state whose text this is. Takes time linear in the text; N and COUNT reserve nothing.
+/// The state whose text this is. Takes time linear in the text; N and COUNT reserve nothing. The state's addresses and
+/// originals share one copy of the text.
 pub fn read_state(alloc: Global, text: &[u8]) -> Result<State, StateFault>
     ensures found { IfOk result (λ state. IsState state × (text.now ≡ state_text state)) }
     ensures within { IfOk result (λ _. length text.now ≤ longest_text) }
@@ -139,7 +162,9 @@ pub fn read_state(alloc: Global, text: &[u8]) -> Result<State, StateFault>
         return Err(StateFault::TooLong);
     }
     let entries = skip(text, b"memento-state 1\n")?;
-    let rows = read_listing(alloc, entries)?;
+    let copy = Vec::from_slice(alloc, text)?;
+    let buffer = Arc::new(alloc, copy)?;
+    let rows = read_listing(alloc, &buffer, entries)?;
     match State::of_rows(alloc, rows)? {
         Some(state) => Ok(state),
         None => Err(StateFault::NotState),

@@ -6,7 +6,7 @@ use Rattle.std.proofs.lemmas.List.Quantifiers.{position-Some}
 use Rattle.std.proofs.lemmas.List.Sums.{prefix_len_passes}
 use Rattle.std.proofs.Math.Seq.{split_at, take-append_seam, drop-append_seam}
 use Rattle.std.proofs.lemmas.List.{get_or-take, get_or_default, length-take-le, length-append, take-append-drop}
-use Rattle.replica_exchange.specs.Spelling.{Lacks}
+use Rattle.text_fields.specs.Parts.{Lacks}
 use Rattle.std.specs.Prelude.{◌↔◌}
 use Rattle.std.specs.Option.{SomeIff, option_map}
 use Rattle.std.specs.Char.{digit_value}
@@ -18,8 +18,8 @@ use Rattle.std.proofs.lemmas.Fmt.{decimal_injective}
 use Rattle.std.proofs.lemmas.Option.{same_Some}
 use Rattle.replica_world.specs.Fields.{◌>>=◌, cut_at, first_line, after_empty_lines, next_value, value_from, number_of, longest_line, line_of, longest_block, block_of, after_line_end}
 use Rattle.replica_world.specs.Layout.{Finds, IsNumber, IsCut, IsEnded, IsLine, IsBlock, IsBehindEmptyLines}
-use Rattle.replica_exchange.proofs.DecimalLemmas.{decimal_found, decimal_none, no_decimal}
-use Rattle.replica_exchange.proofs.SpellingLemmas.{cut_once, cut_none}
+use Rattle.text_fields.proofs.DecimalLemmas.{decimal_found, decimal_none, no_decimal}
+use Rattle.text_fields.proofs.PartLemmas.{one_split, no_split}
 
 -- ---- numbers
 
@@ -73,10 +73,10 @@ plain_is digits is = (grind (arith, common_steps), λ zero. grind (arith, common
 
 -- a number is found where its decimal stands
 number_on : (digits : List ℕ) (refused : Bool) → is_refused digits ≡ refused → Finds (if refused then None else value_from 0 digits) (IsNumber digits)
-number_on digits true is n = (λ found. absurd (let none : None ≡ Some n = found in cc), λ laid. absurd (no_decimal digits (refused_is digits is) n laid.0 laid.1))
+number_on digits true is n = (λ found. absurd (let none : None ≡ Some n = found in cc), λ laid. absurd (no_decimal digits (refused_is digits is) n laid))
 number_on digits false is n = on (value_from 0 digits) (value_is 0 digits (omega arith)) where
   on : (found : Option ℕ) → GoesOn 0 digits found → (found ≡ Some n) ↔ IsNumber digits n
-  on None none = (λ found. absurd (let same : None ≡ Some n = found in cc), λ laid. absurd (decimal_none digits None none n laid.0 laid.1))
+  on None none = (λ found. absurd (let same : None ≡ Some n = found in cc), λ laid. absurd (decimal_none digits None none n laid))
   on (Some m) some =
       let plain = plain_is digits is in
       let laid_m = decimal_found digits (Some m) plain.0 plain.1 some in (
@@ -121,12 +121,12 @@ cut_at_place byte text place is =
 pub cut_is : (byte : ℕ) (text : List ℕ) → Finds (cut_at byte text) (IsCut byte text)
 cut_is byte text parts = on (position (λ b. b == byte) text) refl where
   on : (found : Option ℕ) → position (λ b. b == byte) text ≡ found → (option_map (λ place. (take place text, drop (place + 1) text)) found ≡ Some parts) ↔ IsCut byte text parts
-  on None is = (λ found. absurd (let same : None ≡ Some parts = found in cc), λ laid. absurd (cut_none byte parts.0 parts.1 (subst (Lacks byte) laid.1 (cut_lacks byte text is))))
+  on None is = (λ found. absurd (let same : None ≡ Some parts = found in cc), λ laid. absurd (no_split byte parts.0 parts.1 (subst (Lacks byte) laid.1 (cut_lacks byte text is))))
   on (Some place) is =
       let laid_here = cut_at_place byte text place is in (
         λ found. subst (IsCut byte text) (same_Some _ _ found) laid_here,
         λ laid.
-            let once = cut_once byte (take place text) parts.0 (drop (place + 1) text) parts.1 laid_here.0 laid.0 (sym laid_here.1 ∙ laid.1) in
+            let once = one_split byte (take place text) parts.0 (drop (place + 1) text) parts.1 laid_here.0 laid.0 (sym laid_here.1 ∙ laid.1) in
             ap (λ (p : List ℕ × List ℕ). Some p) (λ i. (once.0 i, once.1 i)),
       )
 
@@ -147,9 +147,9 @@ first_is text = on (cut_at 10 text) refl where
 
 -- a text has one first line
 first_once : (text : List ℕ) (parts other : List ℕ × List ℕ) → Lacks 10 parts.0 → Lacks 10 other.0 → IsEnded text parts → IsEnded text other → parts ≡ other
-first_once text parts other p q (inl x) (inl y) = let once = cut_once 10 parts.0 other.0 parts.1 other.1 p q (sym x ∙ y) in λ i. (once.0 i, once.1 i)
-first_once text parts other p q (inl x) (inr y) = absurd (cut_none 10 parts.0 parts.1 (subst (Lacks 10) (sym y.0 ∙ x) q))
-first_once text parts other p q (inr x) (inl y) = absurd (cut_none 10 other.0 other.1 (subst (Lacks 10) (sym x.0 ∙ y) p))
+first_once text parts other p q (inl x) (inl y) = let once = one_split 10 parts.0 other.0 parts.1 other.1 p q (sym x ∙ y) in λ i. (once.0 i, once.1 i)
+first_once text parts other p q (inl x) (inr y) = absurd (no_split 10 parts.0 parts.1 (subst (Lacks 10) (sym y.0 ∙ x) q))
+first_once text parts other p q (inr x) (inl y) = absurd (no_split 10 other.0 other.1 (subst (Lacks 10) (sym x.0 ∙ y) p))
 first_once text parts other p q (inr x) (inr y) = λ i. ((sym x.0 ∙ y.0) i, (x.1 ∙ sym y.1) i)
 
 -- a line is found where it is laid out

@@ -1,7 +1,7 @@
 -- How a script's parts are laid out: a field before a space, a line before LF, the digits of a number, a block.
 use Rattle.std.specs.Prelude.{◌≡◌, ◌≢◌, ℕ, ◌<◌, ◌≤◌, ◌^◌, ◌⊎◌, ◌↔◌, List, [], ◌∷◌, ◌++◌, length, replicate, Option, None, Some}
 use Rattle.std.specs.Fmt.{decimal}
-use Rattle.replica_exchange.specs.Spelling.{Lacks}
+use Rattle.text_fields.specs.Parts.{Lacks}
 use Rattle.replica_world.specs.Fields.{after_empty_lines}
 use Rattle.replica_world.specs.Script.{Command, command_at}
 

@@ -2,6 +2,7 @@ mod Escapes
 pub mod Cleans
 mod Starts
 pub mod Found
+pub mod OriginalsKept
 mod Trims
 pub mod Datetimes
 pub mod FirstLemmas

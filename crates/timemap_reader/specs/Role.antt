@@ -1,21 +1,15 @@
 -- What a link is on a page of a TimeMap (RFC 7089, sections 2.2 and 5): whether it names a memento or a further TimeMap, and which.
-use Rattle.std.specs.Prelude.{ℕ, Bool, true, ◌==◌, ◌&&◌, ◌||◌, not, List, reverse, [], ◌∷◌, codes, Option, Some, None, option_map, if◌then◌else◌}
+use Rattle.std.specs.Prelude.{ℕ, Bool, true, ◌==◌, ◌&&◌, not, List, reverse, [], ◌∷◌, codes, Option, Some, None, option_map, if◌then◌else◌}
 use Rattle.std.specs.List.{slice_split, list_any, before_first}
 use Rattle.std.specs.Option.{option_and_then}
 use Rattle.url.specs.Parts.{Parts}
+use Rattle.memento_time.specs.Blanks.{trim_blanks}
 use Rattle.memento_time.specs.SecondOf.{second_of}
 use Rattle.memento_time.specs.declared.mementos.Memento.{Memento}
-use Rattle.link_format.specs.Bytes as links
+use Rattle.link_format.specs.Bytes.{is_blank}
 use Rattle.link_format.specs.Grammar.{Link}
 use Rattle.link_format.specs.Values.{first_value, value_or_empty}
-use Rattle.timemap_reader.specs.declared.role.Blanks.{Blanks}
-use Rattle.timemap_reader.specs.declared.role.Blanks.TheVariants.{OfDates, OfLinks}
 use Rattle.timemap_reader.specs.Address.{same_word, memento_address, further_address}
-
--- which bytes are blank: round a datetime SP and HTAB, in and round the other values CR and LF too
-abbrev pub is_blank : Blanks → ℕ → Bool
-is_blank OfDates b = b == 32 || b == 9
-is_blank OfLinks b = links.is_blank b
 
 -- the value of a link's first `rel`, or an empty one
 abbrev pub rel_of : Link → List ℕ
@@ -23,29 +17,29 @@ rel_of link = value_or_empty (first_value (codes "rel") link.params)
 
 -- The relation type is one of the words of a `rel` (RFC 6690, section 2), without regard to ASCII case.
 abbrev pub lists : List ℕ → List ℕ → Bool
-lists name rel = list_any (λ word. same_word word name) (slice_split (is_blank OfLinks) rel)
+lists name rel = list_any (λ word. same_word word name) (slice_split is_blank rel)
 
 -- the link has the relation type
 abbrev pub has_relation : List ℕ → Link → Bool
 has_relation name link = lists name (rel_of link)
 
--- the text without the blanks at its start
-unfoldable pub trim_start : Blanks → List ℕ → List ℕ
-trim_start blanks [] = []
-trim_start blanks (b ∷ text) = if is_blank blanks b then trim_start blanks text else b ∷ text
+-- the text without the blanks of link-format at its start
+unfoldable pub trim_start : List ℕ → List ℕ
+trim_start [] = []
+trim_start (b ∷ text) = if is_blank b then trim_start text else b ∷ text
 
--- a text without the blanks at its end
-abbrev pub trim_end : Blanks → List ℕ → List ℕ
-trim_end blanks text = reverse (trim_start blanks (reverse text))
+-- a text without those at its end
+abbrev pub trim_end : List ℕ → List ℕ
+trim_end text = reverse (trim_start (reverse text))
 
 -- without those at both ends
-abbrev pub trim : Blanks → List ℕ → List ℕ
-trim blanks text = trim_end blanks (trim_start blanks text)
+abbrev pub trim : List ℕ → List ℕ
+trim text = trim_end (trim_start text)
 
 -- no media type, or that of link-format, up to its first `;` and without blanks round it (RFC 6690, section 7.3)
 abbrev pub is_link_format : Option (List ℕ) → Bool
 is_link_format None = true
-is_link_format (Some value) = same_word (trim OfLinks (before_first (λ b. b == 59) value)) (codes "application/link-format")
+is_link_format (Some value) = same_word (trim (before_first (λ b. b == 59) value)) (codes "application/link-format")
 
 -- the link has the relation type `memento`
 abbrev pub is_memento_link : Link → Bool
@@ -59,7 +53,7 @@ is_further_link link =
 
 -- the second that the first `datetime` names, without the spaces and tabs round it (RFC 7089, section 2.2.4)
 abbrev pub datetime_of : Link → Option ℕ
-datetime_of link = option_and_then (λ value. second_of (trim OfDates value)) (first_value (codes "datetime") link.params)
+datetime_of link = option_and_then (λ value. second_of (trim_blanks value)) (first_value (codes "datetime") link.params)
 
 -- the memento that a memento link names, if its datetime and its address can be read
 abbrev pub memento_of : Parts → Link → Option Memento

@@ -77,6 +77,8 @@ fn clean_original(alloc: Global, written: &[u8]) -> Result<Original, OriginalFau
 /// of more than 4,096 bytes.
 pub fn read_original(alloc: Global, text: &str) -> Result<Original, OriginalFault>
     ensures read { IfOk result (λ original. original_reading text.now ≡ Ok original) }
+    // An original reads as itself.
+    ensures kept { IfOk result (λ original. original_reading original ≡ Ok original) }
     ensures too_long { 4096 < length text.now → result ≡ Err OriginalFault.TooLong }
     // Want of memory may come at any later place.
     ensures refused { IfErr result (λ fault.

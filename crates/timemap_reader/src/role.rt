@@ -1,44 +1,32 @@
 //! What a link of a page is, by its relation types.
 ghost use Rattle.std.specs.Prelude.{◌≡◌, Some, IfOk, OnOk, is_some, codes};
 ghost use Rattle.std.specs.Cow.{cow_slice_items};
+ghost use Rattle.link_format.specs.Bytes.{is_blank};
 ghost use Rattle.link_format.specs.Values.{first_value};
 ghost use Rattle.timemap_reader.specs.Found.{with_found};
 ghost use Rattle.timemap_reader.specs.Role as spec;
 
 use crate::address::{before_byte, further_address, is_same_word, push_memento_at};
 use link_format::LinkRef;
-use memento_time::{Clean, MementosBuilder, Moment};
+use memento_time::{Clean, MementosBuilder, Moment, trim_blanks};
 use std::alloc::{AllocError, Global};
 use std::borrow::CowSlice;
 use url::Url;
 
-/// Which bytes are blank.
-#[derive(Clone, Copy)]
-enum Blanks {
-    /// Those round a datetime.
-    OfDates,
-    /// Those between relation types and round a media type.
-    OfLinks,
-}
-
-impl Blanks {
-    fn has(self, byte: u8) -> bool
-        ensures { result ≡ spec.is_blank self byte }
-    {
-        match self {
-            Blanks::OfDates => matches!(byte, b' ' | b'\t'),
-            Blanks::OfLinks => matches!(byte, b' ' | b'\t' | b'\r' | b'\n'),
-        }
-    }
+/// Whether the byte is a blank of link-format, which parts relation types and may stand round a media type.
+fn is_blank(byte: u8) -> bool
+    ensures { result ≡ is_blank byte }
+{
+    matches!(byte, b' ' | b'\t' | b'\r' | b'\n')
 }
 
 /// The text without the blanks at its start.
-fn trim_start(blanks: Blanks, text: &[u8]) -> &[u8]
-    ensures { result.now ≡ spec.trim_start blanks text.now }
+fn trim_start(text: &[u8]) -> &[u8]
+    ensures { result.now ≡ spec.trim_start text.now }
 {
     let mut rest = text;
     while let [first, after @ ..] = rest {
-        if !blanks.has(*first) {
+        if !is_blank(*first) {
             return rest;
         }
         rest = after;
@@ -47,12 +35,12 @@ fn trim_start(blanks: Blanks, text: &[u8]) -> &[u8]
 }
 
 /// The text without the blanks at its end.
-fn trim_end(blanks: Blanks, text: &[u8]) -> &[u8]
-    ensures { result.now ≡ spec.trim_end blanks text.now }
+fn trim_end(text: &[u8]) -> &[u8]
+    ensures { result.now ≡ spec.trim_end text.now }
 {
     let mut rest = text;
     while let [before @ .., last] = rest {
-        if !blanks.has(*last) {
+        if !is_blank(*last) {
             return rest;
         }
         rest = before;
@@ -60,17 +48,17 @@ fn trim_end(blanks: Blanks, text: &[u8]) -> &[u8]
     rest
 }
 
-fn trim(blanks: Blanks, text: &[u8]) -> &[u8]
-    ensures { result.now ≡ spec.trim blanks text.now }
+fn trim(text: &[u8]) -> &[u8]
+    ensures { result.now ≡ spec.trim text.now }
 {
-    trim_end(blanks, trim_start(blanks, text))
+    trim_end(trim_start(text))
 }
 
 /// Whether the relation type is one of those that the value of `rel` lists.
 fn lists(rel: &[u8], name: &[u8]) -> bool
     ensures { result ≡ spec.lists name.now rel.now }
 {
-    rel.split(|byte| Blanks::OfLinks.has(*byte))
+    rel.split(|byte| is_blank(*byte))
         .any(|word| is_same_word(word, name))
 }
 
@@ -78,7 +66,7 @@ fn is_link_format(media_type: &[u8]) -> bool
     ensures { result ≡ spec.is_link_format (Some media_type.now) }
 {
     is_same_word(
-        trim(Blanks::OfLinks, before_byte(media_type, b';')),
+        trim(before_byte(media_type, b';')),
         b"application/link-format",
     )
 }
@@ -121,7 +109,7 @@ fn datetime(link: &LinkRef<'_>) -> Result<Option<Moment>, AllocError>
     ensures { IfOk result (λ at. at ≡ spec.datetime_of link.now) }
 {
     match link.value_ref(b"datetime")? {
-        Some(text) => Ok(Moment::read_imf(trim(Blanks::OfDates, &text))),
+        Some(text) => Ok(Moment::read_imf(trim_blanks(&text))),
         None => Ok(None),
     }
 }

@@ -21,7 +21,7 @@ pub returns : goal.returns
 returns c =
     let o = c.args.original.now in
     let shelves = c.args.shelves.now in
-    in_order_is c.loop-shelf.all.items c.in_ok-list.list.items (shown_of (entries_of shelves) o)
+    in_order_is c.loop-shelf.all.items c.in_order.result.items (shown_of (entries_of shelves) o)
     (λ m. shown_whole (shelf_shows o m) c.loop-shelf.all.items c.loop-shelf.shelf-iterator c.into_iter-shelf-iterator.result m c.in-None.ensures.steps.0 (c.loop-shelf.invariant m)
     ∙ (ap (list_any (shelf_shows o m)) c.into_iter-shelf-iterator.ensures.into_iter_gives.0 ∙ sym (shown_any shelves.entries c.requires o m)))
-    c.in_ok-list.ensures.sorted c.in_ok-list.ensures.members
+    c.in_order.ensures.sorted c.in_order.ensures.members

@@ -5,16 +5,16 @@ use Rattle.timegate.proofs.Replies.{same_harvests}
 use Rattle.published_index.proofs.Agreeing.{same_reply}
 use Rattle.published_index.proofs.pairs.ask_both.Goals as goal
 
-pub returns-in_ok-clause-same_state : goal.returns-in_ok-clause-same_state
-returns-in_ok-clause-same_state c same =
+pub returns-clause-same_state : goal.returns-clause-same_state
+returns-clause-same_state c same =
     let front = c.answer.new.self.pass.front in
     let other = c.answer-2.new.self.pass.front in
     let q = c.args.request.now in
     c.in_ok-one.ensures.reply ∙ (same_reply c.args.first.now.base front other q same
     ∙ sym (c.in_ok-other.ensures.reply ∙ ap (λ (base : List ℕ). reply base (fold_of other) q) c.requires))
 
-pub returns-in_ok-clause-same_harvests : goal.returns-in_ok-clause-same_harvests
-returns-in_ok-clause-same_harvests c same =
+pub returns-clause-same_harvests : goal.returns-clause-same_harvests
+returns-clause-same_harvests c same =
     let front = c.answer.new.self.pass.front in
     let other = c.answer-2.new.self.pass.front in
     let q = c.args.request.now in

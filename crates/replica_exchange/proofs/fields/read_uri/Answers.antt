@@ -10,3 +10,6 @@ returns-in_err-uri-clause-refused c =
     let line = c.in_ok-line.ensures in
     let not_clean = c.in_err-uri.ensures.not_clean.0 in
     rw (out.1, out.2) (clean_refused IsClean 10 clean_lacks _ _ _ line.found line.first c.in_err-uri.field-0.0 (λ is. not_clean (ap Err is)))
+
+pub shared_uri-requires-clause-line : goal.shared_uri-requires-clause-line
+shared_uri-requires-clause-line c = (_, c.in_ok-line.ensures.found)

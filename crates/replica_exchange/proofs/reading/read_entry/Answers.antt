@@ -1,6 +1,7 @@
 use Rattle.replica_exchange.specs.Parts.{head, memento, entry, many}
 use Rattle.replica_exchange.proofs.Sequences.{passed_on, refused_with}
 use Rattle.replica_exchange.proofs.PartLemmas.{entry_leaves_head, entry_leaves_mementos, entry_unordered, entry_found}
+use Rattle.replica_exchange.proofs.EndLemmas.{end_after}
 use Rattle.replica_exchange.proofs.reading.read_entry.Goals as goal
 
 pub returns-in_err-head-clause-refused : goal.returns-in_err-head-clause-refused
@@ -20,3 +21,6 @@ returns-clause-found c = entry_found c.args.text.now _ _ c.in_ok-head.ensures.fo
 
 pub returns-in_default-clause-refused : goal.returns-in_default-clause-refused
 returns-in_default-clause-refused c = entry_unordered c.args.text.now _ _ c.in_ok-head.ensures.found _ _ c.in_ok-mementos.ensures.found c.in_default.ensures
+
+pub read_mementos-requires : goal.read_mementos-requires
+read_mementos-requires c = end_after head _ _ _ _ c.requires c.in_ok-head.ensures.found

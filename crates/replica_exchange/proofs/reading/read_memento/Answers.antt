@@ -3,6 +3,7 @@ use Rattle.replica_exchange.specs.Spelling.{field, number}
 use Rattle.replica_exchange.specs.Parts.{memento}
 use Rattle.replica_exchange.proofs.Sequences.{passed_on, refused_with}
 use Rattle.replica_exchange.proofs.PartLemmas.{memento_leaves_second, memento_leaves_uri, memento_too_late}
+use Rattle.replica_exchange.proofs.EndLemmas.{end_after}
 use Rattle.replica_exchange.proofs.reading.read_memento.Goals as goal
 
 pub returns-in_err-second-clause-refused : goal.returns-in_err-second-clause-refused
@@ -19,3 +20,6 @@ returns-in_err-uri-clause-refused c =
     let text = c.args.text.now in
     passed_on memento text c.from_residual-in_err-uri.result c.in_err-uri.field-0.0 c.from_residual-in_err-uri.ensures.1
     (refused_with (field IsClean 10) memento text c.in_ok-second.rest.now (memento_leaves_uri text _ _ c.in_ok-second.ensures.found) c.in_err-uri.field-0.0 c.in_err-uri.ensures.refused)
+
+pub read_uri-requires : goal.read_uri-requires
+read_uri-requires c = end_after (number 32) _ _ _ _ c.requires c.in_ok-second.ensures.found

@@ -1,12 +1,24 @@
-use Rattle.std.proofs.Common.{List, ap, ◌∙◌}
+use Rattle.std.proofs.Common.{◌≡◌, List, sym, ap, subst, ◌∙◌}
+use Rattle.std.specs.List.Sorted.{IsStrictlySortedBy}
+use Rattle.memento_time.specs.Mementos.{memento_cmp}
 use Rattle.memento_time.specs.declared.mementos.Memento.{Memento}
-use Rattle.memento_index.specs.Choice.{nearness_cmp, least_by, nearest}
+use Rattle.harvest_lattice.specs.Sets as set
+use Rattle.harvest_lattice.specs.Lattice.{Mementos}
+use Rattle.harvest_lattice.specs.Knowledge.{shown, shown_of}
+use Rattle.harvest_lattice.proofs.Sets.{items_sorted}
+use Rattle.memento_index.specs.Choice.{nearest}
+use Rattle.memento_index.proofs.ListLemmas.{from_items}
 use Rattle.memento_index.proofs.index.Index.nearest.Goals as goal
 
+pub nearest_of-requires : goal.nearest_of-requires
+nearest_of-requires c = subst (λ (ms : List Memento). IsStrictlySortedBy memento_cmp ms) (sym c.list.ensures.list) (items_sorted memento_cmp (shown_of c.args.self.now c.args.original.now))
+
 pub returns-clause-nearest : goal.returns-clause-nearest
-unfolding nearest
-returns-clause-nearest c = c.nearest_of.ensures ∙ ap (λ (ms : List Memento). least_by (nearness_cmp c.args.moment) ms) c.list.ensures.list
+returns-clause-nearest c =
+    let s = shown_of c.args.self.now c.args.original.now in
+    c.nearest_of.ensures ∙ (ap (λ (ms : List Memento). nearest (set.from_list ms) c.args.moment) c.list.ensures.list ∙ ap (λ (t : Mementos). nearest t c.args.moment) (from_items s))
 
 pub returns-clause-stands : goal.returns-clause-stands
-unfolding nearest
-returns-clause-stands c hs is = c.nearest_of.ensures ∙ ap (λ (ms : List Memento). least_by (nearness_cmp c.args.moment) ms) (c.list.ensures.stands hs is)
+returns-clause-stands c hs is =
+    let s = shown hs c.args.original.now in
+    c.nearest_of.ensures ∙ (ap (λ (ms : List Memento). nearest (set.from_list ms) c.args.moment) (c.list.ensures.stands hs is) ∙ ap (λ (t : Mementos). nearest t c.args.moment) (from_items s))

@@ -1,0 +1,21 @@
+use Rattle.std.proofs.Common.{◌≡◌, ℕ, ◌+◌, ◌<◌, ◌≤◌, [], ◌∷◌, ◌++◌, List, length, min, sym, ap, subst, ◌∙◌, arith}
+use Rattle.std.proofs.lemmas.Grind.{common_steps}
+use Rattle.std.specs.Vec.{vec_len, vec_capacity}
+use Rattle.memento_time.specs.declared.mementos.Memento.{Memento}
+use Rattle.memento_index.specs.Counts.{mementos_of}
+use Rattle.memento_index.specs.Tallies.{Tallied, beside}
+use Rattle.memento_index.specs.declared.counted.Counted.{Counted}
+use Rattle.memento_index.proofs.Columns.{beside-append, mementos-beside, length-beside}
+use Rattle.memento_index.proofs.tally.Tally.reserve.Goals as goal
+
+pub returns-clause-made : goal.returns-clause-made
+returns-clause-made c =
+    let ms = c.reserve.new.self in
+    let ns = c.reserve-2.new.self in
+    let first = c.in_ok-reserve.ensures.len in
+    let second = c.in_ok-reserve-2.ensures.len in
+    let alike = c.self.invariant in
+    let same : length ms.items ≡ length ns.items = omega (arith, ms.ok.0, ns.ok.0, first, second, alike) in
+    let long = length-beside ms.items ns.items same in
+    let is = c.in-Some.ensures.1 in
+    (omega (arith, is, c.len.ensures, long, ms.ok.0), omega (arith, is, c.len.ensures, c.in_ok-reserve.ensures.ok, c.in_ok-reserve-2.ensures.ok, first, second, alike))

@@ -1,0 +1,30 @@
+-- How many archives show a memento.
+use Rattle.std.specs.Prelude.{ℕ, ◌+◌, cond, List, [], ◌∷◌, Option, Some, None}
+use Rattle.std.specs.Ordering.{eq_by_cmp}
+use Rattle.std.specs.FinMap as fmap
+use Rattle.memento_time.specs.Mementos.{text_cmp}
+use Rattle.memento_time.specs.declared.mementos.Memento.{Memento}
+use Rattle.harvest_lattice.specs.Sets as set
+use Rattle.harvest_lattice.specs.Lattice.{Key, Kept, Entries, joined_kept}
+
+-- 1 where an entry is there and shows the memento
+abbrev pub shows_one : Option Kept → Memento → ℕ
+shows_one None m = 0
+shows_one (Some kept) m = cond (set.contains kept.mementos m) 1 0
+
+-- how many of these entries are of the original and, by what is taken for each, show the memento
+abbrev pub showing_by : (Key × Kept → Option Kept) → List (Key × Kept) → List ℕ → Memento → ℕ
+showing_by kept [] o m = 0
+showing_by kept (e ∷ es) o m = cond (eq_by_cmp text_cmp o e.0.1) (shows_one (kept e) m) 0 + showing_by kept es o m
+
+-- how many archives show the memento of an original
+abbrev pub showing : Entries → List ℕ → Memento → ℕ
+showing x o m = showing_by (λ e. Some e.1) (fmap.entries x) o m
+
+-- how many of these entries' archives showed it before the entries came
+abbrev pub shown_before : Entries → List (Key × Kept) → List ℕ → Memento → ℕ
+shown_before x es o m = showing_by (λ e. fmap.get x e.0) es o m
+
+-- and how many show it when the entries are joined
+abbrev pub shown_after : Entries → List (Key × Kept) → List ℕ → Memento → ℕ
+shown_after x es o m = showing_by (λ e. Some (joined_kept x e)) es o m

@@ -1,0 +1,144 @@
+// Changes of the numbers of archives that show mementos.
+//
+// A change of counts works at one place of a list: what stands from there on is lifted to a second list, the next one
+// last. So a walk over changes in the order of their mementos moves each memento behind the first of them twice, and
+// none before it. Nothing here takes memory: the caller has made room.
+ghost use Rattle.std.specs.Prelude.{◌≡◌, ◌+◌, ◌<◌, ◌≤◌, [], ◌++◌, Some, IfSome, option_to_list, reverse, vec_len, length};
+ghost use Rattle.memento_time.specs.declared.mementos.Memento.{Memento as AMemento};
+ghost use Rattle.memento_index.specs.Counts.{whole, once, count_of, AreBelow, AreAbove, IsTally, begun, ceased, IsRecounted};
+
+use crate::counted::{Counted, Step};
+use crate::tally::Tally;
+use memento_time::Memento;
+use std::cmp::Ordering;
+
+// Lifts what isn't below a memento.
+fn lift(list: &mut Tally, lifted: &mut Tally, memento: &Memento)
+    requires tally { IsTally (whole list.old.entries lifted.old.entries) }
+    requires room { length list.old.entries + length lifted.old.entries ≤ lifted.old.room }
+    ensures whole { whole list.new.entries lifted.new.entries ≡ whole list.old.entries lifted.old.entries }
+    ensures below { AreBelow memento.now list.new.entries }
+    ensures len { length list.new.entries + length lifted.new.entries ≡ length list.old.entries + length lifted.old.entries }
+    ensures list_room { list.old.room ≤ list.new.room }
+    ensures lifted_room { lifted.old.room ≤ lifted.new.room }
+{
+    while let Some(counted) = list.pop() {
+        if counted.memento.cmp(memento).is_lt() {
+            list.push(counted);
+            return;
+        }
+        lifted.push(counted);
+    }
+}
+
+// Puts back what is below a memento, and takes the memento itself out, if it is there.
+fn take_out(list: &mut Tally, lifted: &mut Tally, memento: &Memento) -> Option<Counted>
+    requires tally { IsTally (whole list.old.entries lifted.old.entries) }
+    requires below { AreBelow memento.now list.old.entries }
+    requires room { length list.old.entries + length lifted.old.entries ≤ list.old.room }
+    ensures parts { list.new.entries ++ (option_to_list result ++ reverse lifted.new.entries) ≡ whole list.old.entries lifted.old.entries }
+    ensures below { AreBelow memento.now list.new.entries }
+    ensures above { AreAbove memento.now (reverse lifted.new.entries) }
+    ensures found { IfSome result (λ counted. counted.memento ≡ memento.now) }
+    ensures len { length list.new.entries + (length (option_to_list result) + length lifted.new.entries) ≡ length list.old.entries + length lifted.old.entries }
+    ensures list_room { list.old.room ≤ list.new.room }
+    ensures lifted_room { lifted.old.room ≤ lifted.new.room }
+{
+    while let Some(counted) = lifted.pop() {
+        match counted.memento.cmp(memento) {
+            Ordering::Less => list.push(counted),
+            Ordering::Equal => return Some(counted),
+            Ordering::Greater => {
+                lifted.push(counted);
+                return None;
+            }
+        }
+    }
+    None
+}
+
+// Counts one archive more that shows a memento.
+pub fn count_in(list: &mut Tally, lifted: &mut Tally, memento: Memento)
+    requires tally { IsTally (whole list.old.entries lifted.old.entries) }
+    requires list_room { length list.old.entries + length lifted.old.entries < list.old.room }
+    requires lifted_room { length list.old.entries + length lifted.old.entries ≤ lifted.old.room }
+    requires few { count_of (whole list.old.entries lifted.old.entries) memento < 18446744073709551615 }
+    ensures tally { IsTally (whole list.new.entries lifted.new.entries) }
+    ensures counts { (m : AMemento)
+        → count_of (whole list.new.entries lifted.new.entries) m ≡ count_of (whole list.old.entries lifted.old.entries) m + once m memento }
+    ensures len { length list.new.entries + length lifted.new.entries ≤ length list.old.entries + length lifted.old.entries + 1 }
+    ensures list_room { list.old.room ≤ list.new.room }
+    ensures lifted_room { lifted.old.room ≤ lifted.new.room }
+{
+    lift(list, lifted, &memento);
+    let count = match take_out(list, lifted, &memento) {
+        Some(counted) => counted.count + 1,
+        None => 1,
+    };
+    list.push(Counted { memento, count });
+}
+
+// Counts one archive less that shows a memento, and drops the memento with the last.
+pub fn count_out(list: &mut Tally, lifted: &mut Tally, memento: &Memento)
+    requires tally { IsTally (whole list.old.entries lifted.old.entries) }
+    requires list_room { length list.old.entries + length lifted.old.entries ≤ list.old.room }
+    requires lifted_room { length list.old.entries + length lifted.old.entries ≤ lifted.old.room }
+    requires counted { 0 < count_of (whole list.old.entries lifted.old.entries) memento.now }
+    ensures tally { IsTally (whole list.new.entries lifted.new.entries) }
+    ensures counts { (m : AMemento)
+        → count_of (whole list.new.entries lifted.new.entries) m + once m memento.now ≡ count_of (whole list.old.entries lifted.old.entries) m }
+    ensures len { length list.new.entries + length lifted.new.entries ≤ length list.old.entries + length lifted.old.entries }
+    ensures list_room { list.old.room ≤ list.new.room }
+    ensures lifted_room { lifted.old.room ≤ lifted.new.room }
+{
+    lift(list, lifted, memento);
+    match take_out(list, lifted, memento) {
+        Some(counted) => {
+            if counted.count > 1 {
+                let fewer = Counted {
+                    memento: counted.memento,
+                    count: counted.count - 1,
+                };
+                list.push(fewer);
+            }
+        }
+        None => {}
+    }
+}
+
+// Puts back all that was lifted.
+pub fn settle(list: &mut Tally, lifted: &mut Tally)
+    requires room { length list.old.entries + length lifted.old.entries ≤ list.old.room }
+    ensures list { list.new.entries ≡ whole list.old.entries lifted.old.entries }
+    ensures lifted { lifted.new.entries ≡ [] }
+    ensures lifted_room { lifted.old.room ≤ lifted.new.room }
+{
+    while let Some(counted) = lifted.pop() {
+        list.push(counted);
+    }
+}
+
+// Counts what archives begin and cease to show.
+//
+// It moves each memento of the list that isn't below the first of the steps' twice, and touches none below it.
+pub fn recount(list: &mut Tally, lifted: &mut Tally, mut steps: Vec<Step>)
+    requires tally { IsTally list.old.entries }
+    requires settled { lifted.old.entries ≡ [] }
+    requires list_room { length list.old.entries + vec_len steps ≤ list.old.room }
+    requires lifted_room { length list.old.entries + vec_len steps ≤ lifted.old.room }
+    requires shown { (m : AMemento) → ceased steps.items m ≤ count_of list.old.entries m }
+    requires few { (m : AMemento) → count_of list.old.entries m + begun steps.items m ≤ 18446744073709551615 }
+    ensures recounted { IsRecounted list.old.entries steps.items list.new.entries }
+    ensures lifted_room { lifted.old.room ≤ lifted.new.room }
+    ensures settled { lifted.new.entries ≡ [] }
+{
+    steps.sort_unstable();
+    while let Some(step) = steps.pop() {
+        if step.begins {
+            count_in(list, lifted, step.memento);
+        } else {
+            count_out(list, lifted, &step.memento);
+        }
+    }
+    settle(list, lifted);
+}

@@ -1,0 +1,66 @@
+// What an entry begins and ceases to show.
+ghost use Rattle.std.specs.Prelude.{◌≡◌, ◌+◌, ◌<◌, ◌≤◌, ◌⊎◌, IfOk, length, slice_index_or};
+ghost use Rattle.std.specs.declared.cmp.Ordering.TheVariants.{Less as IsLess, Equal as IsEqual, Greater as IsGreater};
+ghost use Rattle.memento_time.specs.declared.mementos.Memento.{Memento as AMemento};
+ghost use Rattle.memento_index.specs.Counts.{begun, ceased, held};
+
+use crate::counted::Step;
+use memento_time::{Memento, NoMemory};
+use std::alloc::Global;
+use std::cmp::Ordering;
+
+// Which of two lists has the next memento at these places, of which one is in its list.
+fn next_at(before: &[Memento], i: usize, after: &[Memento], j: usize) -> Ordering
+    requires { (i < length before.now) ⊎ (j < length after.now) }
+    ensures less { result ≡ IsLess → i < length before.now }
+    ensures greater { result ≡ IsGreater → j < length after.now }
+    ensures equal { result ≡ IsEqual
+        → (i < length before.now) × (j < length after.now) × ((d : AMemento) → slice_index_or before.now i d ≡ slice_index_or after.now j d) }
+{
+    if j >= after.len() {
+        return Ordering::Less;
+    }
+    if i >= before.len() {
+        return Ordering::Greater;
+    }
+    before[i].cmp(&after[j])
+}
+
+// What an entry ceases to show that showed the one list, and begins to show with the other, in order where these are.
+pub fn steps_between(
+    alloc: Global,
+    before: &[Memento],
+    after: &[Memento],
+) -> Result<Vec<Step>, NoMemory>
+    ensures counts { IfOk result (λ steps. (m : AMemento) → begun steps.items m + held before.now m ≡ ceased steps.items m + held after.now m) }
+    ensures shown { IfOk result (λ steps. (m : AMemento) → ceased steps.items m ≤ held before.now m) }
+{
+    let mut steps = Vec::new(alloc);
+    let mut i = 0;
+    let mut j = 0;
+    while i < before.len() || j < after.len() {
+        match next_at(before, i, after, j) {
+            Ordering::Less => {
+                let memento = before[i].try_clone()?;
+                steps.push(Step {
+                    memento,
+                    begins: false,
+                })?;
+                i += 1;
+            }
+            Ordering::Equal => {
+                i += 1;
+                j += 1;
+            }
+            Ordering::Greater => {
+                let memento = after[j].try_clone()?;
+                steps.push(Step {
+                    memento,
+                    begins: true,
+                })?;
+                j += 1;
+            }
+        }
+    }
+    Ok(steps)
+}

@@ -1,0 +1,90 @@
+// Mementos beside the numbers of archives that show them.
+ghost use Rattle.std.specs.Prelude.{◌≡◌, ◌+◌, ◌<◌, ◌≤◌, [], ◌∷◌, ◌++◌, IfNone, IfSome, IfOk, length, map as map_list, option_to_list};
+ghost use Rattle.memento_index.specs.Counts.{mementos_of};
+
+use crate::counted::Counted;
+use memento_time::{Memento, NoMemory};
+use std::alloc::Global;
+use std::marker::Model;
+
+// Two columns, so that the mementos can be lent as one list.
+#[derive(Debug, Drop)]
+pub struct Tally {
+    mementos: Vec<Memento>,
+    counts: Vec<u64>,
+}
+
+impl Model for Tally {
+    ghost use Rattle.std.specs.Prelude.{◌≡◌, min};
+    ghost use Rattle.std.specs.Vec.{vec_len, vec_capacity};
+    ghost use Rattle.memento_index.specs.Tallies.{Tallied, coded_tallied, beside};
+
+    ghost Value = { Tallied };
+
+    ghost coded = { coded_tallied };
+
+    ghost view = { λ t. record { entries = beside t.mementos.items t.counts.items; room = min (vec_capacity t.mementos) (vec_capacity t.counts) } };
+
+    ghost invariant = { λ t. vec_len t.mementos ≡ vec_len t.counts };
+}
+
+impl Tally {
+    // No mementos. Takes no memory.
+    pub fn new(alloc: Global) -> Tally
+        ensures { result.entries ≡ [] }
+    {
+        Tally {
+            mementos: Vec::new(alloc),
+            counts: Vec::new(alloc),
+        }
+    }
+
+    // The mementos, in order.
+    pub fn mementos(&self) -> &[Memento]
+        ensures { result.now ≡ mementos_of self.now.entries }
+    {
+        &self.mementos
+    }
+
+    pub fn len(&self) -> usize
+        ensures { result ≡ length self.now.entries }
+    {
+        self.mementos.len()
+    }
+
+    // Makes room for so many more, and gives the length that the list may then have.
+    pub fn reserve(&mut self, more: usize) -> Result<usize, NoMemory>
+        ensures entries { self.new.entries ≡ self.old.entries }
+        ensures room { self.old.room ≤ self.new.room }
+        ensures made { IfOk result (λ most. (most ≡ length self.new.entries + more) × (most ≤ self.new.room)) }
+    {
+        self.mementos.reserve(more)?;
+        self.counts.reserve(more)?;
+        let Some(most) = self.mementos.len().checked_add(more) else {
+            return Err(NoMemory);
+        };
+        Ok(most)
+    }
+
+    // Adds a memento at the end, in the room that there is.
+    pub fn push(&mut self, counted: Counted)
+        requires { length self.old.entries < self.old.room }
+        ensures entries { self.new.entries ≡ self.old.entries ++ counted ∷ [] }
+        ensures room { self.old.room ≤ self.new.room }
+    {
+        self.mementos.push(counted.memento).unwrap();
+        self.counts.push(counted.count).unwrap();
+    }
+
+    // Takes the last memento out.
+    pub fn pop(&mut self) -> Option<Counted>
+        ensures entries { self.old.entries ≡ self.new.entries ++ option_to_list result }
+        ensures none { IfNone result (self.new.entries ≡ []) }
+        ensures spare { IfSome result (λ _. length self.new.entries < self.new.room) }
+        ensures room { self.old.room ≤ self.new.room }
+    {
+        let memento = self.mementos.pop()?;
+        let count = self.counts.pop()?;
+        Some(Counted { memento, count })
+    }
+}
