@@ -15,7 +15,7 @@ use crate::check::check;
 use crate::failure::Failure;
 use crate::serve::serve_file;
 use crate::words::{Command, command_named};
-use replica_world::replay;
+use replica_world::{Watched, replay};
 use std::env::{self, Env};
 use std::process::ExitCode;
 
@@ -39,7 +39,9 @@ fn command_of(rt: &(impl Env + AllocGlobal)) -> Result<Command, Failure> {
 fn run(rt: &HostRuntime, command: &Command) -> Result<(), Failure> {
     match command {
         Command::Replay => {
-            replay(rt.alloc(), &mut rt.stdin(), &mut rt.stdout())?;
+            let mut input = Watched::new(rt.stdin());
+            let mut output = Watched::new(rt.stdout());
+            replay(rt.alloc(), &mut input, &mut output)?;
             Ok(())
         }
         Command::Check(file) => check(rt, file.as_str(), &mut rt.stdout()),

@@ -9,5 +9,8 @@ mod Pages
 mod Progress
 mod Happenings
 mod LaidOut
+mod Forms
+mod Commands
 mod WholeScript
+mod Outputs
 mod Reached

@@ -1,11 +1,16 @@
 -- A script is read to its end or to a bad line.
-use Rattle.std.proofs.Common.{◌≡◌, ℕ, zero, suc, ◌+◌, ◌<◌, ◌≤◌, inl, inr, Bool, true, false, if◌then◌else◌, List, [], ◌∷◌, length, replicate, Option, Some, None, refl, ap, subst, ◌∙◌, arith}
-use Rattle.std.specs.Prelude.{IfSome, codes, bytes_eq}
+use Rattle.std.proofs.Common.{◌≡◌, ℕ, zero, suc, ◌+◌, ◌<◌, ◌≤◌, inl, inr, List, [], ◌∷◌, length, replicate, Option, Some, None, refl, sym, ap, subst, ◌∙◌, arith}
+use Rattle.std.specs.Prelude.{IfSome}
 use Rattle.std.proofs.lemmas.List.{length-append}
-use Rattle.replica_world.specs.Fields.{◌>>=◌, after_empty_lines, field, number_of, number_field, word_field, block_of, line_of, lines_of}
-use Rattle.replica_world.specs.Script.{Commands, Found, take_of, map_of, gate_of, asking_of, ask_of, send_of, deliver_of, received_of, receive_of, restart_of, named, command_at, commands_within, commands_of, onward}
-use Rattle.replica_world.specs.Layout.{IsEnded, IsLine, IsReadAs}
+use Rattle.replica_world.specs.Fields.{◌>>=◌, after_empty_lines, block_of, line_of, lines_of}
+use Rattle.replica_world.specs.Form as form
+use Rattle.replica_world.specs.Form.{Form, form_of}
+use Rattle.replica_world.specs.Script.{Commands, Found, Start, command_of, command_at, commands_within, commands_of, onward, start_of, start_at}
+use Rattle.replica_world.specs.Stands.{Kept}
+use Rattle.replica_world.specs.Performing.{IsFirstPerformed}
+use Rattle.replica_world.specs.Layout.{IsEnded, IsLine, IsCommandAt, IsReadAs}
 use Rattle.replica_world.proofs.LaidOut.{line_is, block_is, after_empty_lines_is}
+use Rattle.replica_world.proofs.Commands.{command_is}
 
 -- ---- what is left gets shorter
 
@@ -43,75 +48,44 @@ lines_shorter zero text = omega arith
 lines_shorter (suc count) text =
     if_bound (line_of text) _ _ (λ line is. if_bound (lines_of count line.1) _ _ (λ more rest. omega (arith, line_shorter text line is, if_some _ _ more (lines_shorter count line.1) rest)))
 
--- what is left behind a command of a line
-abbrev pub Leaves : List ℕ → Found → Type 0
+-- what is left behind a command
+abbrev Leaves : List ℕ → Found → Type 0
 Leaves rest found = IfSome found (λ c. length c.1 ≤ length rest)
 
-take_shorter : (fields rest : List ℕ) → Leaves rest (take_of fields rest)
-unfolding take_of
-take_shorter fields rest =
-    if_bound (number_field fields) _ _ (λ replica _. if_bound (word_field replica.1) _ _ (λ archive _. if_bound (number_field archive.1) _ _ (λ revision _.
-    if_bound (word_field revision.1) _ _ (λ address _. if_bound (number_field address.1) _ _ (λ len _. if_bound (block_of len.0 rest) _ _ (λ body is. block_shorter len.0 rest body is))))))
+-- whatever its line says
+said_shorter : (said : Form) (rest : List ℕ) → Leaves rest (command_of said rest)
+unfolding command_of
+said_shorter (form.Take f) rest = if_bound (block_of f.len rest) _ _ (λ body is. block_shorter f.len rest body is)
+said_shorter (form.Map replica original) rest = omega arith
+said_shorter (form.Gate replica original) rest = omega arith
+said_shorter (form.GateAt replica original asked) rest = omega arith
+said_shorter (form.Ask f) rest = if_bound (lines_of f.count rest) _ _ (λ asked is. if_some _ _ asked (lines_shorter f.count rest) is)
+said_shorter (form.Send replica) rest = omega arith
+said_shorter (form.Deliver replica message) rest = omega arith
+said_shorter (form.Receive replica len) rest = if_bound (block_of len rest) _ _ (λ body is. block_shorter len rest body is)
+said_shorter (form.Restart replica) rest = omega arith
 
-map_shorter : (fields rest : List ℕ) → Leaves rest (map_of fields rest)
-unfolding map_of
-map_shorter fields rest = if_bound (number_field fields) _ _ (λ replica _. omega arith)
-
-gate_shorter : (fields rest : List ℕ) → Leaves rest (gate_of fields rest)
-unfolding gate_of
-gate_shorter fields rest = if_bound (number_field fields) _ _ (λ replica _. omega arith)
-
-ask_shorter : (fields rest : List ℕ) → Leaves rest (ask_of fields rest)
-unfolding ask_of
-ask_shorter fields rest =
-    if_bound (asking_of fields) _ _ (λ asking _. if_bound (lines_of asking.count rest) _ _ (λ asked is. if_some _ _ asked (lines_shorter asking.count rest) is))
-
-send_shorter : (fields rest : List ℕ) → Leaves rest (send_of fields rest)
-unfolding send_of
-send_shorter fields rest = if_bound (number_of fields) _ _ (λ replica _. omega arith)
-
-deliver_shorter : (fields rest : List ℕ) → Leaves rest (deliver_of fields rest)
-unfolding deliver_of
-deliver_shorter fields rest = if_bound (number_field fields) _ _ (λ replica _. if_bound (number_of replica.1) _ _ (λ message _. omega arith))
-
-receive_shorter : (fields rest : List ℕ) → Leaves rest (receive_of fields rest)
-unfolding receive_of
-receive_shorter fields rest = if_bound (received_of fields rest) _ _ (λ received is. if_some _ _ received received_shorter is) where
-  received_shorter : IfSome (received_of fields rest) (λ r. length r.1.1 ≤ length rest)
-  received_shorter =
-      if_bound (number_field fields) _ _ (λ replica _. if_bound (number_of replica.1) _ _ (λ len _. if_bound (block_of len rest) _ _ (λ body is. block_shorter len rest body is)))
-
-restart_shorter : (fields rest : List ℕ) → Leaves rest (restart_of fields rest)
-unfolding restart_of
-restart_shorter fields rest = if_bound (number_of fields) _ _ (λ replica _. omega arith)
-
--- whichever command the word names
-any_shorter : (fields rest : List ℕ) (take map gate ask send deliver receive restart : Bool)
-    → Leaves rest (if take then take_of fields rest else if map then map_of fields rest else if gate then gate_of fields rest else if ask then ask_of fields rest
-    else if send then send_of fields rest else if deliver then deliver_of fields rest else if receive then receive_of fields rest else if restart then restart_of fields rest else None)
-any_shorter fields rest true map gate ask send deliver receive restart = take_shorter fields rest
-any_shorter fields rest false true gate ask send deliver receive restart = map_shorter fields rest
-any_shorter fields rest false false true ask send deliver receive restart = gate_shorter fields rest
-any_shorter fields rest false false false true send deliver receive restart = ask_shorter fields rest
-any_shorter fields rest false false false false true deliver receive restart = send_shorter fields rest
-any_shorter fields rest false false false false false true receive restart = deliver_shorter fields rest
-any_shorter fields rest false false false false false false true restart = receive_shorter fields rest
-any_shorter fields rest false false false false false false false true = restart_shorter fields rest
-any_shorter fields rest false false false false false false false false = tt
-
-named_shorter : (word fields rest : List ℕ) → Leaves rest (named word fields rest)
-unfolding named
-named_shorter word fields rest =
-    any_shorter fields rest (bytes_eq word (codes "take")) (bytes_eq word (codes "map")) (bytes_eq word (codes "gate")) (bytes_eq word (codes "ask")) (bytes_eq word (codes "send"))
-    (bytes_eq word (codes "deliver")) (bytes_eq word (codes "receive")) (bytes_eq word (codes "restart"))
-
-command_shorter : (text : List ℕ) → IfSome (command_at text) (λ c. length c.1 < length text)
+pub command_shorter : (text : List ℕ) → IfSome (command_at text) (λ c. length c.1 < length text)
 unfolding command_at
 command_shorter text =
-    if_bound (line_of text) _ _ (λ line is. if_bound (field line.0) _ _ (λ word _. on line.1 (named word.0 word.1 line.1) (line_shorter text line is) (named_shorter word.0 word.1 line.1))) where
+    if_bound (line_of text) _ _ (λ line is. if_bound (form_of line.0) _ _ (λ said _. on line.1 (command_of said line.1) (line_shorter text line is) (said_shorter said line.1))) where
       on : (rest : List ℕ) (found : Found) → length rest < length text → Leaves rest found → IfSome found (λ c. length c.1 < length text)
       on rest None less leaves = tt
       on rest (Some c) less leaves = omega (arith, less, leaves)
+
+-- nor is what is left behind the first line longer than the script
+pub start_shorter : (text : List ℕ) (begin : Start) (rest : List ℕ) → start_at text ≡ Some (begin, rest) → length rest < length text
+unfolding start_at
+start_shorter text begin rest is =
+    let all : IfSome (start_at text) (λ p. length p.1 < length text) = if_bound (line_of text) _ _ (λ line here. if_bound (start_of line.0) _ _ (λ begin _. line_shorter text line here)) in
+    if_some (start_at text) (λ p. length p.1 < length text) (begin, rest) all is
+
+-- the text from the next command on is shorter
+pub first_shorter : (old : Kept) (text said rest : List ℕ) (new : Kept) → IsFirstPerformed old text said rest new → length rest < length text
+first_shorter old text said rest new first =
+    let behind : length first.after < length text = if_some (command_at text) (λ c. length c.1 < length text) (first.command, first.after) (command_shorter text) first.found in
+    let here : length rest ≡ length (after_empty_lines first.after) = ap length first.rest_is in
+    omega (arith, behind, here, empty_lines_shorter first.after)
 
 -- ---- a whole script
 
@@ -129,8 +103,9 @@ read_rest (suc bytes) text (b ∷ rest) is enough =
       on : (found : Found) → command_at (b ∷ rest) ≡ found → IfSome found (λ c. length c.1 < suc (length rest))
           → ((after : List ℕ) → length (after_empty_lines after) ≤ bytes → IsReadAs after (commands_within bytes (after_empty_lines after)).list (commands_within bytes (after_empty_lines after)).bad)
           → later (onward (b ∷ rest) found (λ rest. commands_within bytes (after_empty_lines rest)))
-      on None found shorter more = (is, omega arith, found)
-      on (Some c) found shorter more = (c.1, ap command_at is ∙ found, more c.1 (omega (arith, shorter, empty_lines_shorter c.1, enough)))
+      on None found shorter more = (is, omega arith, λ command after laid. let none : None ≡ Some (command, after) = sym found ∙ (command_is (b ∷ rest) (command, after)).1 laid in absurd (cc))
+      on (Some c) found shorter more =
+          (c.1, subst (λ (t : List ℕ). IsCommandAt t c.0 c.1) (sym is) ((command_is (b ∷ rest) c).0 found), more c.1 (omega (arith, shorter, empty_lines_shorter c.1, enough)))
 
 -- a text is read to its end, or to a bad line
 pub commands_are : (text : List ℕ) → IsReadAs text (commands_of text).list (commands_of text).bad

@@ -1,5 +1,5 @@
 -- What readers and writers tell after a failure.
-use Rattle.std.specs.Prelude.{◌≡◌, ℕ, List, ◌++◌, Option}
+use Rattle.std.specs.Prelude.{◌≡◌, ℕ, Bool, true, List, ◌++◌, Option, Result, Ok, Err}
 use Rattle.std.specs.Io.KnownBytes.{Appends}
 use Rattle.replica_world.specs.declared.replaying.fault.ReplayFault.{ReplayFault}
 use Rattle.replica_world.specs.declared.replaying.fault.ReplayFault.TheVariants.{BadLine, Read, Write, NoMemory}
@@ -14,3 +14,11 @@ StopsReading Read = Unit {0}
 StopsReading NoMemory = Unit {0}
 StopsReading (BadLine number) = ⊥
 StopsReading Write = ⊥
+
+-- once a script is read, a replay blames its writer only where that failed, and never its reader
+abbrev pub BlamesWriter : Result (Unit {0}) ReplayFault → Bool → Type 0
+BlamesWriter (Ok u) failed = Unit {0}
+BlamesWriter (Err Read) failed = ⊥
+BlamesWriter (Err Write) failed = failed ≡ true
+BlamesWriter (Err NoMemory) failed = Unit {0}
+BlamesWriter (Err (BadLine number)) failed = Unit {0}

@@ -1,21 +1,18 @@
 -- The lines of a script, the fields of a line, and the blocks and lines that follow it.
-use Rattle.std.specs.Prelude.{ℕ, zero, suc, ◌+◌, ◌-◌, ◌*◌, ◌^◌, Bool, ◌&&◌, ◌||◌, slice_index, List, [], ◌∷◌, length, take, drop, position, Option, None, Some, unwrap_or, nat_lt, nat_le, ◌==◌, if◌then◌else◌}
-use Rattle.std.specs.Option.{option_map}
+use Rattle.std.specs.Prelude.{ℕ, zero, suc, Bool, ◌&&◌, ◌||◌, List, [], ◌∷◌, length, take, drop, Option, None, Some, unwrap_or, nat_lt, nat_le, ◌==◌, if◌then◌else◌}
+use Rattle.std.specs.Option.{option_map, option_and_then}
 use Rattle.std.specs.Str.{is_utf8}
+use Rattle.text_fields.specs.Decimals.{number_of}
+use Rattle.text_fields.specs.Parts.{space, line_end, parts_at}
 
 infixl 10 ◌>>=◌
 -- one reading after another: none where either has none
 abbrev pub ◌>>=◌ : {A B : Type 0} → Option A → (A → Option B) → Option B
-None >>= f = None
-(Some x) >>= f = f x
-
--- what stands before the first of a byte, and what behind it
-abbrev pub cut_at : ℕ → List ℕ → Option (List ℕ × List ℕ)
-cut_at byte text = option_map (λ place. (take place text, drop (place + 1) text)) (position (λ b. b == byte) text)
+found >>= next = option_and_then next found
 
 -- the first line, and what follows it; the last line may lack its LF
 abbrev pub first_line : List ℕ → List ℕ × List ℕ
-first_line text = unwrap_or (cut_at 10 text) (text, [])
+first_line text = unwrap_or (parts_at line_end text) (text, [])
 
 -- the text from its first line on that isn't empty
 unfoldable pub after_empty_lines : List ℕ → List ℕ
@@ -24,22 +21,7 @@ after_empty_lines (b ∷ text) = if b == 10 then after_empty_lines text else b �
 
 -- a field that another follows, and what stands behind the space between them
 abbrev pub field : List ℕ → Option (List ℕ × List ℕ)
-field text = cut_at 32 text
-
--- the number with one more digit, below 2 ^ 64
-abbrev pub next_value : ℕ → ℕ → Option ℕ
-next_value value digit =
-    if nat_le 48 digit && nat_le digit 57 && nat_lt (value * 10 + (digit - 48)) (2 ^ 64) then Some (value * 10 + (digit - 48)) else None
-
--- the number that digits go on to
-abbrev pub value_from : ℕ → List ℕ → Option ℕ
-value_from value [] = Some value
-value_from value (digit ∷ digits) = next_value value digit >>= λ next. value_from next digits
-
--- no digit at all, or a zero before others, is no decimal
-abbrev pub number_of : List ℕ → Option ℕ
-number_of digits =
-    if (length digits == 0) || (nat_lt 1 (length digits) && (slice_index digits 0 == 48)) then None else value_from 0 digits
+field text = parts_at space text
 
 -- a decimal that another field follows
 abbrev pub number_field : List ℕ → Option (ℕ × List ℕ)

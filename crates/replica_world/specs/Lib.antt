@@ -3,6 +3,7 @@ pub mod Stands
 pub mod Asked
 pub mod ReadBack
 pub mod Fields
+pub mod Form
 pub mod Script
 pub mod Layout
 pub mod Output

@@ -17,9 +17,9 @@ use Rattle.replica_events.specs.declared.event.Event.{Event}
 use Rattle.replica_events.specs.declared.event.Event.TheVariants as event
 use Rattle.replica_events.specs.declared.event.Said.TheVariants.{Taken, Sent, Joined, Restarted, Replied}
 use Rattle.replica_events.specs.declared.event.Refused.{Refused}
-use Rattle.replica_events.specs.declared.event.Refused.TheVariants.{NoReplica, NoMessage, BadState, NoMemory}
 use Rattle.replica_world.specs.declared.replaying.fault.ReplayFault.{ReplayFault}
 use Rattle.replica_world.specs.declared.replaying.fault.ReplayFault.TheVariants as fault
+use Rattle.replica_events.specs.Faults.{words_of}
 use Rattle.replica_events.specs.World.{World, Answer, Effect, start}
 use Rattle.replica_world.specs.Fields.{utf8_text}
 use Rattle.replica_world.specs.Script.{Taking, Command, Take, Step, Start, script_of, commands_of, number_of_line, bad_line}
@@ -54,10 +54,7 @@ taken_line page =
 
 -- want of memory ends a replay, and this line is never written
 abbrev pub refusal_line : Refused → List ℕ
-refusal_line NoReplica = refused (codes "no replica")
-refusal_line NoMessage = refused (codes "no message")
-refusal_line BadState = refused (codes "bad state")
-refusal_line NoMemory = refused (codes "no memory")
+refusal_line why = refused (words_of why)
 
 -- what an event says where it is accepted and says no number and no reply
 abbrev pub accepted_line : Event → List ℕ
@@ -102,12 +99,16 @@ IsPage address body page = MatchOption (utf8_text address) ⊥ (λ base. IsAnswe
 abbrev pub harvest_of : Taking → List ℕ → Page → Harvested
 harvest_of t original page = record { archive = t.archive; original = original; revision = t.revision; mementos = set.from_list page.mementos }
 
+-- 100,000 mementos
+abbrev pub most_mementos : ℕ
+most_mementos = 100000
+
 -- a harvest of at most 100,000 mementos in the name of an archive is taken
 abbrev pub TakesHarvest : List ℕ → World → Taking → List ℕ → Page → List ℕ → World → Type 0
 TakesHarvest base world t original page text next =
     (¬ (IsArchiveName t.archive) × RefusedAs (codes "bad archive") world text next)
-    ⊎ (IsArchiveName t.archive × (((100000 < length page.mementos) × RefusedAs (codes "too many") world text next)
-    ⊎ ((length page.mementos ≤ 100000) × Happens base world (taken_line page) (event.Take t.replica (harvest_of t original page)) text next)))
+    ⊎ (IsArchiveName t.archive × (((most_mementos < length page.mementos) × RefusedAs (codes "too many") world text next)
+    ⊎ ((length page.mementos ≤ most_mementos) × Happens base world (taken_line page) (event.Take t.replica (harvest_of t original page)) text next)))
 
 -- the mementos of a page are taken, under the original that its text names
 abbrev pub TakesPage : List ℕ → World → Taking → List ℕ → World → Type 0

@@ -1,12 +1,13 @@
 -- A script as a list of commands: what each line says, with the block or the lines that follow it.
 use Rattle.std.specs.Prelude.{ℕ, zero, suc, ◌+◌, ◌-◌, ◌&&◌, List, [], ◌∷◌, ◌++◌, length, take, Option, None, Some, nat_le, ◌==◌, if◌then◌else◌, count_by, codes, bytes_eq}
 use Rattle.std.specs.Option.{option_map, option_and_then}
-use Rattle.std.specs.List.{list_all}
 use Rattle.timegate.specs.declared.request.Request.{Request}
 use Rattle.timemap_writer.specs.Service.{base_of}
 use Rattle.replica_events.specs.declared.event.Event.{Event}
 use Rattle.replica_events.specs.declared.event.Event.TheVariants.{Send, Deliver, Receive, Restart, Ask}
-use Rattle.replica_world.specs.Fields.{◌>>=◌, field, line_of, after_empty_lines, number_of, number_field, word_field, is_visible, utf8_text, block_of, lines_of}
+use Rattle.replica_world.specs.Fields.{◌>>=◌, field, line_of, after_empty_lines, number_field, utf8_text, block_of, lines_of}
+use Rattle.replica_world.specs.Form as form
+use Rattle.replica_world.specs.Form.{Form, TakeForm, form_of}
 
 -- the body of a page at an address, to be read and taken as a harvest
 pub record Taking : Type 0 where
@@ -26,116 +27,42 @@ pub data Command : Type 0 where
 abbrev pub Found : Type 0
 Found = Option (Command × List ℕ)
 
--- what the line of a `take` says
-unfoldable pub take_of : List ℕ → List ℕ → Found
-take_of fields rest = do
-  replica ← number_field fields
-  archive ← word_field replica.1
-  revision ← number_field archive.1
-  address ← word_field revision.1
-  len ← number_field address.1
-  body ← block_of len.0 rest
-  Some (Take (record { replica = replica.0; archive = archive.0; revision = revision.0; address = address.0; body = body.0; original = len.1 }), body.1)
-
 -- a GET with these values of `Accept-Datetime`
 abbrev pub get : List ℕ → List (List ℕ) → Request
 get target asked = record { method = codes "GET"; target = target; asked = asked }
 
--- what the line of a `map` says
-unfoldable pub map_of : List ℕ → List ℕ → Found
-map_of fields rest = do
-  replica ← number_field fields
-  Some (Step (Ask replica.0 (get (codes "/timemap/link/" ++ replica.1) [])), rest)
+-- a page to be taken, with the block that follows its line
+abbrev pub taking_of : TakeForm → List ℕ → Taking
+taking_of f body = record { replica = f.replica; archive = f.archive; revision = f.revision; address = f.address; body = body; original = f.original }
 
--- an original alone, or one that ends at the first space and the asked datetime behind it
-abbrev pub gate_request : List ℕ → Option (List ℕ × List ℕ) → Request
-gate_request original None = get (codes "/timegate/" ++ original) []
-gate_request fields (Some parts) = get (codes "/timegate/" ++ parts.0) (parts.1 ∷ [])
+-- an event, and the text behind its command
+abbrev pub stepped : Event → List ℕ → Found
+stepped event rest = Some (Step event, rest)
 
--- what the line of a `gate` says
-unfoldable pub gate_of : List ℕ → List ℕ → Found
-gate_of fields rest = do
-  replica ← number_field fields
-  Some (Step (Ask replica.0 (gate_request replica.1 (field replica.1))), rest)
-
--- 16 values of `Accept-Datetime`
-abbrev pub most_asked : ℕ
-most_asked = 16
-
--- what the line of an `ask` says
-pub record Asking : Type 0 where
-  pub replica : ℕ
-  pub method : List ℕ
-  pub count : ℕ
-  pub target : List ℕ
-
--- what the line of an `ask` says
-abbrev pub asking_of : List ℕ → Option Asking
-asking_of fields = do
-  replica ← number_field fields
-  method ← word_field replica.1
-  count ← number_field method.1
-  if list_all is_visible method.0 && nat_le count.0 most_asked then Some (record { replica = replica.0; method = method.0; count = count.0; target = count.1 }) else None
-
--- an `ask` with the lines that follow it
-unfoldable pub ask_of : List ℕ → List ℕ → Found
-ask_of fields rest = do
-  asking ← asking_of fields
-  asked ← lines_of asking.count rest
-  Some (Step (Ask asking.replica (record { method = asking.method; target = asking.target; asked = asked.0 })), asked.1)
-
--- what the line of a `send` says
-unfoldable pub send_of : List ℕ → List ℕ → Found
-send_of fields rest = do
-  replica ← number_of fields
-  Some (Step (Send replica), rest)
-
--- what the line of a `deliver` says
-unfoldable pub deliver_of : List ℕ → List ℕ → Found
-deliver_of fields rest = do
-  replica ← number_field fields
-  message ← number_of replica.1
-  Some (Step (Deliver replica.0 message), rest)
-
--- the replica, its block, and the text behind that
-abbrev pub received_of : List ℕ → List ℕ → Option (ℕ × (List ℕ × List ℕ))
-received_of fields rest = do
-  replica ← number_field fields
-  len ← number_of replica.1
+-- the command of a line, with the block or the lines that follow it
+unfoldable pub command_of : Form → List ℕ → Found
+command_of (form.Take f) rest = do
+  body ← block_of f.len rest
+  Some (Take (taking_of f body.0), body.1)
+command_of (form.Map replica original) rest = stepped (Ask replica (get (codes "/timemap/link/" ++ original) [])) rest
+command_of (form.Gate replica original) rest = stepped (Ask replica (get (codes "/timegate/" ++ original) [])) rest
+command_of (form.GateAt replica original asked) rest = stepped (Ask replica (get (codes "/timegate/" ++ original) (asked ∷ []))) rest
+command_of (form.Ask f) rest = do
+  asked ← lines_of f.count rest
+  stepped (Ask f.replica (record { method = f.method; target = f.target; asked = asked.0 })) asked.1
+command_of (form.Send replica) rest = stepped (Send replica) rest
+command_of (form.Deliver replica message) rest = stepped (Deliver replica message) rest
+command_of (form.Receive replica len) rest = do
   body ← block_of len rest
-  Some (replica.0, body)
-
--- what a `receive` says, with its block
-unfoldable pub receive_of : List ℕ → List ℕ → Found
-receive_of fields rest = do
-  received ← received_of fields rest
-  Some (Step (Receive received.0 received.1.0), received.1.1)
-
--- what the line of a `restart` says
-unfoldable pub restart_of : List ℕ → List ℕ → Found
-restart_of fields rest = do
-  replica ← number_of fields
-  Some (Step (Restart replica), rest)
-
--- by the word that the line begins with
-unfoldable pub named : List ℕ → List ℕ → List ℕ → Found
-named word fields rest =
-    if bytes_eq word (codes "take") then take_of fields rest
-    else if bytes_eq word (codes "map") then map_of fields rest
-    else if bytes_eq word (codes "gate") then gate_of fields rest
-    else if bytes_eq word (codes "ask") then ask_of fields rest
-    else if bytes_eq word (codes "send") then send_of fields rest
-    else if bytes_eq word (codes "deliver") then deliver_of fields rest
-    else if bytes_eq word (codes "receive") then receive_of fields rest
-    else if bytes_eq word (codes "restart") then restart_of fields rest
-    else None
+  stepped (Receive replica body.0) body.1
+command_of (form.Restart replica) rest = stepped (Restart replica) rest
 
 -- the command at the front of a text; none where the line is bad
 unfoldable pub command_at : List ℕ → Found
 command_at text = do
   line ← line_of text
-  word ← field line.0
-  named word.0 word.1 line.1
+  said ← form_of line.0
+  command_of said line.1
 
 -- so many replicas of the service with this base
 pub record Start : Type 0 where

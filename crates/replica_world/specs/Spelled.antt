@@ -2,9 +2,14 @@
 use Rattle.replica_world.specs.declared.replaying.command.Command as code
 use Rattle.replica_world.specs.declared.replaying.command.Command.TheVariants as spelled
 use Rattle.replica_world.specs.declared.replaying.command.Taking.{Taking as SpelledTaking}
-use Rattle.replica_world.specs.declared.replaying.command.Asking.{Asking as SpelledAsking}
+use Rattle.replica_world.specs.declared.replaying.form.Form as code_form
+use Rattle.replica_world.specs.declared.replaying.form.Form.TheVariants as spelled_form
+use Rattle.replica_world.specs.declared.replaying.form.TakeForm.{TakeForm as SpelledTake}
+use Rattle.replica_world.specs.declared.replaying.form.AskForm.{AskForm as SpelledAsk}
 use Rattle.replica_world.specs.declared.replaying.start.Start.{Start as SpelledStart}
-use Rattle.replica_world.specs.Script.{Taking, Asking, Command, Take, Step, Start}
+use Rattle.replica_world.specs.Form as form
+use Rattle.replica_world.specs.Form.{TakeForm, AskForm}
+use Rattle.replica_world.specs.Script.{Taking, Command, Take, Step, Start}
 
 -- a `take` as the definition sees it
 abbrev pub taking_view : SpelledTaking → Taking
@@ -19,6 +24,22 @@ command_view (spelled.Step event) = Step event
 abbrev pub start_view : SpelledStart → Start
 start_view s = record { replicas = s.replicas; base = s.service }
 
--- an `ask` as the definition sees it
-abbrev pub asking_view : SpelledAsking → Asking
-asking_view a = record { replica = a.replica; method = a.method.now; count = a.count; target = a.target.now }
+-- the line of a `take` as the definition sees it
+abbrev pub take_form_view : SpelledTake → TakeForm
+take_form_view f = record { replica = f.replica; archive = f.archive.now; revision = f.revision; address = f.address.now; len = f.len; original = f.original.now }
+
+-- the line of an `ask` as the definition sees it
+abbrev pub ask_form_view : SpelledAsk → AskForm
+ask_form_view f = record { replica = f.replica; method = f.method.now; count = f.count; target = f.target.now }
+
+-- a command's line as the definition sees it
+abbrev pub form_view : code_form.Form → form.Form
+form_view (spelled_form.Take f) = form.Take (take_form_view f)
+form_view (spelled_form.Map replica original) = form.Map replica original.now
+form_view (spelled_form.Gate replica original) = form.Gate replica original.now
+form_view (spelled_form.GateAt replica original asked) = form.GateAt replica original.now asked.now
+form_view (spelled_form.Ask f) = form.Ask (ask_form_view f)
+form_view (spelled_form.Send replica) = form.Send replica
+form_view (spelled_form.Deliver replica message) = form.Deliver replica message
+form_view (spelled_form.Receive replica len) = form.Receive replica len
+form_view (spelled_form.Restart replica) = form.Restart replica

@@ -20,6 +20,7 @@ pub use replaying::laws::{
     one_output, same_text_from_both, script_is_its_layout, scripts_are_runs,
 };
 pub use replaying::run::replay;
+pub use replaying::watched::Watched;
 pub use replica_events::{
     Answer, Event, Refused, Said, deliveries_in_any_order, one_outcome, replicas_agree,
     what_replicas_have_taken,

@@ -4,6 +4,7 @@ mod command;
 mod devices;
 pub mod fault;
 mod fields;
+mod form;
 pub mod laws;
 mod perform;
 pub mod run;
@@ -11,3 +12,4 @@ mod start;
 #[cfg(test)]
 mod tests;
 mod texts;
+pub mod watched;

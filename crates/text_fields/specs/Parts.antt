@@ -1,5 +1,5 @@
 -- The parts of a text that a byte ends.
-use Rattle.std.specs.Prelude.{◌≡◌, ◌≢◌, ℕ, ◌+◌, ◌==◌, List, ◌∷◌, ◌++◌, All, take, drop, position, Option}
+use Rattle.std.specs.Prelude.{◌≡◌, ◌≢◌, ℕ, ◌+◌, ◌==◌, List, [], ◌∷◌, ◌++◌, All, take, drop, position, Option}
 use Rattle.std.specs.Option.{option_map}
 
 -- the byte that ends a field which another follows
@@ -13,6 +13,12 @@ line_end = 10
 -- the byte doesn't occur
 abbrev pub Lacks : ℕ → List ℕ → Type 0
 Lacks byte text = All (λ b. b ≢ byte) text
+
+-- fields with one space between them
+abbrev pub parted : List (List ℕ) → List ℕ
+parted [] = []
+parted (field ∷ []) = field
+parted (field ∷ next ∷ fields) = field ++ space ∷ parted (next ∷ fields)
 
 -- a part without the byte, the byte, and what stands behind it
 abbrev pub IsSplit : ℕ → List ℕ → List ℕ × List ℕ → Type 0

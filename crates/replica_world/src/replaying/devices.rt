@@ -1,9 +1,10 @@
 //! Reading all that a reader gives, and writing all that is to be written.
-ghost use Rattle.std.specs.Prelude.{◌≡◌, length, OnOk, OnErr, IfOk, IfErr, IfSome};
+ghost use Rattle.std.specs.Prelude.{◌≡◌, ◌⊎◌, ◌≤◌, true, OnOk, OnErr, IfOk, IfErr, IfSome};
 ghost use Rattle.std.specs.Io.KnownBytes.{Appends};
 ghost use Rattle.replica_world.specs.Devices.{AppendsBeginning, StopsReading};
 
 use crate::replaying::fault::ReplayFault;
+use crate::replaying::watched::Watched;
 use std::alloc::Global;
 use std::io::{Read, Write};
 
@@ -11,14 +12,18 @@ use std::io::{Read, Write};
 const MOST_READS: u64 = 1_000_000_000;
 
 /// All that a reader gives.
-pub fn read_all<R: Read>(alloc: Global, reader: &mut R) -> Result<Vec<u8>, ReplayFault>
-    ensures all { IfOk result (λ text. IfSome (R.remaining reader.old) (λ bytes. text.items ≡ bytes)) }
+pub fn read_all<R: Read>(alloc: Global, reader: &mut Watched<R>) -> Result<Vec<u8>, ReplayFault>
+    ensures all { IfOk result (λ text. IfSome (R.remaining reader.old.device) (λ bytes. text.items ≡ bytes)) }
     ensures fault { IfErr result StopsReading }
+    ensures read { reader.old.reads ≡ 0 → result ≡ Err ReplayFault.Read →
+        (reader.new.failed ≡ true) ⊎ (1000000000 ≤ reader.new.reads) }
 {
     let mut text = Vec::new(alloc);
     let mut buffer = [0u8; 65_536];
     for _ in 0..MOST_READS {
-        let count = reader.read(&mut buffer).map_err(|_| ReplayFault::Read)?;
+        let Ok(count) = reader.read(&mut buffer) else {
+            return Err(ReplayFault::Read);
+        };
         if count == 0 {
             return Ok(text);
         }
@@ -28,10 +33,11 @@ pub fn read_all<R: Read>(alloc: Global, reader: &mut R) -> Result<Vec<u8>, Repla
 }
 
 /// Writes all the bytes, or a beginning of them.
-pub fn write_whole<W: Write>(writer: &mut W, bytes: &[u8]) -> Result<(), ReplayFault>
-    ensures ok { OnOk result (Appends (W.contents writer.old) (W.contents writer.new) bytes.now) }
-    ensures err { OnErr result (AppendsBeginning (W.contents writer.old) (W.contents writer.new) bytes.now) }
+pub fn write_whole<W: Write>(writer: &mut Watched<W>, bytes: &[u8]) -> Result<(), ReplayFault>
+    ensures ok { OnOk result (Appends (W.contents writer.old.device) (W.contents writer.new.device) bytes.now) }
+    ensures err { OnErr result (AppendsBeginning (W.contents writer.old.device) (W.contents writer.new.device) bytes.now) }
     ensures write { OnErr result (result ≡ Err ReplayFault.Write) }
+    ensures failed { OnErr result (writer.new.failed ≡ true) }
 {
     let mut rest = bytes;
     while !rest.is_empty() {

@@ -1,42 +1,49 @@
 //! Laws of scripts.
-ghost use Rattle.std.specs.Prelude.{◌≡◌, ℕ, List};
-ghost use Rattle.replica_world.specs.Fields.{cut_at, number_of, line_of, block_of, after_empty_lines};
+ghost use Rattle.std.specs.Prelude.{◌≡◌, ℕ, List, [], ◌∷◌, ◌++◌};
+ghost use Rattle.text_fields.specs.Finds.{Finds};
+ghost use Rattle.replica_world.specs.Fields.{line_of, block_of, after_empty_lines};
 ghost use Rattle.timegate.specs.declared.request.Request.{Request};
 ghost use Rattle.timegate.specs.Reply.{reply};
 ghost use Rattle.replica_events.specs.declared.event.Event.TheVariants.{Ask};
-ghost use Rattle.replica_world.specs.Script.{Command, commands_of};
+ghost use Rattle.replica_world.specs.Script.{Command, start_at, command_at, commands_of};
 ghost use Rattle.replica_world.specs.Script as script;
-ghost use Rattle.replica_events.specs.World.{Knowledge, World};
+ghost use Rattle.replica_events.specs.World.{Knowledge, World, start};
 ghost use Rattle.replica_events.specs.Agreement.{SameHarvests, HasTaken};
-ghost use Rattle.replica_world.specs.Reached.{IsRunOf};
-ghost use Rattle.replica_world.specs.Layout.{Finds, IsNumber, IsCut, IsLine, IsBlock, IsBehindEmptyLines, IsReadAs};
+ghost use Rattle.replica_world.specs.Reached.{IsRunOf, AnswersTwice};
+ghost use Rattle.replica_world.specs.Layout.{IsLine, IsBlock, IsStartAt, IsCommandAt, IsBehindEmptyLines, IsReadAs};
 ghost use Rattle.replica_world.specs.Output.{IsOutput, Performs, Says, reply_text};
 
 use timemap_reader::one_page;
 
-/// A script has at most one output.
+/// A script has one output. That it has one is said as: it is not so that it has none, since no law here says which
+/// bytes are a state.
 pub fn one_output()
-    ensures { (script output other : List ℕ) → IsOutput script output → IsOutput script other → output ≡ other }
+    ensures once { (script output other : List ℕ) → IsOutput script output → IsOutput script other → output ≡ other }
+    ensures some { (script : List ℕ) → ¬ ((output : List ℕ) → ¬ IsOutput script output) }
 {
     one_page();
 }
 
-/// The numbers, fields, lines and blocks that are found in a script are those that are laid out there, and all of them.
-/// Its commands are read one behind the other, to its end or to the first bad line.
+/// What is found in a script is what is laid out there: lines, blocks, the first line, and each command by the text of
+/// its line. Commands are read one behind the other, to the end or to the first bad line.
 pub fn script_is_its_layout()
-    ensures number { (digits : List ℕ) → Finds (number_of digits) (IsNumber digits) }
-    ensures cut { (byte : ℕ) (text : List ℕ) → Finds (cut_at byte text) (IsCut byte text) }
     ensures line { (text : List ℕ) → Finds (line_of text) (IsLine text) }
+    ensures start { (text : List ℕ) → Finds (start_at text) (λ s. IsStartAt text s.0 s.1) }
+    ensures command { (text : List ℕ) → Finds (command_at text) (λ c. IsCommandAt text c.0 c.1) }
     ensures block { (len : ℕ) (text : List ℕ) → Finds (block_of len text) (IsBlock len text) }
     ensures empty_lines { (text : List ℕ) → IsBehindEmptyLines text (after_empty_lines text) }
     ensures commands { (text : List ℕ) → IsReadAs text (commands_of text).list (commands_of text).bad }
 {}
 
-/// The commands of a script come to events, and these lead to its world. So what holds of all replicas of a world
-/// holds of those of a script, whatever has happened in it.
+/// The commands of a script come to events, these lead to its world, and what it writes are their answers. So what
+/// holds of all replicas of a world holds of those of a script, whatever has happened in it: where it ends in one request
+/// to two replicas that have learnt the same harvests, it ends in one reply, written twice.
 pub fn scripts_are_runs()
-    ensures { (base : List ℕ) (world : World) (commands : List Command) (text : List ℕ) (end : World) →
-        Says base world commands text end → IsRunOf base world commands end }
+    ensures runs { (base : List ℕ) (world : World) (commands : List Command) (text : List ℕ) (end : World) →
+        Says base world commands text end → IsRunOf base world commands text end }
+    ensures twice { (base : List ℕ) (count : ℕ) (commands : List Command) (i j : ℕ) (q : Request) (output : List ℕ) (end : World) →
+        Says base (start count) (commands ++ script.Step (Ask i q) ∷ script.Step (Ask j q) ∷ []) output end →
+        AnswersTwice base count commands i j output }
 {
     one_page();
 }

@@ -1,8 +1,9 @@
 //! A whole script.
-ghost use Rattle.std.specs.Prelude.{◌≡◌, ◌+◌, ◌-◌, ◌≤◌, ◌==◌, length, take, count_by, None, IfOk, IfSome, MatchOption, ◌<◌};
+ghost use Rattle.std.specs.Prelude.{◌≡◌, ◌⊎◌, ◌+◌, ◌-◌, ◌≤◌, ◌==◌, true, length, take, count_by, None, IfOk, IfSome, MatchOption};
 ghost use Rattle.replica_world.specs.Script.{command_at, number_of_line};
 ghost use Rattle.replica_events.specs.World.{World as Replicas};
 ghost use Rattle.replica_world.specs.Stands.{Stands};
+ghost use Rattle.replica_world.specs.Devices.{BlamesWriter};
 ghost use Rattle.replica_world.specs.Output.{Replays, ReplaysFrom};
 ghost use Rattle.replica_world.specs.Performing.{IsFirstPerformed};
 
@@ -12,6 +13,7 @@ use crate::replaying::fault::ReplayFault;
 use crate::replaying::fields::after_empty_lines;
 use crate::replaying::perform::perform;
 use crate::replaying::start::start_at;
+use crate::replaying::watched::Watched;
 use crate::world::World;
 use memento_time::NoMemory;
 use std::alloc::Global;
@@ -41,9 +43,8 @@ fn perform_first<'a>(
     world: &mut World,
     text: &'a [u8],
 ) -> Result<Option<(Vec<u8>, &'a [u8])>, NoMemory>
-    requires { 0 < length text.now }
-    ensures first { IfOk result (λ first. MatchOption first (command_at text.now ≡ None) (λ p. IsFirstPerformed world.old text.now p.0.items p.1.now world.new)) }
-    ensures shorter { IfOk result (λ first. IfSome first (λ p. length p.1.now < length text.now)) }
+    ensures { IfOk result (λ first. MatchOption first (command_at text.now ≡ None)
+        (λ p. IsFirstPerformed world.old text.now p.0.items p.1.now world.new)) }
 {
     let Some((command, rest)) = command_at(alloc, text)? else {
         return Ok(None);
@@ -58,10 +59,12 @@ fn replay_commands<W: Write>(
     world: &mut World,
     script: &[u8],
     text: &[u8],
-    writer: &mut W,
+    writer: &mut Watched<W>,
 ) -> Result<(), ReplayFault>
     requires { length text.now ≤ length script.now }
-    ensures { (w : Replicas) → Stands world.old w → ReplaysFrom world.old.base w script.now text.now (W.contents writer.old) (W.contents writer.new) result }
+    ensures replays { (w : Replicas) → Stands world.old w → ReplaysFrom world.old.base w script.now text.now
+        (W.contents writer.old.device) (W.contents writer.new.device) result }
+    ensures writer { BlamesWriter result writer.new.failed }
 {
     // A page is one, so what a failed replay wrote is a beginning of the one output.
     one_page();
@@ -78,8 +81,13 @@ fn replay_commands<W: Write>(
     Ok(())
 }
 
-fn replay_script<W: Write>(alloc: Global, script: &[u8], writer: &mut W) -> Result<(), ReplayFault>
-    ensures { Replays script.now (W.contents writer.old) (W.contents writer.new) result }
+fn replay_script<W: Write>(
+    alloc: Global,
+    script: &[u8],
+    writer: &mut Watched<W>,
+) -> Result<(), ReplayFault>
+    ensures replays { Replays script.now (W.contents writer.old.device) (W.contents writer.new.device) result }
+    ensures writer { BlamesWriter result writer.new.failed }
 {
     let text = after_empty_lines(script);
     if text.is_empty() {
@@ -126,13 +134,18 @@ fn replay_script<W: Write>(alloc: Global, script: &[u8], writer: &mut W) -> Resu
 /// - `NoMemory`: the allocator refused a growth.
 ///
 /// Where reader and writer tell their bytes, what is written is the one output of the script; nothing after `Read`, and
-/// after `Write` and `NoMemory` a beginning of it.
+/// after `Write` and `NoMemory` a beginning of it. `Watched` carries the marks by which `Read` and `Write` are known to be
+/// the devices' doing: hand in devices whose marks are clear, as `Watched::new` makes them.
 pub fn replay<R: Read, W: Write>(
     alloc: Global,
-    reader: &mut R,
-    writer: &mut W,
+    reader: &mut Watched<R>,
+    writer: &mut Watched<W>,
 ) -> Result<(), ReplayFault>
-    ensures { IfSome (R.remaining reader.old) (λ script. Replays script (W.contents writer.old) (W.contents writer.new) result) }
+    ensures output { IfSome (R.remaining reader.old.device) (λ script.
+        Replays script (W.contents writer.old.device) (W.contents writer.new.device) result) }
+    ensures read { reader.old.reads ≡ 0 → result ≡ Err ReplayFault.Read →
+        (reader.new.failed ≡ true) ⊎ (1000000000 ≤ reader.new.reads) }
+    ensures write { result ≡ Err ReplayFault.Write → writer.new.failed ≡ true }
 {
     let script = read_all(alloc, reader)?;
     replay_script(alloc, &script, writer)

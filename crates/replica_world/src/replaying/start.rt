@@ -1,19 +1,20 @@
 //! The first line of a script.
-ghost use Rattle.std.specs.Prelude.{◌≡◌, ◌<◌, ◌≤◌, IfOk, IfSome, length, None, option_copied};
+ghost use Rattle.std.specs.Prelude.{◌≡◌, ◌≤◌, IfOk, IfSome};
 ghost use Rattle.std.specs.Option.{option_map, option_and_then};
 ghost use Rattle.timemap_writer.specs.Service.{base_of};
 ghost use Rattle.replica_world.specs.Fields.{utf8_text};
 ghost use Rattle.replica_world.specs.Script.{replicas_of, service_of, start_of, start_at};
 ghost use Rattle.replica_world.specs.Spelled.{start_view};
 
-use crate::replaying::fields::{cut, line, number_field, utf8_text};
+use crate::replaying::fields::{line, number_field, utf8_text};
 use memento_time::NoMemory;
 use std::alloc::Global;
+use text_fields::next_field;
 use timemap_writer::{Service, ServiceFault};
 
 const MOST_REPLICAS: u64 = 16;
 
-/// So many replicas of a service.
+/// The number of replicas, and their service.
 #[derive(Debug, Drop)]
 pub struct Start {
     pub replicas: usize,
@@ -40,7 +41,7 @@ fn replicas_in(line: &[u8]) -> Option<(u64, &[u8])>
     ensures some { IfSome result (λ p. 1 ≤ p.0) }
     ensures few { IfSome result (λ p. p.0 ≤ 16) }
 {
-    let (word, fields) = cut(line, b' ')?;
+    let (word, fields) = next_field(line)?;
     let (replicas, base) = number_field(fields)?;
     if word != b"replicas".as_slice() || replicas == 0 || replicas > MOST_REPLICAS {
         return None;
@@ -70,11 +71,9 @@ fn start_in(alloc: Global, line: &[u8]) -> Result<Option<Start>, NoMemory>
 /// What the first line of a text says, and the text behind it. None where the line is bad.
 #[tactic(auto, unfolding(crate::specs::Script::start_at))]
 pub fn start_at(alloc: Global, text: &[u8]) -> Result<Option<(Start, &[u8])>, NoMemory>
-    requires { 0 < length text.now }
     ensures found { IfOk result (λ found. option_map (λ p. (start_view p.0, p.1.now)) found ≡ start_at text.now) }
     ensures some { IfOk result (λ found. IfSome found (λ p. 1 ≤ p.0.replicas)) }
     ensures few { IfOk result (λ found. IfSome found (λ p. p.0.replicas ≤ 16)) }
-    ensures shorter { IfOk result (λ found. IfSome found (λ p. length p.1.now < length text.now)) }
 {
     let Some((line, rest)) = line(text) else {
         return Ok(None);

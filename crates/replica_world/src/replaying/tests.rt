@@ -1,5 +1,6 @@
 use crate::replaying::fault::ReplayFault;
 use crate::replaying::run::replay;
+use crate::replaying::watched::Watched;
 use std::io;
 use std::io::{Error, ErrorKind, Read, Write};
 use std::test::Fail;
@@ -160,10 +161,10 @@ impl Write for FailingWriter<'_> {
 }
 
 fn says(rt: &HostRuntime, script: &[u8], wanted: &[u8]) -> Result<bool, Fail> {
-    let mut reader = script;
-    let mut output = Vec::new(rt.alloc());
-    replay(rt.alloc(), &mut reader, &mut output)?;
-    Ok(output.as_slice() == wanted)
+    let mut reader = Watched::new(script);
+    let mut writer = Watched::new(Vec::new(rt.alloc()));
+    replay(rt.alloc(), &mut reader, &mut writer)?;
+    Ok(writer.device.as_slice() == wanted)
 }
 
 #[test]
@@ -177,10 +178,10 @@ fn scripts(rt: HostRuntime) -> Result<(), Fail> {
 
 // The number of the bad line, where just this was written before.
 fn bad_line(rt: &HostRuntime, script: &[u8], wanted: &[u8]) -> Option<u64> {
-    let mut reader = script;
-    let mut output = Vec::new(rt.alloc());
-    match replay(rt.alloc(), &mut reader, &mut output) {
-        Err(ReplayFault::BadLine { number }) if output.as_slice() == wanted => Some(number),
+    let mut reader = Watched::new(script);
+    let mut writer = Watched::new(Vec::new(rt.alloc()));
+    match replay(rt.alloc(), &mut reader, &mut writer) {
+        Err(ReplayFault::BadLine { number }) if writer.device.as_slice() == wanted => Some(number),
         _ => None,
     }
 }
@@ -210,10 +211,11 @@ fn many_reads(rt: HostRuntime) -> Result<(), Fail> {
     let lines = vec![in rt.alloc(); b'\n'; 1_000_001]?;
     let rest = lines.as_slice();
     let reads = 1_000_002;
-    let mut output = Vec::new(rt.alloc());
-    let result = replay(rt.alloc(), &mut FailingReader { rest, reads }, &mut output);
+    let mut reader = Watched::new(FailingReader { rest, reads });
+    let mut writer = Watched::new(Vec::new(rt.alloc()));
+    let result = replay(rt.alloc(), &mut reader, &mut writer);
     assert_eq!(rt; result, Ok(()));
-    assert!(rt; output.is_empty());
+    assert!(rt; writer.device.is_empty());
     Ok(())
 }
 
@@ -221,21 +223,18 @@ fn many_reads(rt: HostRuntime) -> Result<(), Fail> {
 fn failing_devices(rt: HostRuntime) -> Result<(), Fail> {
     for reads in 0..=EXCHANGE.len() {
         let rest = EXCHANGE;
-        let mut reader = FailingReader { rest, reads };
-        let mut output = Vec::new(rt.alloc());
-        let result = replay(rt.alloc(), &mut reader, &mut output);
+        let mut reader = Watched::new(FailingReader { rest, reads });
+        let mut writer = Watched::new(Vec::new(rt.alloc()));
+        let result = replay(rt.alloc(), &mut reader, &mut writer);
         assert_eq!(rt; result, Err(ReplayFault::Read));
-        assert!(rt; output.is_empty());
+        assert!(rt; writer.device.is_empty());
     }
     for writes in 0..=EXCHANGE_SAYS.len() {
-        let mut reader = EXCHANGE;
+        let mut reader = Watched::new(EXCHANGE);
         let mut output = Vec::new(rt.alloc());
         let bytes = &mut output;
-        let result = replay(
-            rt.alloc(),
-            &mut reader,
-            &mut FailingWriter { bytes, writes },
-        );
+        let mut writer = Watched::new(FailingWriter { bytes, writes });
+        let result = replay(rt.alloc(), &mut reader, &mut writer);
         let ended = writes == EXCHANGE_SAYS.len();
         assert_eq!(rt; result.is_ok(), ended);
         assert!(rt; ended || result == Err(ReplayFault::Write));

@@ -16,6 +16,14 @@ pub fn refused(alloc: Global, why: &str) -> Result<Vec<u8>, NoMemory>
     Ok(text.into_bytes())
 }
 
+/// The line of a refused event.
+fn refusal_line(alloc: Global, why: Refused) -> Result<Vec<u8>, NoMemory>
+    ensures { IfOk result (λ text. text.items ≡ refusal_line why) }
+{
+    let text = format!(in alloc; "refused {why}\n")?;
+    Ok(text.into_bytes())
+}
+
 /// The line of a page that was taken.
 pub fn taken_line(alloc: Global, page: &Page) -> Result<Vec<u8>, NoMemory>
     ensures { IfOk result (λ text. text.items ≡ taken_line page.now) }
@@ -87,9 +95,7 @@ pub fn answer_text(
         Ok(Said::Taken | Said::Joined | Said::Restarted) => Ok(Vec::from_slice(alloc, accepted)?),
         Ok(Said::Sent(count)) => counted(alloc, "sent", *count as u64),
         Ok(Said::Replied(reply)) => reply_text(alloc, reply),
-        Err(Refused::NoReplica) => refused(alloc, "no replica"),
-        Err(Refused::NoMessage) => refused(alloc, "no message"),
-        Err(Refused::BadState) => refused(alloc, "bad state"),
         Err(Refused::NoMemory) => Err(NoMemory),
+        Err(why) => refusal_line(alloc, *why),
     }
 }

@@ -2,6 +2,8 @@ use Rattle.std.proofs.Common.{◌<◌, ◌∙◌, Err, length, arith, ap}
 use Rattle.std.proofs.lemmas.Result.{err_from_is_err_and}
 use Rattle.replica_world.specs.declared.replaying.fault.ReplayFault.{ReplayFault}
 use Rattle.replica_world.proofs.Progress.{progress_start, progress_end, progress_bad, progress_next, progress_out_of_memory, progress_cut, some_left, none_left}
+use Rattle.replica_world.proofs.WholeScript.{first_shorter}
+use Rattle.replica_world.proofs.Written.{blamed}
 use Rattle.replica_world.proofs.replaying.run.replay_commands.Goals as goal
 
 pub commands-init : goal.commands-init
@@ -10,30 +12,43 @@ commands-init g c = record {
   progress = λ w stands. progress_start w _ _ _ _ stands c.after_empty_lines-rest.ensures.text c.after_empty_lines-rest.ensures.within;
 }
 
-pub returns-in_err-said : goal.returns-in_err-said
-returns-in_err-said g c = λ w stands.
+pub returns-in_err-said-clause-replays : goal.returns-in_err-said-clause-replays
+returns-in_err-said-clause-replays g c = λ w stands.
     let p = err_from_is_err_and c.from_residual.result c.from_residual.ensures.1 in
     progress_out_of_memory c.one_page.ensures _ _ _ _ _ _ _ _ _ (c.commands.invariant.progress w stands) (p.1 ∙ ap (λ (e : ReplayFault). Err e) p.2)
 
-pub returns-in_default : goal.returns-in_default
-returns-in_default g c = λ w stands.
-    progress_bad _ _ _ _ _ _ _ _ _ (c.commands.invariant.progress w stands) (some_left _ _ c.is_empty.ensures c.commands-test.true) (rw c.in_default.is at c.in_ok-said.ensures.first) c.number_of_line.ensures
+pub returns-in_default-clause-replays : goal.returns-in_default-clause-replays
+returns-in_default-clause-replays g c = λ w stands.
+    progress_bad _ _ _ _ _ _ _ _ _ (c.commands.invariant.progress w stands) (some_left _ _ c.is_empty.ensures c.commands-test.true) (rw c.in_default.is at c.in_ok-said.ensures) c.number_of_line.ensures
 
-pub returns-in_err-write_whole : goal.returns-in_err-write_whole
-returns-in_err-write_whole g c = λ w stands.
+pub returns-in_err-write_whole-clause-replays : goal.returns-in_err-write_whole-clause-replays
+returns-in_err-write_whole-clause-replays g c = λ w stands.
     let p = err_from_is_err_and c.from_residual-in_err-write_whole.result c.from_residual-in_err-write_whole.ensures.1 in
     progress_cut c.one_page.ensures _ _ _ _ _ _ _ _ _ _ _ _ _ _ (c.commands.invariant.progress w stands) (some_left _ _ c.is_empty.ensures c.commands-test.true)
-    (rw c.in-Some.is at c.in_ok-said.ensures.first) (rw c.in-Some.is at c.in_ok-said.ensures.shorter) c.deref.ensures.value c.in_err-write_whole.ensures.err
+    (rw c.in-Some.is at c.in_ok-said.ensures) (first_shorter _ _ _ _ _ (rw c.in-Some.is at c.in_ok-said.ensures)) c.deref.ensures.value c.in_err-write_whole.ensures.err
     (rw (p.1, p.2) c.in_err-write_whole.ensures.write)
 
 pub commands-preserved : goal.commands-preserved
 commands-preserved g c =
-    let shorter : length c.in-Some.after.now < length c.commands.rest.now = rw c.in-Some.is at c.in_ok-said.ensures.shorter in
+    let shorter : length c.in-Some.after.now < length c.commands.rest.now = first_shorter _ _ _ _ _ (rw c.in-Some.is at c.in_ok-said.ensures) in
     record {
       within = omega (arith, shorter, c.commands.invariant.within);
       progress = λ w stands.
-          progress_next _ _ _ _ _ _ _ _ _ _ _ _ (c.commands.invariant.progress w stands) (some_left _ _ c.is_empty.ensures c.commands-test.true) (rw c.in-Some.is at c.in_ok-said.ensures.first) shorter c.deref.ensures.value c.in_ok-write_whole.ensures.ok;
+          progress_next _ _ _ _ _ _ _ _ _ _ _ _ (c.commands.invariant.progress w stands) (some_left _ _ c.is_empty.ensures c.commands-test.true) (rw c.in-Some.is at c.in_ok-said.ensures) shorter c.deref.ensures.value c.in_ok-write_whole.ensures.ok;
     }
 
-pub returns : goal.returns
-returns g c = λ w stands. progress_end _ _ _ _ _ _ _ _ tt (c.commands.invariant.progress w stands) (none_left _ _ c.is_empty.ensures c.commands-test.false)
+pub returns-clause-replays : goal.returns-clause-replays
+returns-clause-replays g c = λ w stands. progress_end _ _ _ _ _ _ _ _ tt (c.commands.invariant.progress w stands) (none_left _ _ c.is_empty.ensures c.commands-test.false)
+
+pub commands-smaller : goal.commands-smaller
+commands-smaller g c = first_shorter _ _ _ _ _ (rw c.in-Some.is at c.in_ok-said.ensures)
+
+pub returns-in_err-said-clause-writer : goal.returns-in_err-said-clause-writer
+returns-in_err-said-clause-writer g c =
+    let p = err_from_is_err_and c.from_residual.result c.from_residual.ensures.1 in
+    rw (p.1, p.2) tt
+
+pub returns-in_err-write_whole-clause-writer : goal.returns-in_err-write_whole-clause-writer
+returns-in_err-write_whole-clause-writer g c =
+    let p = err_from_is_err_and c.from_residual-in_err-write_whole.result c.from_residual-in_err-write_whole.ensures.1 in
+    blamed _ _ (rw (p.1, p.2) c.in_err-write_whole.ensures.write) c.in_err-write_whole.ensures.failed

@@ -7,7 +7,7 @@ use Rattle.replica_world.proofs.replaying.run.replay_commands.Given as goal
 abbrev pub invariant-commands : goal.invariant-commands
 invariant-commands g l = record {
   within : length l.rest ≤ length l.script;
-  progress : (w : World) → Stands l.fn.world w → Progress l.fn.world.base w l.text l.world l.rest (g.W.Write.contents l.fn.writer) (g.W.Write.contents l.writer);
+  progress : (w : World) → Stands l.fn.world w → Progress l.fn.world.base w l.text l.world l.rest (g.W.Write.contents l.fn.writer.device) (g.W.Write.contents l.writer.device);
 }
 
 abbrev pub decreases-commands : goal.decreases-commands

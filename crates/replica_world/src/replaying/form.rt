@@ -1,0 +1,168 @@
+//! The lines of commands: what each says. How they are spelled is said at `replay`.
+ghost use Rattle.std.specs.Prelude.{◌≡◌};
+ghost use Rattle.std.specs.Option.{option_map};
+ghost use Rattle.replica_world.specs.Form.{take_of, map_of, gate_of, ask_of, send_of, deliver_of, receive_of, restart_of};
+ghost use Rattle.replica_world.specs.Form.{named, form_of};
+ghost use Rattle.replica_world.specs.Spelled.{form_view};
+
+use crate::replaying::fields::{are_visible, number_field, word_field};
+use text_fields::{next_field, read_decimal};
+
+/// The most values of `Accept-Datetime` that an `ask` may give.
+const MOST_ASKED: u64 = 16;
+
+/// What the line of a command says.
+#[derive(Clone, Copy, Debug)]
+pub enum Form<'a> {
+    Take(TakeForm<'a>),
+    Map(u64, &'a [u8]),
+    Gate(u64, &'a [u8]),
+    /// A `gate` with the asked datetime behind the original.
+    GateAt(u64, &'a [u8], &'a [u8]),
+    Ask(AskForm<'a>),
+    Send(u64),
+    Deliver(u64, u64),
+    Receive(u64, u64),
+    Restart(u64),
+}
+
+/// `take I ARCHIVE REVISION PAGEURL LENGTH ORIGINAL`.
+#[derive(Clone, Copy, Debug)]
+pub struct TakeForm<'a> {
+    pub replica: u64,
+    pub archive: &'a [u8],
+    pub revision: u64,
+    pub address: &'a [u8],
+    pub len: u64,
+    pub original: &'a [u8],
+}
+
+/// `ask I METHOD COUNT TARGET`.
+#[derive(Clone, Copy, Debug)]
+pub struct AskForm<'a> {
+    pub replica: u64,
+    pub method: &'a [u8],
+    pub count: u64,
+    pub target: &'a [u8],
+}
+
+#[tactic(auto, unfolding(crate::specs::Form::take_of))]
+fn take(fields: &[u8]) -> Option<Form<'_>>
+    ensures { option_map form_view result ≡ take_of fields.now }
+{
+    let (replica, fields) = number_field(fields)?;
+    let (archive, fields) = word_field(fields)?;
+    let (revision, fields) = number_field(fields)?;
+    let (address, fields) = word_field(fields)?;
+    let (len, original) = number_field(fields)?;
+    Some(Form::Take(TakeForm {
+        replica,
+        archive,
+        revision,
+        address,
+        len,
+        original,
+    }))
+}
+
+#[tactic(auto, unfolding(crate::specs::Form::map_of))]
+fn map(fields: &[u8]) -> Option<Form<'_>>
+    ensures { option_map form_view result ≡ map_of fields.now }
+{
+    let (replica, original) = number_field(fields)?;
+    Some(Form::Map(replica, original))
+}
+
+#[tactic(auto, unfolding(crate::specs::Form::gate_of))]
+fn gate(fields: &[u8]) -> Option<Form<'_>>
+    ensures { option_map form_view result ≡ gate_of fields.now }
+{
+    let (replica, fields) = number_field(fields)?;
+    match next_field(fields) {
+        None => Some(Form::Gate(replica, fields)),
+        Some((original, asked)) => Some(Form::GateAt(replica, original, asked)),
+    }
+}
+
+#[tactic(auto, unfolding(crate::specs::Form::ask_of))]
+fn ask(fields: &[u8]) -> Option<Form<'_>>
+    ensures { option_map form_view result ≡ ask_of fields.now }
+{
+    let (replica, fields) = number_field(fields)?;
+    let (method, fields) = word_field(fields)?;
+    let (count, target) = number_field(fields)?;
+    if !are_visible(method) || count > MOST_ASKED {
+        return None;
+    }
+    Some(Form::Ask(AskForm {
+        replica,
+        method,
+        count,
+        target,
+    }))
+}
+
+#[tactic(auto, unfolding(crate::specs::Form::send_of))]
+fn send(fields: &[u8]) -> Option<Form<'_>>
+    ensures { option_map form_view result ≡ send_of fields.now }
+{
+    Some(Form::Send(read_decimal(fields)?))
+}
+
+#[tactic(auto, unfolding(crate::specs::Form::deliver_of))]
+fn deliver(fields: &[u8]) -> Option<Form<'_>>
+    ensures { option_map form_view result ≡ deliver_of fields.now }
+{
+    let (replica, message) = number_field(fields)?;
+    Some(Form::Deliver(replica, read_decimal(message)?))
+}
+
+#[tactic(auto, unfolding(crate::specs::Form::receive_of))]
+fn receive(fields: &[u8]) -> Option<Form<'_>>
+    ensures { option_map form_view result ≡ receive_of fields.now }
+{
+    let (replica, len) = number_field(fields)?;
+    Some(Form::Receive(replica, read_decimal(len)?))
+}
+
+#[tactic(auto, unfolding(crate::specs::Form::restart_of))]
+fn restart(fields: &[u8]) -> Option<Form<'_>>
+    ensures { option_map form_view result ≡ restart_of fields.now }
+{
+    Some(Form::Restart(read_decimal(fields)?))
+}
+
+/// The form that a line names by its first word.
+#[tactic(auto, unfolding(crate::specs::Form::named))]
+fn named<'a>(word: &[u8], fields: &'a [u8]) -> Option<Form<'a>>
+    ensures { option_map form_view result ≡ named word.now fields.now }
+{
+    if word == b"take".as_slice() {
+        take(fields)
+    } else if word == b"map".as_slice() {
+        map(fields)
+    } else if word == b"gate".as_slice() {
+        gate(fields)
+    } else if word == b"ask".as_slice() {
+        ask(fields)
+    } else if word == b"send".as_slice() {
+        send(fields)
+    } else if word == b"deliver".as_slice() {
+        deliver(fields)
+    } else if word == b"receive".as_slice() {
+        receive(fields)
+    } else if word == b"restart".as_slice() {
+        restart(fields)
+    } else {
+        None
+    }
+}
+
+/// What a line says. None where it is no command.
+#[tactic(auto, unfolding(crate::specs::Form::form_of))]
+pub fn read_form(line: &[u8]) -> Option<Form<'_>>
+    ensures { option_map form_view result ≡ form_of line.now }
+{
+    let (word, fields) = next_field(line)?;
+    named(word, fields)
+}
