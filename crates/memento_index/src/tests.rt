@@ -202,24 +202,30 @@ fn a_refused_merge_changes_nothing(rt: HostRuntime) -> Result<(), Fail> {
     Ok(())
 }
 
+// The place that is found in the list of an original, and how many datetimes were asked for.
+fn probe(index: &Index, original: &Original, asked: Moment) -> (Option<usize>, u64) {
+    let mut probed = Probed::new(index.list(original));
+    let place = nearest_in(&mut probed, asked);
+    (place, probed.probes())
+}
+
 #[test]
 fn nearest_in_asks_few_datetimes(rt: HostRuntime) -> Result<(), Fail> {
     let alloc = rt.alloc();
     let root = Original::new(alloc, b"http://a.example/")?;
     let index = indexed(alloc, &[("a1", 1, &[FIRST, SECOND, THIRD])])?;
-    let asked = Moment::from_secs(SECOND.0).ok_or("a second")?;
-    let mut probed = Probed::new(index.list(&root));
-    assert!(rt; nearest_in(&mut probed, asked) == Some(1));
-    assert!(rt; probed.probes() <= 6);
+    let second = Moment::from_secs(SECOND.0).ok_or("a second")?;
     let middle = Moment::from_secs(946_771_200).ok_or("a second")?;
-    let mut probed = Probed::new(index.list(&root));
-    assert!(rt; nearest_in(&mut probed, middle) == Some(0));
-    assert!(rt; probed.len() == 3);
-    assert!(rt; probed.probes() <= 6);
-    let none = Index::new(alloc);
-    let mut probed = Probed::new(none.list(&root));
-    assert!(rt; nearest_in(&mut probed, asked).is_none());
-    assert!(rt; probed.probes() <= 2);
+    for (asked, named) in [(second, 1), (middle, 0)] {
+        let (place, probes) = probe(&index, &root, asked);
+        assert!(rt; place == Some(named));
+        assert!(rt; probes <= 6);
+    }
+    let (place, probes) = probe(&Index::new(alloc), &root, second);
+    assert!(rt; place.is_none());
+    assert!(rt; probes <= 2);
+    let list = mementos(alloc, &[FIRST, SECOND])?;
+    assert!(rt; Probed::new(&list).len() == 2);
     Ok(())
 }
 

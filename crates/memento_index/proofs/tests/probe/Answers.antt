@@ -1,0 +1,11 @@
+use Rattle.std.proofs.Common.{List, sym, ap, subst, ◌∙◌}
+use Rattle.std.specs.List.Sorted.{IsStrictlySortedBy}
+use Rattle.memento_time.specs.Mementos.{memento_cmp}
+use Rattle.memento_time.specs.declared.mementos.Memento.{Memento}
+use Rattle.harvest_lattice.specs.Knowledge.{shown_of}
+use Rattle.harvest_lattice.proofs.Sets.{items_sorted}
+use Rattle.memento_index.specs.Probes.{Lent}
+use Rattle.memento_index.proofs.tests.probe.Goals as goal
+
+pub nearest_in-place-requires-clause-in_order : goal.nearest_in-place-requires-clause-in_order
+nearest_in-place-requires-clause-in_order c = subst (λ (ms : List Memento). IsStrictlySortedBy memento_cmp ms) (sym (ap (λ (l : Lent). l.list) c.new-probed.ensures ∙ c.list.ensures.list)) (items_sorted memento_cmp (shown_of c.args.index.now c.args.original.now))
