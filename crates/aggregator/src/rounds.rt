@@ -3,9 +3,9 @@ ghost use Rattle.std.specs.Prelude.{◌≤◌, All};
 ghost use Rattle.harvester.specs.Answers.{HasFirstUrl};
 
 use crate::settings::Settings;
-use memento_index::Merge;
 use harvester::{Job, Outcome, have_first_urls, run_round};
 use hyper_edge::{HyperFetch, pull_state};
+use memento_index::Merge;
 use memento_time::{ArchiveName, Clean, Original};
 use published_index::Merger;
 use std::alloc::{AllocGlobal, Global};
