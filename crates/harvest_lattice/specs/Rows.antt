@@ -16,7 +16,7 @@ row_key row = (row.archive, row.original)
 
 -- a row as an entry
 abbrev pub row_entry : Row → Key × Kept
-row_entry row = (row_key row, row.latest)
+row_entry row = (row_key row, row.entry)
 
 -- the rows' keys rise
 abbrev pub RowsRise : List Row → Type 0
@@ -39,6 +39,10 @@ mementos_rise ms = fmap.is_sorted memento_cmp (set.marked ms)
 -- the keys stand in order, each once
 abbrev pub keys_rise : List (Key × Kept) → Bool
 keys_rise es = fmap.is_sorted key_cmp es
+
+-- the set of these mementos, where they stand in order
+abbrev pub mementos_with : List Memento → Option (set.Set memento_cmp)
+mementos_with ms = cond (mementos_rise ms) (Some (set.from_list ms)) None
 
 -- these mementos at the revision, where they stand in order
 abbrev pub kept_with : ℕ → List Memento → Option Kept

@@ -3,7 +3,7 @@ ghost use Rattle.std.specs.Prelude.{◌≡◌, ℕ, List, IsSome, IfOk, OnOk, op
 ghost use Rattle.std.specs.FinMap as map;
 ghost use Rattle.harvest_lattice.specs.Shelves.{filled};
 
-use crate::latest::Latest;
+use crate::entry::Entry;
 use memento_time::{NoMemory, Original};
 use std::alloc::Global;
 use std::collections::btree_map::{BTreeMap, Iter};
@@ -13,7 +13,7 @@ use std::marker::Model;
 // before a change, so that the change can't be refused.
 #[derive(Debug, Drop)]
 pub struct Shelf {
-    slots: BTreeMap<Original, Option<Latest>>,
+    slots: BTreeMap<Original, Option<Entry>>,
 }
 
 impl Model for Shelf {
@@ -40,7 +40,7 @@ impl Shelf {
         }
     }
 
-    pub fn held(&self, original: &Original) -> Option<&Latest>
+    pub fn held(&self, original: &Original) -> Option<&Entry>
         ensures { option_copied result ≡ filled (map.get self.now original.now) }
     {
         self.slots.get(original)?.as_ref()
@@ -60,17 +60,17 @@ impl Shelf {
     }
 
     // Fills a slot that is there, and gives what it held.
-    pub fn fill(&mut self, original: &Original, latest: Latest) -> Option<Latest>
+    pub fn fill(&mut self, original: &Original, entry: Entry) -> Option<Entry>
         requires { IsSome (map.get self.old original.now) }
         ensures before { result ≡ filled (map.get self.old original.now) }
-        ensures after { self.new ≡ map.insert self.old original.now (Some latest) }
+        ensures after { self.new ≡ map.insert self.old original.now (Some entry) }
     {
         let slot = self.slots.get_mut(original)?;
-        slot.replace(latest)
+        slot.replace(entry)
     }
 
     // The slots by original.
-    pub fn iter(&self) -> Iter<'_, Original, Option<Latest>>
+    pub fn iter(&self) -> Iter<'_, Original, Option<Entry>>
         ensures { result ≡ map.entries self.now }
     {
         self.slots.iter()

@@ -10,7 +10,7 @@ ghost use Rattle.harvest_lattice.specs.Lattice.{Key, key_cmp};
 ghost use Rattle.harvest_lattice.specs.Rows.{row_key, row_entry, put_all};
 ghost use Rattle.harvest_lattice.specs.Shelves.{filled, slot, entries_of};
 
-use crate::latest::Latest;
+use crate::entry::Entry;
 use crate::row::Row;
 use crate::shelf::Shelf;
 use memento_time::{ArchiveName, NoMemory, Original};
@@ -24,7 +24,7 @@ pub fn held<'a>(
     shelves: &'a Shelves,
     archive: ArchiveName,
     original: &Original,
-) -> Option<&'a Latest>
+) -> Option<&'a Entry>
     ensures { option_copied result ≡ filled (slot shelves.now (archive, original.now)) }
 {
     shelves.get(&archive)?.held(original)
@@ -78,21 +78,21 @@ pub fn make_rooms(shelves: &mut Shelves, alloc: Global, rows: &[Row]) -> Result<
 }
 
 // Fills the slot of a row's key, which is there, and gives what it held.
-pub fn fill(shelves: &mut Shelves, row: Row) -> Option<Latest>
+pub fn fill(shelves: &mut Shelves, row: Row) -> Option<Entry>
     requires ordered { IsOrdered text_cmp shelves.old }
     requires room { IsSome (slot shelves.old (row_key row)) }
     ensures before { result ≡ filled (slot shelves.old (row_key row)) }
     ensures after { (k : Key)
-        → slot shelves.new k ≡ cond (eq_by_cmp key_cmp k (row_key row)) (Some (Some row.latest)) (slot shelves.old k) }
+        → slot shelves.new k ≡ cond (eq_by_cmp key_cmp k (row_key row)) (Some (Some row.entry)) (slot shelves.old k) }
     ensures ordered { IsOrdered text_cmp shelves.new }
 {
     let Row {
         archive,
         original,
-        latest,
+        entry,
     } = row;
     let shelf = shelves.get_mut(&archive)?;
-    shelf.fill(&original, latest)
+    shelf.fill(&original, entry)
 }
 
 // Fills the slots of the rows' keys, which are there, and gives how many were empty.

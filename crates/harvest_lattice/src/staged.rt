@@ -12,7 +12,7 @@ ghost use Rattle.harvest_lattice.specs.Lists.{AreLists};
 ghost use Rattle.harvest_lattice.specs.Rows.{row_entry, row_key, put_all, or_else, RowsRise};
 ghost use Rattle.harvest_lattice.specs.Shelves.{filled, slot, entries_of};
 
-use crate::latest::Latest;
+use crate::entry::Entry;
 use crate::lists::Lists;
 use crate::mementos::{append_copies, in_order};
 use crate::place::place;
@@ -29,12 +29,12 @@ fn standing<'a>(
     archive: ArchiveName,
     shelf: &'a Shelf,
     original: &Original,
-) -> Option<&'a Latest>
+) -> Option<&'a Entry>
     requires { RowsRise rows.now }
     ensures { option_copied result ≡ or_else (map.find key_cmp (archive, original.now) (map_list row_entry rows.now)) (filled (map.get shelf.now original.now)) }
 {
     match place(rows, archive, original) {
-        Ok(at) => Some(&rows[at].latest),
+        Ok(at) => Some(&rows[at].entry),
         Err(_) => shelf.held(original),
     }
 }
@@ -53,8 +53,8 @@ pub fn shown_with(
 {
     let mut all = Vec::new(alloc);
     for (archive, shelf) in shelves {
-        if let Some(latest) = standing(rows, *archive, shelf, original) {
-            append_copies(&mut all, latest.mementos())?;
+        if let Some(entry) = standing(rows, *archive, shelf, original) {
+            append_copies(&mut all, entry.mementos())?;
         }
     }
     let list = in_order(all)?;

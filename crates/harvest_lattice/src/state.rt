@@ -12,10 +12,10 @@ ghost use Rattle.harvest_lattice.specs.News.{IsNews, IsNoted, news_at};
 ghost use Rattle.harvest_lattice.specs.Rows.{row_entry, map_with, put_all, RowsRise, IsStaged};
 
 use crate::changes::Changes;
+use crate::entry::{Entry, EntryRef};
 use crate::harvest::Harvest;
-use crate::latest::Latest;
 use crate::lists::Lists;
-use crate::row::{Entry, Row, rows_rise};
+use crate::row::{Row, rows_rise};
 use crate::shelves::{Shelves, fill_all, held, make_rooms};
 use crate::staged::{lists_with, shown_with};
 use crate::walk::Rows;
@@ -98,7 +98,7 @@ impl State {
             &mut rows,
             harvest.archive(),
             harvest.original(),
-            harvest.latest(),
+            harvest.entry(),
         )?;
         Ok(rows)
     }
@@ -123,7 +123,7 @@ impl State {
         let mut rows = Vec::new(self.alloc);
         for row in other.rows() {
             let ((archive, original), entry) = row;
-            self.stage(&mut rows, archive, original, entry.latest())?;
+            self.stage(&mut rows, archive, original, entry.entry())?;
         }
         Ok(rows)
     }
@@ -135,7 +135,7 @@ impl State {
         let mut rows = Vec::new(self.alloc);
         for row in other.rows() {
             let ((archive, original), entry) = row;
-            self.note(&mut rows, archive, original, entry.latest())?;
+            self.note(&mut rows, archive, original, entry.entry())?;
         }
         Ok(Changes::of(rows))
     }
@@ -149,7 +149,7 @@ impl State {
             &mut rows,
             harvest.archive(),
             harvest.original(),
-            harvest.latest(),
+            harvest.entry(),
         )?;
         Ok(Changes::of(rows))
     }
@@ -160,9 +160,9 @@ impl State {
         rows: &mut Vec<Row>,
         archive: ArchiveName,
         original: &Original,
-        latest: &Latest,
+        entry: &Entry,
     ) -> Result<(), NoMemory>
-        ensures { OnOk result (IsNoted self.now ((archive, original.now), latest.now) rows.old.items rows.new.items) }
+        ensures { OnOk result (IsNoted self.now ((archive, original.now), entry.now) rows.old.items rows.new.items) }
     {
         if !self.has_at_least(archive, original, latest) {
             let latest = self.news(archive, original, latest)?;
@@ -180,12 +180,12 @@ impl State {
         &self,
         archive: ArchiveName,
         original: &Original,
-        latest: &Latest,
-    ) -> Result<Latest, NoMemory>
-        ensures { IfOk result (λ l. l ≡ news_at (map.get self.now (archive, original.now)) latest.now) }
+        entry: &Entry,
+    ) -> Result<Entry, NoMemory>
+        ensures { IfOk result (λ l. l ≡ news_at (map.get self.now (archive, original.now)) entry.now) }
     {
         match self.entry(archive, original) {
-            Some(entry) => latest.news(self.alloc, entry.latest()),
+            Some(entry) => latest.news(self.alloc, entry.entry()),
             None => latest.try_clone(),
         }
     }
@@ -207,9 +207,9 @@ impl State {
         rows: &mut Vec<Row>,
         archive: ArchiveName,
         original: &Original,
-        latest: &Latest,
+        entry: &Entry,
     ) -> Result<(), NoMemory>
-        ensures { OnOk result (IsStaged self.now ((archive, original.now), latest.now) rows.old.items rows.new.items) }
+        ensures { OnOk result (IsStaged self.now ((archive, original.now), entry.now) rows.old.items rows.new.items) }
     {
         if !self.has_at_least(archive, original, latest) {
             rows.push(self.joined_row(archive, original, latest)?)?;
@@ -222,9 +222,9 @@ impl State {
         &self,
         archive: ArchiveName,
         original: &Original,
-        latest: &Latest,
+        entry: &Entry,
     ) -> Result<Row, NoMemory>
-        ensures { IfOk result (λ row. row_entry row ≡ joined_with self.now ((archive, original.now), latest.now)) }
+        ensures { IfOk result (λ row. row_entry row ≡ joined_with self.now ((archive, original.now), entry.now)) }
     {
         let latest = self.joined_latest(archive, original, latest)?;
         let original = original.try_clone()?;
@@ -239,9 +239,9 @@ impl State {
         &self,
         archive: ArchiveName,
         original: &Original,
-        latest: &Latest,
-    ) -> Result<Latest, NoMemory>
-        ensures { IfOk result (λ l. l ≡ joined_kept self.now ((archive, original.now), latest.now)) }
+        entry: &Entry,
+    ) -> Result<Entry, NoMemory>
+        ensures { IfOk result (λ l. l ≡ joined_kept self.now ((archive, original.now), entry.now)) }
     {
         match held(&self.shelves, archive, original) {
             Some(mine) => mine.joined(self.alloc, latest),
@@ -270,18 +270,18 @@ impl State {
     {
         for row in self.rows() {
             let ((archive, original), entry) = row;
-            if !other.has_at_least(archive, original, entry.latest()) {
+            if !other.has_at_least(archive, original, entry.entry()) {
                 return false;
             }
         }
         true
     }
 
-    fn has_at_least(&self, archive: ArchiveName, original: &Original, latest: &Latest) -> bool
-        ensures { IsTrue result ↔ IsAtMostAt self.now ((archive, original.now), latest.now) }
+    fn has_at_least(&self, archive: ArchiveName, original: &Original, entry: &Entry) -> bool
+        ensures { IsTrue result ↔ IsAtMostAt self.now ((archive, original.now), entry.now) }
     {
         match self.entry(archive, original) {
-            Some(entry) => latest.le(entry.latest()),
+            Some(entry) => latest.le(entry.entry()),
             None => false,
         }
     }
@@ -296,11 +296,11 @@ impl State {
     }
 
     /// Takes time logarithmic in the number of keys.
-    pub fn entry(&self, archive: ArchiveName, original: &Original) -> Option<Entry<'_>>
+    pub fn entry(&self, archive: ArchiveName, original: &Original) -> Option<EntryRef<'_>>
         ensures { result ≡ map.get self.now (archive, original.now) }
     {
         match held(&self.shelves, archive, original) {
-            Some(latest) => Some(Entry::new(latest)),
+            Some(entry) => Some(EntryRef::new(entry)),
             None => None,
         }
     }

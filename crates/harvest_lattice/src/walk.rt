@@ -6,8 +6,7 @@ ghost use Rattle.std.specs.Map.Iter.{TakesFirst};
 ghost use Rattle.harvest_lattice.specs.Rows.{lent_entry};
 ghost use Rattle.harvest_lattice.specs.Shelves.{all_rows, shelf_rows};
 
-use crate::latest::Latest;
-use crate::row::Entry;
+use crate::entry::{Entry, EntryRef};
 use crate::shelf::Shelf;
 use crate::shelves::Shelves;
 use memento_time::{ArchiveName, Original};
@@ -18,7 +17,7 @@ use std::marker::Model;
 #[derive(Drop)]
 struct ShelfRows<'a> {
     archive: ArchiveName,
-    slots: Iter<'a, Original, Option<Latest>>,
+    slots: Iter<'a, Original, Option<Entry>>,
 }
 
 impl<'a> Model for ShelfRows<'a> {
@@ -46,16 +45,16 @@ impl<'a> ShelfRows<'a> {
 }
 
 impl<'a> Iterator for ShelfRows<'a> {
-    type Item = ((ArchiveName, &'a Original), Entry<'a>);
+    type Item = ((ArchiveName, &'a Original), EntryRef<'a>);
 
     ghost next_gives = { TakesFirst lent_entry };
 
     ghost remaining = { λ rows. at_most (length rows) };
 
-    fn next(&mut self) -> Option<((ArchiveName, &'a Original), Entry<'a>)> {
+    fn next(&mut self) -> Option<((ArchiveName, &'a Original), EntryRef<'a>)> {
         while let Some((original, slot)) = self.slots.next() {
-            if let Some(latest) = slot {
-                return Some(((self.archive, original), Entry::new(latest)));
+            if let Some(entry) = slot {
+                return Some(((self.archive, original), EntryRef::new(entry)));
             }
         }
         None
@@ -95,13 +94,13 @@ impl<'a> Rows<'a> {
 }
 
 impl<'a> Iterator for Rows<'a> {
-    type Item = ((ArchiveName, &'a Original), Entry<'a>);
+    type Item = ((ArchiveName, &'a Original), EntryRef<'a>);
 
     ghost next_gives = { TakesFirst lent_entry };
 
     ghost remaining = { λ rows. at_most (length rows) };
 
-    fn next(&mut self) -> Option<((ArchiveName, &'a Original), Entry<'a>)> {
+    fn next(&mut self) -> Option<((ArchiveName, &'a Original), EntryRef<'a>)> {
         loop {
             if let Some(shelf) = &mut self.shelf {
                 if let Some(row) = shelf.next() {
