@@ -166,6 +166,10 @@ lat-cons h hs = same_entries _ _ (λ k.
 pub get-lat_nil : (k : Key) → fmap.get (lat []) k ≡ None
 get-lat_nil k = get-lat [] k ∙ entry_of-nil k
 
+pub lat-nil : lat [] ≡ fmap.empty
+unfolding lat
+lat-nil = refl
+
 pub join_nil : (x : Entries) → join (lat []) x ≡ x
 join_nil x = same_entries _ _ (λ k. get-join (lat []) x k ∙ ap (λ o. join_values join_kept o (fmap.get x k)) (get-lat_nil k))
 

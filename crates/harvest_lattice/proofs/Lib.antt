@@ -5,14 +5,12 @@ pub mod Entries
 pub mod Knowledge
 pub mod Ordered
 pub mod RowLemmas
-pub mod Shown
-pub mod Choice
-pub mod Places
-pub mod ListLemmas
-pub mod StagedLemmas
+pub mod ShownLemmas
 pub mod Walked
 pub mod Searched
 pub mod ShelfLemmas
 pub mod Rising
 pub mod Made
 pub mod NewsLemmas
+pub mod BackupLemmas
+pub mod UnitedLemmas

@@ -4,8 +4,5 @@ pub mod Lattice
 pub mod Knowledge
 pub mod Rows
 pub mod News
-pub mod Choice
-pub mod Lists
-pub mod Merges
 pub mod Shelves
 pub mod Faults

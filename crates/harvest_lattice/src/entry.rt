@@ -1,11 +1,12 @@
 //! What a state has of one archive and original: nothing outside this file looks inside an entry.
-ghost use Rattle.std.specs.Prelude.{◌≡◌, ◌↔◌, IsTrue, IfOk, OnOk, OnErr, Some, length};
+ghost use Rattle.std.specs.Prelude.{◌≡◌, ◌↔◌, IsTrue, IfOk, OnOk, OnErr, Some};
 ghost use Rattle.harvest_lattice.specs.Sets as set;
 ghost use Rattle.harvest_lattice.specs.Lattice.{join_kept, KeptAtMost};
-ghost use Rattle.harvest_lattice.specs.News.{news_at};
+ghost use Rattle.harvest_lattice.specs.News.{news_at, shows};
 
 use crate::mementos::Mementos;
 use memento_time::{Memento, NoMemory};
+use std::alloc::Global;
 use std::cmp::Ordering;
 use std::marker::Model;
 
@@ -83,6 +84,27 @@ impl Entry {
         })
     }
 
+    /// What begins and what ceases to be shown where another joins this.
+    pub fn shift(&self, alloc: Global, other: &Entry) -> Result<Shift, NoMemory>
+        ensures begins { IfOk result (λ shift. shift.begins ≡ set.minus (shows (join_kept self.now other.now)) (shows self.now)) }
+        ensures ceases { IfOk result (λ shift. shift.ceases ≡ set.minus (shows self.now) (shows (join_kept self.now other.now))) }
+    {
+        match self.revision.cmp(&other.revision) {
+            Ordering::Less => Ok(Shift {
+                begins: other.mementos.without(&self.mementos)?,
+                ceases: self.mementos.without(&other.mementos)?,
+            }),
+            Ordering::Equal => Ok(Shift {
+                begins: other.mementos.without(&self.mementos)?,
+                ceases: Mementos::new(alloc),
+            }),
+            Ordering::Greater => Ok(Shift {
+                begins: Mementos::new(alloc),
+                ceases: Mementos::new(alloc),
+            }),
+        }
+    }
+
     /// The greater revision, with what the two have at it. At one revision it takes time in the number of what comes,
     /// and of those here that stand behind the first of it.
     pub fn join(&mut self, other: Entry) -> Result<(), NoMemory>
@@ -90,15 +112,21 @@ impl Entry {
         ensures err { OnErr result (self.new ≡ self.old) }
     {
         match self.revision.cmp(&other.revision) {
-            Ordering::Less => *self = other,
-            Ordering::Equal => {
-                let Entry { mementos, .. } = other;
-                self.mementos.absorb(mementos)?;
+            Ordering::Less => {
+                *self = other;
+                Ok(())
             }
-            Ordering::Greater => {}
+            Ordering::Equal => self.mementos.absorb(other.mementos),
+            Ordering::Greater => Ok(()),
         }
-        Ok(())
     }
+}
+
+/// What begins and what ceases to be shown where an entry is joined.
+#[derive(Debug, Drop)]
+pub struct Shift {
+    pub begins: Mementos,
+    pub ceases: Mementos,
 }
 
 /// An entry as a state lends it.

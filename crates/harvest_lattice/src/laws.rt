@@ -1,11 +1,10 @@
 //! Laws of the definitions.
-ghost use Rattle.std.specs.Prelude.{◌≡◌, ℕ, ◌+◌, ◌≤◌, ◌++◌, ◌↔◌, List, [], Some, IsTrue, MatchOption};
+ghost use Rattle.std.specs.Prelude.{◌≡◌, ℕ, ◌++◌, ◌↔◌, List, [], Some, IsTrue};
 ghost use Rattle.std.specs.FinMap as map;
 ghost use Rattle.std.specs.List.Sorted.{IsStrictlySortedBy};
 ghost use Rattle.memento_time.specs.Mementos.{memento_cmp};
 ghost use Rattle.memento_time.specs.declared.mementos.Memento.{Memento};
 ghost use Rattle.harvest_lattice.specs.Sets as set;
-ghost use Rattle.harvest_lattice.specs.Choice.{IsNearest, IsLast, distance, nearest, last};
 ghost use Rattle.std.specs.List.{Contains};
 ghost use Rattle.harvest_lattice.specs.Knowledge.{Harvested, IsShown, adds, lat, shown, shown_of};
 ghost use Rattle.harvest_lattice.specs.Lattice.{Entries, Key, Kept, Mementos, AtMost, join};
@@ -30,6 +29,11 @@ pub fn join_is_a_semilattice()
     ensures commutative { (x y : Entries) → join x y ≡ join y x }
     ensures associative { (x y z : Entries) → join (join x y) z ≡ join x (join y z) }
     ensures idempotent { (x : Entries) → join x x ≡ x }
+{}
+
+/// No harvest makes the empty state.
+pub fn state_of_no_harvests()
+    ensures { lat [] ≡ map.empty }
 {}
 
 /// The state of two sets of harvests together is the join of their states.
@@ -57,24 +61,6 @@ pub fn state_shows_the_same()
 pub fn a_state_is_its_rows()
     ensures rows { (rows : List (Key × Kept)) (state : Entries) → map_with rows ≡ Some state ↔ map.entries state ≡ rows }
     ensures entry { (revision : ℕ) (list : List Memento) (kept : Kept) → kept_with revision list ≡ Some kept ↔ (kept.revision ≡ revision) × (set.items kept.mementos ≡ list) }
-{}
-
-/// A distance is what lies between the memento's second and the other, whichever is later.
-pub fn distances_are_between()
-    ensures later { (t : ℕ) (m : Memento) → t ≤ m.at → t + distance t m ≡ m.at }
-    ensures earlier { (t : ℕ) (m : Memento) → m.at ≤ t → m.at + distance t m ≡ t }
-{}
-
-/// There is one nearest memento, unless there is none at all.
-pub fn one_is_nearest()
-    ensures is { (mementos : Mementos) (t : ℕ) → MatchOption (nearest mementos t) (set.items mementos ≡ []) (IsNearest mementos t) }
-    ensures once { (mementos : Mementos) (t : ℕ) (m n : Memento) → IsNearest mementos t m → IsNearest mementos t n → m ≡ n }
-{}
-
-/// There is one last memento, unless there is none at all.
-pub fn one_is_last()
-    ensures is { (mementos : Mementos) → MatchOption (last mementos) (set.items mementos ≡ []) (IsLast mementos) }
-    ensures once { (mementos : Mementos) (m n : Memento) → IsLast mementos m → IsLast mementos n → m ≡ n }
 {}
 
 /// A sorted list of the members of a set, each once, is the one that `items` gives.

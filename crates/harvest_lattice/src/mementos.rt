@@ -1,7 +1,7 @@
 //! Sets of mementos, as lists in order.
-ghost use Rattle.std.specs.Prelude.{◌≡◌, ◌+◌, ◌<◌, ◌≤◌, ◌∷◌, [], ◌++◌, ◌||◌, ◌↔◌, IsTrue, IfOk, OnOk, OnErr, length, reverse, take, vec_len};
+ghost use Rattle.std.specs.Prelude.{◌≡◌, ◌+◌, ◌<◌, ◌≤◌, ◌∷◌, [], ◌++◌, ◌||◌, ◌↔◌, IsTrue, IfOk, OnOk, OnErr, not, length, reverse, take, vec_len};
 ghost use Rattle.std.specs.Vec.{vec_capacity};
-ghost use Rattle.std.specs.List.{list_all, list_any};
+ghost use Rattle.std.specs.List.{filter, list_all, list_any};
 ghost use Rattle.std.specs.List.Sorted.{IsStrictlySortedBy};
 ghost use Rattle.std.specs.Ordering.{eq_by_cmp};
 ghost use Rattle.memento_time.specs.Mementos.{memento_cmp};
@@ -115,19 +115,14 @@ impl Mementos {
     pub fn is_subset(&self, other: &Mementos) -> bool
         ensures { IsTrue result ↔ IsSubset self.now other.now }
     {
-        self.list.iter().all(|memento| other.has(memento))
+        all_in(self.as_slice(), other)
     }
 
     /// Copies of those that the other set lacks.
     pub fn without(&self, other: &Mementos) -> Result<Mementos, NoMemory>
         ensures { IfOk result (λ rest. rest ≡ set.minus self.now other.now) }
     {
-        let mut list = Vec::new(*self.list.allocator());
-        for memento in &self.list {
-            if !other.has(memento) {
-                list.push(memento.try_clone()?)?;
-            }
-        }
+        let list = lacking(*self.list.allocator(), self.as_slice(), other)?;
         Ok(Mementos { list })
     }
 
@@ -152,6 +147,25 @@ fn mementos_rise(list: &[Memento]) -> bool
         }
     }
     true
+}
+
+fn all_in(list: &[Memento], others: &Mementos) -> bool
+    ensures { result ≡ list_all (λ m. set.contains others.now m) list.now }
+{
+    list.iter().all(|memento| others.has(memento))
+}
+
+// Copies of those of a list that a set lacks.
+fn lacking(alloc: Global, list: &[Memento], others: &Mementos) -> Result<Vec<Memento>, NoMemory>
+    ensures { IfOk result (λ rest. rest.items ≡ filter (λ m. not (set.contains others.now m)) list.now) }
+{
+    let mut rest = Vec::new(alloc);
+    for memento in list {
+        if !others.has(memento) {
+            rest.push(memento.try_clone()?)?;
+        }
+    }
+    Ok(rest)
 }
 
 // How many of a list in order are below a memento.

@@ -1,4 +1,3 @@
-use crate::latest::Latest;
 use crate::*;
 use memento_time::{ArchiveName, Clean, Memento, Moment, Original};
 use std::alloc::Global;
@@ -47,118 +46,64 @@ fn harvest(
     Ok(harvest)
 }
 
-// What an index lists after these harvests.
-fn indexed(alloc: Global, harvests: &[(&str, u64, &[Capture])]) -> Result<Index, Fail> {
-    let mut index = Index::new(alloc);
-    for (name, revision, captures) in harvests {
-        index.absorb(&Merge::Harvest(harvest(alloc, *name, *revision, *captures)?))?;
+#[test]
+fn the_greatest_revision_stays(rt: HostRuntime) -> Result<(), Fail> {
+    let alloc = rt.alloc();
+    let root = Original::new(alloc, b"http://a.example/")?;
+    let mut state = State::new(alloc);
+    state.merge(&harvest(alloc, "a1", 7, &[FIRST])?)?;
+    state.merge(&harvest(alloc, "a1", 3, &[SECOND])?)?;
+    assert!(rt; state.shown(&root)?.as_slice() == mementos(alloc, &[FIRST])?.as_slice());
+    state.merge(&harvest(alloc, "a1", 7, &[THIRD, SECOND])?)?;
+    assert!(rt;
+        state.shown(&root)?.as_slice() == mementos(alloc, &[FIRST, SECOND, THIRD])?.as_slice()
+    );
+    state.merge(&harvest(alloc, "a1", 8, &[])?)?;
+    assert!(rt; state.shown(&root)?.is_empty());
+    Ok(())
+}
+
+#[test]
+fn sets_are_united(rt: HostRuntime) -> Result<(), Fail> {
+    let alloc = rt.alloc();
+    let mut all = Mementos::of(mementos(alloc, &[THIRD, FIRST, THIRD])?);
+    assert!(rt; all.len() == 2);
+    let second = Mementos::of(mementos(alloc, &[SECOND, FIRST])?);
+    assert!(rt; second.without(&all)?.as_slice() == mementos(alloc, &[SECOND])?.as_slice());
+    assert!(rt; !second.is_subset(&all));
+    all.absorb(second.try_clone()?)?;
+    assert!(rt; second.is_subset(&all));
+    assert!(rt; all.into_vec().as_slice() == mementos(alloc, &[FIRST, SECOND, THIRD])?.as_slice());
+    assert!(rt; Mementos::new(alloc).is_empty());
+    Ok(())
+}
+
+#[test]
+fn changes_are_what_is_news(rt: HostRuntime) -> Result<(), Fail> {
+    let alloc = rt.alloc();
+    let root = Original::new(alloc, b"http://a.example/")?;
+    let mut here = State::new(alloc);
+    here.merge(&harvest(alloc, "a1", 7, &[FIRST])?)?;
+    here.merge(&harvest(alloc, "b1", 2, &[THIRD])?)?;
+    let mut there = State::new(alloc);
+    there.merge(&harvest(alloc, "a1", 7, &[FIRST, SECOND])?)?;
+    there.merge(&harvest(alloc, "b1", 1, &[FIRST])?)?;
+    there.merge(&harvest(alloc, "c1", 1, &[FIRST])?)?;
+    let changes = here.changes(&there)?;
+    assert!(rt; changes.rows().len() == 2);
+    for row in changes.rows() {
+        let shift = here.shift(row)?;
+        assert!(rt; shift.begins.as_slice() == row.entry().mementos());
+        assert!(rt; shift.ceases.is_empty());
     }
-    Ok(index)
-}
-
-#[test]
-fn only_the_greatest_revision_counts(rt: HostRuntime) -> Result<(), Fail> {
-    let alloc = rt.alloc();
-    let root = Original::new(alloc, b"http://a.example/")?;
-    let mut index = indexed(alloc, &[("a1", 7, &[FIRST]), ("a1", 3, &[SECOND])])?;
-    let asked = Moment::from_secs(946_771_200).ok_or("a second")?;
-    let first = mementos(alloc, &[FIRST])?;
-    assert!(rt; index.list(&root) == first.as_slice());
-    assert!(rt; index.nearest(&root, asked) == first.first());
-    index.absorb(&Merge::Harvest(harvest(alloc, "a1", 8, &[])?))?;
-    assert!(rt; index.list(&root).is_empty());
-    assert!(rt; index.nearest(&root, asked).is_none());
-    assert!(rt; index.latest(&root).is_none());
-    Ok(())
-}
-
-#[test]
-fn harvests_of_one_revision_are_united(rt: HostRuntime) -> Result<(), Fail> {
-    let alloc = rt.alloc();
-    let root = Original::new(alloc, b"http://a.example/")?;
-    let all = mementos(alloc, &[FIRST, SECOND, THIRD])?;
-    let one = indexed(alloc, &[("a1", 1, &[FIRST]), ("a1", 1, &[THIRD, SECOND])])?;
-    let other = indexed(alloc, &[("a1", 1, &[THIRD, SECOND]), ("a1", 1, &[FIRST])])?;
-    assert!(rt; one.list(&root) == all.as_slice());
-    assert!(rt; other.list(&root) == all.as_slice());
-    Ok(())
-}
-
-#[test]
-fn another_archive_still_shows_it(rt: HostRuntime) -> Result<(), Fail> {
-    let alloc = rt.alloc();
-    let root = Original::new(alloc, b"http://a.example/")?;
-    let first = mementos(alloc, &[FIRST])?;
-    let mut index = indexed(
-        alloc,
-        &[("a1", 1, &[FIRST]), ("b1", 1, &[FIRST]), ("a1", 2, &[])],
-    )?;
-    assert!(rt; index.list(&root) == first.as_slice());
-    let copy = index.state().try_clone()?;
-    assert!(rt; copy.shown(&root)?.as_slice() == first.as_slice());
-    index.absorb(&Merge::Harvest(harvest(alloc, "b1", 2, &[])?))?;
-    assert!(rt; index.list(&root).is_empty());
-    Ok(())
-}
-
-#[test]
-fn a_lesser_revision_adds_nothing(rt: HostRuntime) -> Result<(), Fail> {
-    let alloc = rt.alloc();
-    let newer = Latest::of(7, mementos(alloc, &[FIRST])?)?;
-    let older = Latest::of(3, mementos(alloc, &[SECOND])?)?;
-    for both in [newer.joined(alloc, &older)?, older.joined(alloc, &newer)?] {
-        assert!(rt; both.revision() == 7);
-        assert!(rt; both.mementos() == newer.mementos());
-    }
-    Ok(())
-}
-
-#[test]
-fn archives_are_listed_as_one(rt: HostRuntime) -> Result<(), Fail> {
-    let alloc = rt.alloc();
-    let root = Original::new(alloc, b"http://a.example/")?;
-    let index = indexed(
-        alloc,
-        &[("b1", 1, &[FIRST, SECOND]), ("a1", 1, &[FIRST, THIRD])],
-    )?;
-    let all = mementos(alloc, &[FIRST, SECOND, THIRD])?;
-    assert!(rt; index.list(&root) == all.as_slice());
-    Ok(())
-}
-
-#[test]
-fn nearest_and_latest(rt: HostRuntime) -> Result<(), Fail> {
-    let alloc = rt.alloc();
-    let root = Original::new(alloc, b"http://a.example/")?;
-    let index = indexed(alloc, &[("a1", 1, &[FIRST, SECOND, THIRD])])?;
-    let first = memento(alloc, FIRST)?;
-    let second = memento(alloc, SECOND)?;
-    let cases = [
-        (0, &first),
-        (946_771_200, &first),
-        (253_402_300_799, &second),
-    ];
-    for (asked, named) in cases {
-        let asked = Moment::from_secs(asked).ok_or("a second")?;
-        assert!(rt; index.nearest(&root, asked) == Some(named));
-    }
-    assert!(rt; index.latest(&root) == Some(&second));
-    Ok(())
-}
-
-#[test]
-fn the_ends_of_revisions_and_seconds(rt: HostRuntime) -> Result<(), Fail> {
-    let alloc = rt.alloc();
-    let root = Original::new(alloc, b"http://a.example/")?;
-    let ends: [Capture; 2] = [(0, b'1'), (253_402_300_799, b'2')];
-    let index = indexed(
-        alloc,
-        &[("a1", u64::MAX, &ends), ("a1", u64::MAX - 1, &[FIRST])],
-    )?;
-    let both = mementos(alloc, &ends)?;
-    assert!(rt; index.list(&root) == both.as_slice());
-    let middle = Moment::from_secs(126_701_150_399).ok_or("a second")?;
-    assert!(rt; index.nearest(&root, middle) == both.first());
+    here.put(changes)?;
+    assert!(rt; there.le(&here) && here.len() == 3);
+    assert!(rt; here.shown(&root)?.len() == 3);
+    assert!(rt;
+        here.changes_by(&harvest(alloc, "a1", 6, &[THIRD])?)?
+            .rows()
+            .is_empty()
+    );
     Ok(())
 }
 
@@ -181,10 +126,7 @@ fn states_are_joined(rt: HostRuntime) -> Result<(), Fail> {
     assert!(rt; entry.mementos() == mementos(alloc, &[SECOND])?.as_slice());
     let mut rows = left.rows();
     assert!(rt; rows.next().is_some());
-    let mut index = Index::new(alloc);
-    let merge = Merge::State(left);
-    index.absorb(&merge.try_clone()?)?;
-    assert!(rt; index.list(&root) == mementos(alloc, &[FIRST, SECOND])?.as_slice());
+    assert!(rt; left.shown(&root)?.as_slice() == mementos(alloc, &[FIRST, SECOND])?.as_slice());
     Ok(())
 }
 
@@ -210,21 +152,10 @@ fn a_row_is_copied(rt: HostRuntime) -> Result<(), Fail> {
     let list = mementos(alloc, &[FIRST, SECOND])?;
     let row = Row::new(archive("a1")?, root, 7, list).ok_or("a row")?;
     let copy = row.try_clone()?;
-    assert!(rt; copy.archive == archive("a1")?);
-    assert!(rt; copy.original.as_bytes() == b"http://a.example/".as_slice());
-    assert!(rt; copy.latest.revision() == 7);
-    assert!(rt; copy.latest.mementos() == mementos(alloc, &[FIRST, SECOND])?.as_slice());
-    Ok(())
-}
-
-#[test]
-fn a_merge_of_a_harvest_is_copied(rt: HostRuntime) -> Result<(), Fail> {
-    let alloc = rt.alloc();
-    let root = Original::new(alloc, b"http://a.example/")?;
-    let merge = Merge::Harvest(harvest(alloc, "a1", 7, &[FIRST])?);
-    let mut index = Index::new(alloc);
-    index.absorb(&merge.try_clone()?)?;
-    assert!(rt; index.list(&root) == mementos(alloc, &[FIRST])?.as_slice());
+    assert!(rt; copy.archive() == archive("a1")?);
+    assert!(rt; copy.original().as_bytes() == b"http://a.example/".as_slice());
+    assert!(rt; copy.entry().revision() == 7);
+    assert!(rt; copy.entry().mementos() == mementos(alloc, &[FIRST, SECOND])?.as_slice());
     Ok(())
 }
 
@@ -261,28 +192,5 @@ fn a_harvest_keeps_each_memento_once(rt: HostRuntime) -> Result<(), Fail> {
     assert!(rt; copy.original().as_bytes() == b"http://a.example/".as_slice());
     assert!(rt; copy.revision() == 7);
     assert!(rt; copy.mementos() == mementos(alloc, &[FIRST, SECOND])?.as_slice());
-    Ok(())
-}
-
-// To be run with each allocation of the merge refused in turn.
-#[test]
-fn a_refused_merge_changes_nothing(rt: HostRuntime) -> Result<(), Fail> {
-    let alloc = rt.alloc();
-    let root = Original::new(alloc, b"http://a.example/")?;
-    let first = mementos(alloc, &[FIRST])?;
-    let both = mementos(alloc, &[FIRST, SECOND])?;
-    let mut index = indexed(alloc, &[("a1", 1, &[FIRST])])?;
-    let second = harvest(alloc, "b1", 2, &[SECOND])?;
-    match index.absorb(&Merge::Harvest(second)) {
-        Ok(()) => {
-            assert!(rt; index.list(&root) == both.as_slice());
-            assert!(rt; index.state().len() == 2);
-        }
-        Err(_) => {
-            assert!(rt; index.list(&root) == first.as_slice());
-            assert!(rt; index.state().len() == 1);
-            assert!(rt; index.state().entry(archive("b1")?, &root).is_none());
-        }
-    }
     Ok(())
 }

@@ -1,4 +1,4 @@
-// Walks over the entries of a state.
+//! Walks over the entries of a state.
 ghost use Rattle.std.specs.Prelude.{◌≡◌, length};
 ghost use Rattle.std.specs.FinMap as map;
 ghost use Rattle.std.specs.Iterator.{at_most};
@@ -17,7 +17,7 @@ use std::marker::Model;
 #[derive(Drop)]
 struct ShelfRows<'a> {
     archive: ArchiveName,
-    slots: Iter<'a, Original, Option<Entry>>,
+    entries: Iter<'a, Original, Entry>,
 }
 
 impl<'a> Model for ShelfRows<'a> {
@@ -30,7 +30,7 @@ impl<'a> Model for ShelfRows<'a> {
 
     ghost coded = { coded_list (coded× coded_key coded_kept) };
 
-    ghost view = { λ rows. shelf_rows rows.archive rows.slots };
+    ghost view = { λ rows. shelf_rows rows.archive rows.entries };
 }
 
 impl<'a> ShelfRows<'a> {
@@ -39,7 +39,7 @@ impl<'a> ShelfRows<'a> {
     {
         ShelfRows {
             archive,
-            slots: shelf.iter(),
+            entries: shelf.iter(),
         }
     }
 }
@@ -52,12 +52,8 @@ impl<'a> Iterator for ShelfRows<'a> {
     ghost remaining = { λ rows. at_most (length rows) };
 
     fn next(&mut self) -> Option<((ArchiveName, &'a Original), EntryRef<'a>)> {
-        while let Some((original, slot)) = self.slots.next() {
-            if let Some(entry) = slot {
-                return Some(((self.archive, original), EntryRef::new(entry)));
-            }
-        }
-        None
+        let (original, entry) = self.entries.next()?;
+        Some(((self.archive, original), EntryRef::new(entry)))
     }
 }
 

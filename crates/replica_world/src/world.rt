@@ -3,7 +3,8 @@ ghost use Rattle.std.specs.Prelude.{◌≡◌, ◌+◌, ◌<◌, ◌≤◌, IfSo
 ghost use Rattle.replica_world.specs.Places.{IsNoNumber};
 
 use crate::event::{Answer, Event, Refused, Said};
-use harvest_lattice::{Harvest, Index, Merge};
+use harvest_lattice::Harvest;
+use memento_index::{Index, Merge};
 use memento_time::{NoMemory, Octets};
 use replica_exchange::{read_state, write_state};
 use std::alloc::Global;
@@ -46,7 +47,7 @@ impl World {
     ghost use Rattle.std.specs.FinMap as fmap;
     ghost use Rattle.harvest_lattice.specs.Lattice.{join};
     ghost use Rattle.harvest_lattice.specs.Knowledge.{lat};
-    ghost use Rattle.harvest_lattice.specs.Merges.{adds_of};
+    ghost use Rattle.memento_index.specs.Merges.{adds_of};
     ghost use Rattle.replica_world.specs.World.{start};
     ghost use Rattle.replica_world.specs.Stands.{Stands, Steps, Runs};
     ghost use Rattle.replica_world.specs.declared.event.Event.TheVariants as event;

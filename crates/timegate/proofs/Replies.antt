@@ -7,9 +7,9 @@ use Rattle.memento_time.specs.declared.mementos.Memento.{Memento}
 use Rattle.harvest_lattice.specs.Sets as set
 use Rattle.harvest_lattice.specs.Lattice.{Mementos, Entries}
 use Rattle.harvest_lattice.specs.Knowledge.{Harvested, IsShown, lat, shown, shown_of}
-use Rattle.harvest_lattice.specs.Choice.{distance, IsNearest, IsLast}
+use Rattle.memento_index.specs.Choice.{distance, IsNearest, IsLast}
 use Rattle.harvest_lattice.proofs.Knowledge.{lat_same, shown-is, shown-lat}
-use Rattle.harvest_lattice.proofs.Choice.{nearest-is, last-is}
+use Rattle.memento_index.proofs.Choice.{nearest-is, last-is}
 use Rattle.timemap_writer.specs.TimeMap.{gate_links}
 use Rattle.timegate.specs.declared.reply.Reply.{Reply}
 use Rattle.timegate.specs.declared.reply.Header.{Header}

@@ -2,7 +2,7 @@
 use Rattle.std.specs.Prelude.{ℕ, ◌≤◌, List, Contains, Option, MatchOption}
 use Rattle.memento_time.specs.declared.mementos.Memento.{Memento}
 use Rattle.harvest_lattice.specs.Knowledge.{Harvested, IsShown}
-use Rattle.harvest_lattice.specs.Choice.{distance}
+use Rattle.memento_index.specs.Choice.{distance}
 use Rattle.timegate.specs.declared.reply.Reply.{Reply}
 use Rattle.timegate.specs.declared.reply.Header.TheVariants.{Location}
 

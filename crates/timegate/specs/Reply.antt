@@ -4,7 +4,7 @@ use Rattle.memento_time.specs.declared.mementos.Memento.{Memento}
 use Rattle.harvest_lattice.specs.Sets as set
 use Rattle.harvest_lattice.specs.Lattice.{Mementos, Entries}
 use Rattle.harvest_lattice.specs.Knowledge.{Harvested, lat, shown, shown_of}
-use Rattle.harvest_lattice.specs.Choice.{nearest, last}
+use Rattle.memento_index.specs.Choice.{nearest, last}
 use Rattle.replica_exchange.specs.StateText.{state_text}
 use Rattle.timemap_writer.specs.TimeMap.{timemap_text, gate_links}
 use Rattle.timegate.specs.declared.reply.Reply.{Reply}

@@ -8,7 +8,7 @@ ghost use Rattle.timegate.specs.Reply.{answered, vary, told, bad_method, redirec
 use crate::reply::{Header, Reply};
 use crate::request::Request;
 use crate::route::{Route, is_head, is_timegate, route_of};
-use harvest_lattice::Index;
+use memento_index::Index;
 use memento_time::{Items, Memento, NoMemory, Octets, Original};
 use replica_exchange::write_state;
 use std::alloc::Global;

@@ -1,5 +1,6 @@
 use super::*;
-use harvest_lattice::{Harvest, Index, Merge};
+use harvest_lattice::Harvest;
+use memento_index::{Index, Merge};
 use memento_time::{ArchiveName, Clean, Items, Memento, Moment, Octets, Original};
 use std::test::Fail;
 use timemap_writer::Service;

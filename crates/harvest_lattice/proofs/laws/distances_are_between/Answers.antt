@@ -1,5 +1,0 @@
-use Rattle.std.proofs.Common.{arith}
-use Rattle.harvest_lattice.proofs.laws.distances_are_between.Goals as goal
-
-pub returns : goal.returns
-returns c = record { later = λ t m le. omega (arith, le); earlier = λ t m le. omega (arith, le) }

@@ -1,0 +1,30 @@
+// What is shown of an original.
+ghost use Rattle.std.specs.Prelude.{◌≡◌, IfOk};
+ghost use Rattle.std.specs.BTreeMap.{IsOrdered};
+ghost use Rattle.memento_time.specs.Mementos.{text_cmp};
+ghost use Rattle.harvest_lattice.specs.Sets as set;
+ghost use Rattle.harvest_lattice.specs.Knowledge.{shown_of};
+ghost use Rattle.harvest_lattice.specs.Shelves.{entries_of};
+
+use crate::mementos::{Mementos, append_copies};
+use crate::shelves::Shelves;
+use memento_time::{Memento, NoMemory, Original};
+use std::alloc::Global;
+
+// The mementos of an original in every archive, each once, in order.
+pub fn shown_in(
+    shelves: &Shelves,
+    alloc: Global,
+    original: &Original,
+) -> Result<Vec<Memento>, NoMemory>
+    requires { IsOrdered text_cmp shelves.now }
+    ensures { IfOk result (λ list. list.items ≡ set.items (shown_of (entries_of shelves.now) original.now)) }
+{
+    let mut all = Vec::new(alloc);
+    for (_, shelf) in shelves {
+        if let Some(entry) = shelf.get(original) {
+            append_copies(&mut all, entry.mementos().as_slice())?;
+        }
+    }
+    Ok(Mementos::of(all).into_vec())
+}

@@ -1,0 +1,11 @@
+use Rattle.std.proofs.Common.{sym, ap, ◌∙◌}
+use Rattle.harvest_lattice.specs.Sets as set
+use Rattle.harvest_lattice.specs.Lattice.{Entries, Mementos}
+use Rattle.harvest_lattice.specs.Knowledge.{shown_of}
+use Rattle.harvest_lattice.proofs.Knowledge.{shown-lat}
+use Rattle.memento_index.proofs.index.Index.list.Goals as goal
+
+pub returns-clause-stands : goal.returns-clause-stands
+returns-clause-stands c hs is =
+    let o = c.args.original.now in
+    c.listed.ensures ∙ (ap (λ (x : Entries). set.items (shown_of x o)) is ∙ ap (λ (s : Mementos). set.items s) (sym (shown-lat hs o)))

@@ -1,0 +1,24 @@
+//! Laws of what is nearest and what is last.
+ghost use Rattle.std.specs.Prelude.{◌≡◌, ℕ, ◌+◌, ◌≤◌, [], MatchOption};
+ghost use Rattle.memento_time.specs.declared.mementos.Memento.{Memento};
+ghost use Rattle.harvest_lattice.specs.Sets as set;
+ghost use Rattle.harvest_lattice.specs.Lattice.{Mementos};
+ghost use Rattle.memento_index.specs.Choice.{IsNearest, IsLast, distance, nearest, last};
+
+/// A distance is what lies between the memento's second and the other, whichever is later.
+pub fn distances_are_between()
+    ensures later { (t : ℕ) (m : Memento) → t ≤ m.at → t + distance t m ≡ m.at }
+    ensures earlier { (t : ℕ) (m : Memento) → m.at ≤ t → m.at + distance t m ≡ t }
+{}
+
+/// There is one nearest memento, unless there is none at all.
+pub fn one_is_nearest()
+    ensures is { (mementos : Mementos) (t : ℕ) → MatchOption (nearest mementos t) (set.items mementos ≡ []) (IsNearest mementos t) }
+    ensures once { (mementos : Mementos) (t : ℕ) (m n : Memento) → IsNearest mementos t m → IsNearest mementos t n → m ≡ n }
+{}
+
+/// There is one last memento, unless there is none at all.
+pub fn one_is_last()
+    ensures is { (mementos : Mementos) → MatchOption (last mementos) (set.items mementos ≡ []) (IsLast mementos) }
+    ensures once { (mementos : Mementos) (m n : Memento) → IsLast mementos m → IsLast mementos n → m ≡ n }
+{}

@@ -1,0 +1,17 @@
+//! The index: a state of the lattice, with the list of each original at hand.
+//!
+//! An `Index` takes in harvests and states, and tells of each original which mementos are shown, which of them is nearest
+//! to a moment, and which is the last.
+#![tactic(auto)]
+
+mod index;
+mod laws;
+mod lists;
+mod merge;
+mod nearest;
+#[cfg(test)]
+mod tests;
+
+pub use index::Index;
+pub use laws::{distances_are_between, one_is_last, one_is_nearest};
+pub use merge::Merge;
