@@ -1,5 +1,5 @@
 -- What shelves hold, as the entries of a state.
-use Rattle.std.proofs.Common.{◌≡◌, ℕ, ◌+◌, Bool, true, false, cond, ◌++◌, List, [], ◌∷◌, Option, Some, None, is_some, IsSome, Result, Ok, Err, OnErr, refl, sym, ap, subst, ◌∙◌}
+use Rattle.std.proofs.Common.{◌≡◌, ℕ, zero, suc, ◌+◌, ◌-◌, ◌<◌, arith, not, ◌&&◌, Bool, true, false, cond, ◌++◌, List, [], ◌∷◌, Option, Some, None, is_some, IsSome, Result, Ok, Err, OnOk, OnErr, refl, sym, ap, subst, ◌∙◌}
 use Rattle.std.specs.Prelude.{T}
 use Rattle.std.specs.declared.cmp.Ordering.{Ordering}
 use Rattle.std.specs.declared.cmp.Ordering.TheVariants.{Less, Equal, Greater}
@@ -16,7 +16,11 @@ use Rattle.std.proofs.lemmas.Bool.{true≢false}
 use Rattle.std.specs.FinMap.{slice_cmp-IsAntisymmetric, nat_cmp-IsAntisymmetric}
 use Rattle.std.specs.FinMap.Entries.{below_all}
 use Rattle.memento_time.specs.Mementos.{text_cmp}
-use Rattle.harvest_lattice.specs.Lattice.{Key, key_cmp, Kept, Entries}
+use Rattle.std.specs.Option.{unwrap_or}
+use Rattle.std.proofs.lemmas.Bool.{and_parts}
+use Rattle.harvest_lattice.specs.Maps.{join_values}
+use Rattle.harvest_lattice.specs.Lattice.{Key, key_cmp, Kept, Entries, join_kept, joined_kept}
+use Rattle.harvest_lattice.specs.Rows.{put_back}
 use Rattle.harvest_lattice.specs.Shelves.{Shelved, Shelves, shelf_at, held_at, shelf_rows, all_rows, entries_of}
 use Rattle.harvest_lattice.proofs.Entries.{key_cmp_total, key_cmp_exact}
 use Rattle.harvest_lattice.proofs.Rising.{from_keys}
@@ -156,6 +160,19 @@ one_key m n a o w v put is k =
       | false ↦ λ t. sym (ap (λ b. cond b v (held_at m k)) (apart k.0 a k.1 o ((eq_by_cmp_equiv nat_list_cmp_total).symm k.0 a ∙ t)))
     ] refl
 
+-- the same, where the difference is told by what stood at the original
+pub one_at_key : (m n : Shelves) (a o : List ℕ) (w : Shelved) (f : Option Kept → Option Kept) → ((q : List ℕ) → tree.get text_cmp n q ≡ cond (eq_by_cmp text_cmp a q) (Some w) (tree.get text_cmp m q)) → ((p : List ℕ) → fmap.get w p ≡ cond (eq_by_cmp text_cmp p o) (f (shelf_at (tree.get text_cmp m a) p)) (shelf_at (tree.get text_cmp m a) p)) → (k : Key) → held_at n k ≡ cond (eq_by_cmp key_cmp k (a, o)) (f (held_at m k)) (held_at m k)
+one_at_key m n a o w f put is k =
+    ap (λ s. shelf_at s k.1) (put k.0)
+    ∙ elim (eq_by_cmp text_cmp a k.0) as (λ b. eq_by_cmp text_cmp a k.0 ≡ b → shelf_at (cond b (Some w) (tree.get text_cmp m k.0)) k.1 ≡ cond (eq_by_cmp key_cmp k (a, o)) (f (held_at m k)) (held_at m k)) [
+      | true ↦ λ t.
+          let here : a ≡ k.0 = same_text a k.0 t in
+          is k.1
+          ∙ (ap (λ b. cond b (f (shelf_at (tree.get text_cmp m a) k.1)) (shelf_at (tree.get text_cmp m a) k.1)) (sym (tie a k.1 o))
+          ∙ ap (λ b. cond (eq_by_cmp key_cmp (b, k.1) (a, o)) (f (held_at m (b, k.1))) (held_at m (b, k.1))) here)
+      | false ↦ λ t. sym (ap (λ b. cond b (f (held_at m k)) (held_at m k)) (apart k.0 a k.1 o ((eq_by_cmp_equiv nat_list_cmp_total).symm k.0 a ∙ t)))
+    ] refl
+
 -- and one that is as it was
 pub no_key : (m n : Shelves) (a : List ℕ) (w : Shelved) → ((q : List ℕ) → tree.get text_cmp n q ≡ cond (eq_by_cmp text_cmp a q) (Some w) (tree.get text_cmp m q)) → tree.get text_cmp m a ≡ Some w → (k : Key) → held_at n k ≡ held_at m k
 no_key m n a w put was k =
@@ -193,9 +210,114 @@ unchanged_at f o v is p = elim (eq_by_cmp text_cmp p o) as (λ b. eq_by_cmp text
   | false ↦ λ _. refl
 ] refl
 
+-- another value where one stands
+pub replaced_some : (f : List ℕ → Option Kept) (o : List ℕ) (v was : Kept) → f o ≡ Some was → (p : List ℕ) → cond (eq_by_cmp text_cmp p o) (Some v) (f p) ≡ cond (eq_by_cmp text_cmp p o) (put_back (Some v) (f p)) (f p)
+replaced_some f o v was is p = elim (eq_by_cmp text_cmp p o) as (λ b. eq_by_cmp text_cmp p o ≡ b → cond b (Some v) (f p) ≡ cond b (put_back (Some v) (f p)) (f p)) [
+  | true ↦ λ t. sym (ap (put_back (Some v)) (ap f (same_text p o t) ∙ is))
+  | false ↦ λ _. refl
+] refl
+
+pub put_back_none : (o : Option Kept) → put_back o None ≡ None
+put_back_none None = refl
+put_back_none (Some v) = refl
+
+-- nothing where none stands
+pub replaced_none : (f : List ℕ → Option Kept) (o : List ℕ) (v : Option Kept) → f o ≡ None → (p : List ℕ) → f p ≡ cond (eq_by_cmp text_cmp p o) (put_back v (f p)) (f p)
+replaced_none f o v none p = elim (eq_by_cmp text_cmp p o) as (λ b. eq_by_cmp text_cmp p o ≡ b → f p ≡ cond b (put_back v (f p)) (f p)) [
+  | true ↦ λ t. let gone : f p ≡ None = ap f (same_text p o t) ∙ none in gone ∙ sym (ap (put_back v) gone ∙ put_back_none v)
+  | false ↦ λ _. refl
+] refl
+
+pub on_ok : {T E P Q : Type 0} (r : Result T E) → (P → Q) → OnOk r P → OnOk r Q
+on_ok (Ok x) f h = f h
+on_ok (Err e) f h = tt
+
+pub on_err_too : {T E P Q : Type 0} (r : Result T E) → (P → Q) → OnErr r P → OnErr r Q
+on_err_too (Ok x) f h = tt
+on_err_too (Err e) f h = f h
+
 pub is_some_is : {A : Type 0} (o : Option A) (a : A) → o ≡ Some a → IsSome o
 is_some_is o a e = ap is_some e
 
 pub on_err : {T E P : Type 0} (r : Result T E) → P → OnErr r P
 on_err (Ok x) p = tt
 on_err (Err e) p = p
+
+-- ---- a row joined
+
+joined_is : (o : Option Kept) (v : Kept) → join_values join_kept o (Some v) ≡ Some (unwrap_or (join_values join_kept o (Some v)) v)
+joined_is None v = refl
+joined_is (Some a) v = refl
+
+module _ (m n : Shelves) (e : Key × Kept) (h : tree.IsOrdered text_cmp m) (g : tree.IsOrdered text_cmp n) (after : (k : Key) → held_at n k ≡ cond (eq_by_cmp key_cmp k e.0) (join_values join_kept (held_at m e.0) (Some e.1)) (held_at m k)) where
+  -- it is inserted as it stands in the join
+  pub row_joined : entries_of n ≡ fmap.insert (entries_of m) e.0 (joined_kept (entries_of m) e)
+  row_joined =
+      let v : join_values join_kept (held_at m e.0) (Some e.1) ≡ Some (joined_kept (entries_of m) e) =
+      joined_is (held_at m e.0) e.1 ∙ ap (λ o. Some (unwrap_or (join_values join_kept o (Some e.1)) e.1)) (sym (get-entries_of m h e.0)) in
+      entry_put m n e.0 (joined_kept (entries_of m) e) h g (λ k. after k ∙ ap (λ o. cond (eq_by_cmp key_cmp k e.0) o (held_at m k)) v)
+
+  -- and counted where nothing stood
+  pub row_counted : (fresh : Bool) → fresh ≡ not (is_some (held_at m e.0)) → fmap.len (entries_of n) ≡ cond fresh (fmap.len (entries_of m) + 1) (fmap.len (entries_of m))
+  row_counted fresh is =
+      ap (λ (x : Entries). fmap.len x) row_joined
+      ∙ (fmap.len-insert key_cmp_total (entries_of m) e.0 (joined_kept (entries_of m) e)
+      ∙ (ap (λ o. cond (is_some o) (fmap.len (entries_of m)) (fmap.len (entries_of m) + 1)) (get-entries_of m h e.0)
+      ∙ counted (is_some (held_at m e.0)) fresh is))
+    where
+      counted : (held fresh : Bool) → fresh ≡ not held → cond held (fmap.len (entries_of m)) (fmap.len (entries_of m) + 1) ≡ cond fresh (fmap.len (entries_of m) + 1) (fmap.len (entries_of m))
+      counted true fresh is = sym (ap (λ b. cond b (fmap.len (entries_of m) + 1) (fmap.len (entries_of m))) is)
+      counted false fresh is = sym (ap (λ b. cond b (fmap.len (entries_of m) + 1) (fmap.len (entries_of m))) is)
+
+-- ---- a key restored
+
+module _ (m n : Shelves) (key : Key) (before : Option Kept) (h : tree.IsOrdered text_cmp m) (g : tree.IsOrdered text_cmp n) (after : (k : Key) → held_at n k ≡ cond (eq_by_cmp key_cmp k key) (put_back before (held_at m k)) (held_at m k)) where
+  pub get-restored : (x : Entries) → entries_of m ≡ x → (k : Key) → fmap.get (entries_of n) k ≡ cond (eq_by_cmp key_cmp k key) (put_back before (fmap.get x k)) (fmap.get x k)
+  get-restored x is k =
+      let here : held_at m k ≡ fmap.get x k = sym (get-entries_of m h k) ∙ ap (λ (y : Entries). fmap.get y k) is in
+      get-entries_of n g k ∙ (after k ∙ (λ i. cond (eq_by_cmp key_cmp k key) (put_back before (here i)) (here i)))
+
+  at_key : (k : Key) → cond (eq_by_cmp key_cmp k key) (put_back before (held_at m k)) (held_at m k) ≡ cond (eq_by_cmp key_cmp k key) (put_back before (held_at m key)) (held_at m k)
+  at_key k = elim (eq_by_cmp key_cmp k key) as (λ b. eq_by_cmp key_cmp k key ≡ b → cond b (put_back before (held_at m k)) (held_at m k) ≡ cond b (put_back before (held_at m key)) (held_at m k)) [
+    | true ↦ λ t. ap (λ (q : Key). put_back before (held_at m q)) (key_cmp_exact k key ((Equal-is (key_cmp k key)).0 t))
+    | false ↦ λ _. refl
+  ] refl
+
+  -- one entry less, where it is gone
+  pub len_restored : (gone : Bool) → gone ≡ (not (is_some before) && is_some (held_at m key)) → fmap.len (entries_of n) ≡ cond gone (fmap.len (entries_of m) - 1) (fmap.len (entries_of m))
+  len_restored gone is =
+      elim before as (λ b. put_back before (held_at m key) ≡ put_back b (held_at m key) → gone ≡ (not (is_some b) && is_some (held_at m key)) → fmap.len (entries_of n) ≡ cond gone (fmap.len (entries_of m) - 1) (fmap.len (entries_of m))) [
+        | None ↦ λ v gone_is.
+            ap (λ (x : Entries). fmap.len x) (entry_removed m n key h g (λ k. after k ∙ (at_key k ∙ ap (λ o. cond (eq_by_cmp key_cmp k key) o (held_at m k)) v)))
+            ∙ (fmap.len-remove key_cmp_total (entries_of m) key
+            ∙ (ap (λ o. cond (is_some o) (fmap.len (entries_of m) - 1) (fmap.len (entries_of m))) (get-entries_of m h key)
+            ∙ ap (λ b. cond b (fmap.len (entries_of m) - 1) (fmap.len (entries_of m))) (sym gone_is)))
+        | Some w ↦ λ v gone_is. kept w v ∙ ap (λ b. cond b (fmap.len (entries_of m) - 1) (fmap.len (entries_of m))) (sym gone_is)
+      ] refl is
+    where
+      kept : (w : Kept) → put_back before (held_at m key) ≡ put_back (Some w) (held_at m key) → fmap.len (entries_of n) ≡ fmap.len (entries_of m)
+      kept w v =
+          elim (held_at m key) as (λ o. held_at m key ≡ o → put_back before (held_at m key) ≡ put_back (Some w) o → fmap.len (entries_of n) ≡ fmap.len (entries_of m)) [
+            | None ↦ λ none value.
+                ap (λ (x : Entries). fmap.len x) (same_entries m n h g (λ k. after k ∙ (at_key k ∙ (ap (λ o. cond (eq_by_cmp key_cmp k key) o (held_at m k)) value ∙ absent k none))))
+            | Some u ↦ λ there value.
+                ap (λ (x : Entries). fmap.len x) (entry_put m n key w h g (λ k. after k ∙ (at_key k ∙ ap (λ o. cond (eq_by_cmp key_cmp k key) o (held_at m k)) value)))
+                ∙ (fmap.len-insert key_cmp_total (entries_of m) key w
+                ∙ ap (λ o. cond (is_some o) (fmap.len (entries_of m)) (fmap.len (entries_of m) + 1)) (get-entries_of m h key ∙ there))
+          ] refl v
+
+      absent : (k : Key) → held_at m key ≡ None → cond (eq_by_cmp key_cmp k key) None (held_at m k) ≡ held_at m k
+      absent k none = elim (eq_by_cmp key_cmp k key) as (λ b. eq_by_cmp key_cmp k key ≡ b → cond b None (held_at m k) ≡ held_at m k) [
+        | true ↦ λ t. sym (ap (λ (q : Key). held_at m q) (key_cmp_exact k key ((Equal-is (key_cmp k key)).0 t)) ∙ none)
+        | false ↦ λ _. refl
+      ] refl
+
+  -- what is gone was counted
+  pub some_counted : (not (is_some before) && is_some (held_at m key)) ≡ true → 0 < fmap.len (entries_of m)
+  some_counted gone =
+      let there : is_some (fmap.get (entries_of m) key) ≡ true = ap is_some (get-entries_of m h key) ∙ (and_parts (not (is_some before)) (is_some (held_at m key)) gone).1 in
+      at_length (fmap.len (entries_of m)) refl there
+    where
+      at_length : (l : ℕ) → fmap.len (entries_of m) ≡ l → is_some (fmap.get (entries_of m) key) ≡ true → 0 < l
+      at_length zero none there = absurd (true≢false (sym there ∙ (ap (λ (x : Entries). is_some (fmap.get x key)) (fmap.empty_of_len (entries_of m) none) ∙ ap is_some (fmap.get-empty key_cmp key))))
+      at_length (suc l) some there = omega arith

@@ -74,13 +74,23 @@ impl Shelf {
             → map.get self.new o ≡ cond (eq_by_cmp text_cmp o original.now) (put_back before (map.get self.old o)) (map.get self.old o) }
         ensures gone { result ≡ (not (is_some before) && is_some (map.get self.old original.now)) }
     {
-        let Some(entry) = before else {
-            return self.entries.remove(original).is_some();
-        };
+        match before {
+            None => self.entries.remove(original).is_some(),
+            Some(entry) => {
+                self.replace(original, entry);
+                false
+            }
+        }
+    }
+
+    // Puts an entry in the place of one that stands.
+    fn replace(&mut self, original: &Original, entry: Entry)
+        ensures { (o : List ℕ)
+            → map.get self.new o ≡ cond (eq_by_cmp text_cmp o original.now) (put_back (Some entry) (map.get self.old o)) (map.get self.old o) }
+    {
         if let Some(place) = self.entries.get_mut(original) {
             *place = entry;
         }
-        false
     }
 
     // The entries by original.

@@ -224,7 +224,8 @@ impl State {
         let Some(more) = self.len.checked_add(1) else {
             return Err(NoMemory);
         };
-        if join_row(&mut self.shelves, self.alloc, row)? {
+        let fresh = join_row(&mut self.shelves, self.alloc, row)?;
+        if fresh {
             self.len = more;
         }
         Ok(())
