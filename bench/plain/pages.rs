@@ -1,209 +1,25 @@
-//! Reads a page of a TimeMap as a plain Rust program does: the yardstick for `read_page`.
+//! Reads a page of a TimeMap as a plain Rust program does: the measure for `read_page`.
 //!
 //!     pages TIMES < PAGE
 //!
 //! reads the page that many times, and prints for each how many mementos and further TimeMaps it names, and how many
-//! links were left out. It does the same job as `read_page`, with the standard library alone: relative targets are
-//! joined for the forms that archives use.
+//! links were left out. It does the same job as `read_page`, with the standard library alone, and keeps spans of links as
+//! that does: relative targets are joined for the forms that archives use.
 
+mod scanner;
+
+use scanner::{Link, is_blank, read_links};
 use std::collections::HashSet;
 use std::io::Read;
 
 const MAX_PAGE: usize = 8_388_608;
-const MAX_LINKS: usize = 200_000;
-const MAX_PARAMS: usize = 32;
 const MAX_ADDRESS: usize = 8_192;
 
 #[derive(Debug)]
+#[allow(dead_code)]
 enum Fault {
     TooLong,
-    NotLinkFormat(usize),
-    TooManyLinks,
-    TooManyParams,
-    TargetTooLong,
-}
-
-struct Link<'a> {
-    target: &'a [u8],
-    params: Vec<(&'a [u8], Option<Value<'a>>)>,
-}
-
-#[derive(Clone, Copy)]
-enum Value<'a> {
-    Plain(&'a [u8]),
-    Escaped(&'a [u8]),
-}
-
-impl Value<'_> {
-    fn bytes(&self) -> std::borrow::Cow<'_, [u8]> {
-        match self {
-            Value::Plain(text) => (*text).into(),
-            Value::Escaped(text) => {
-                let mut bytes = Vec::new();
-                let mut rest = text.iter();
-                while let Some(byte) = rest.next() {
-                    bytes.extend(if *byte == b'\\' {
-                        rest.next()
-                    } else {
-                        Some(byte)
-                    });
-                }
-                bytes.into()
-            }
-        }
-    }
-}
-
-fn is_blank(byte: u8) -> bool {
-    matches!(byte, b' ' | b'\t' | b'\r' | b'\n')
-}
-
-fn is_name_byte(byte: u8) -> bool {
-    byte.is_ascii_alphanumeric() || b"!#$&*+-.^_`|~".contains(&byte)
-}
-
-fn is_token_byte(byte: u8) -> bool {
-    byte.is_ascii_graphic() && !matches!(byte, b'"' | b',' | b';' | b'\\')
-}
-
-fn is_quotable(byte: u8) -> bool {
-    byte >= 0x20 && byte != 0x7f || matches!(byte, b'\t' | b'\r' | b'\n')
-}
-
-struct Scanner<'a> {
-    text: &'a [u8],
-    at: usize,
-}
-
-impl<'a> Scanner<'a> {
-    fn peek(&self) -> Option<u8> {
-        self.text.get(self.at).copied()
-    }
-
-    fn take_while(&mut self, test: impl Fn(u8) -> bool) -> &'a [u8] {
-        let start = self.at;
-        while self.at < self.text.len() && test(self.text[self.at]) {
-            self.at += 1;
-        }
-        &self.text[start..self.at]
-    }
-
-    fn blanks(&mut self) {
-        self.take_while(is_blank);
-    }
-
-    fn eat(&mut self, byte: u8) -> bool {
-        let found = self.peek() == Some(byte);
-        self.at += usize::from(found);
-        found
-    }
-
-    fn fault<T>(&self) -> Result<T, Fault> {
-        Err(Fault::NotLinkFormat(self.at))
-    }
-
-    fn value(&mut self) -> Result<Value<'a>, Fault> {
-        if !self.eat(b'"') {
-            let token = self.take_while(is_token_byte);
-            return if token.is_empty() {
-                self.fault()
-            } else {
-                Ok(Value::Plain(token))
-            };
-        }
-        let start = self.at;
-        let mut escaped = false;
-        loop {
-            match self.peek() {
-                Some(b'"') => break,
-                Some(b'\\') => {
-                    escaped = true;
-                    self.at += 1;
-                    if !self.peek().is_some_and(is_quotable) {
-                        return self.fault();
-                    }
-                    self.at += 1;
-                }
-                Some(byte) if is_quotable(byte) => self.at += 1,
-                _ => return self.fault(),
-            }
-        }
-        let text = &self.text[start..self.at];
-        self.at += 1;
-        Ok(if escaped {
-            Value::Escaped(text)
-        } else {
-            Value::Plain(text)
-        })
-    }
-
-    fn link(&mut self) -> Result<Link<'a>, Fault> {
-        let target = self.take_while(|byte| byte >= 0x20 && byte != b'>' && byte != 0x7f);
-        if !self.eat(b'>') {
-            return self.fault();
-        }
-        let mut params = Vec::new();
-        loop {
-            self.blanks();
-            if !self.eat(b';') {
-                return Ok(Link { target, params });
-            }
-            self.blanks();
-            let name = self.take_while(is_name_byte);
-            if name.is_empty() {
-                continue;
-            }
-            self.blanks();
-            let value = if self.eat(b'=') {
-                self.blanks();
-                Some(self.value()?)
-            } else {
-                None
-            };
-            params.push((name, value));
-        }
-    }
-}
-
-fn read_links(text: &[u8]) -> Result<Vec<Link<'_>>, Fault> {
-    let mut scanner = Scanner { text, at: 0 };
-    let mut links = Vec::new();
-    let mut too_many = false;
-    loop {
-        scanner.blanks();
-        if scanner.eat(b'<') {
-            let link = scanner.link()?;
-            if links.len() < MAX_LINKS {
-                links.push(link);
-            } else {
-                too_many = true;
-            }
-        }
-        if !scanner.eat(b',') {
-            break;
-        }
-    }
-    if scanner.at < text.len() {
-        scanner.fault()
-    } else if too_many {
-        Err(Fault::TooManyLinks)
-    } else if links.iter().any(|link| link.params.len() > MAX_PARAMS) {
-        Err(Fault::TooManyParams)
-    } else if links.iter().any(|link| link.target.len() > MAX_ADDRESS) {
-        Err(Fault::TargetTooLong)
-    } else {
-        Ok(links)
-    }
-}
-
-impl Link<'_> {
-    fn value(&self, name: &str) -> Option<std::borrow::Cow<'_, [u8]>> {
-        let (_, value) = self
-            .params
-            .iter()
-            .find(|(known, _)| known.eq_ignore_ascii_case(name.as_bytes()))?;
-        Some(value.as_ref().map_or((&[][..]).into(), Value::bytes))
-    }
+    Links(scanner::Fault),
 }
 
 /// The seconds since 1970 that an IMF-fixdate names, whatever the name of its day.
@@ -324,7 +140,7 @@ fn trim(text: &[u8], is_cut: impl Fn(u8) -> bool) -> &[u8] {
 }
 
 fn memento(base: &str, link: &Link) -> Option<Memento> {
-    let at = read_imf(trim(&link.value("datetime")?, |byte| {
+    let at = read_imf(trim(&link.value(b"datetime")?, |byte| {
         byte == b' ' || byte == b'\t'
     }))?;
     let uri = if is_http_target(link.target) {
@@ -350,8 +166,8 @@ fn read_page(base: &str, body: &[u8]) -> Result<Page, Fault> {
     }
     let mut page = Page::default();
     let mut seen = HashSet::new();
-    for link in read_links(body)? {
-        let rel = link.value("rel").unwrap_or_default();
+    for link in read_links(body).map_err(Fault::Links)? {
+        let rel = link.value(b"rel").unwrap_or_default();
         let has = |name: &str| {
             rel.split(|byte| is_blank(*byte))
                 .any(|word| word.eq_ignore_ascii_case(name.as_bytes()))
@@ -369,7 +185,7 @@ fn read_page(base: &str, body: &[u8]) -> Result<Page, Fault> {
         if has("timemap")
             && !has("self")
             && link
-                .value("type")
+                .value(b"type")
                 .is_none_or(|value| is_link_format(&value))
         {
             match further(base, &link) {
