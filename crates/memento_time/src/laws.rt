@@ -43,8 +43,8 @@ pub fn texts_are_read()
     ensures asked { (text : List ℕ) (s : ℕ) → (asked_of text ≡ Some s) ↔ Asks text s }
 {}
 
-/// The date of a second, counted day after day, is one of the calendar, and the days of whole years and months lead back
-/// from it to the second.
+/// The date of a second, counted day after day, is one of the calendar, and the days of whole years and months lead
+/// back from it to the second.
 pub fn dates_are_of_the_calendar()
     ensures valid { (s : ℕ) → IsSecond s → IsValid (civil_time s) }
     ensures back { (s : ℕ) → IsSecond s → parts_secs (civil_time s) ≡ s }
