@@ -23,7 +23,7 @@ fn harvest(alloc: Global, archive: ArchiveName, number: u32) -> Result<Harvest> 
     }
 }
 
-/// Merges one memento for each of so many originals into a state, and prints how many keys it has then.
+/// Merges one memento for each of `count` originals into a state, and prints how many keys it has then.
 pub(crate) fn merge<R: Print + AllocGlobal>(rt: &R, count: u32) -> Result<()> {
     let alloc: Global = rt.alloc();
     let archive = ArchiveName::new(b"arc.example").context("no name")?;

@@ -30,7 +30,7 @@ fn counts_of(links: &Links<'_>) -> Result<Counts, AllocError> {
     Ok(counts)
 }
 
-/// Reads the links so many times.
+/// Reads the links `count` times.
 pub(crate) fn read<R: Print + AllocGlobal>(rt: &R, page: &[u8], count: u32) -> Result<()> {
     let alloc: Global = rt.alloc();
     for _ in 0..count {

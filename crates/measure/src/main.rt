@@ -1,9 +1,9 @@
 //! Does one layer's job by itself and many times, so that `bench/run` can measure it beside a plain Rust program.
 //!
-//! - `measure links COUNT < PAGE`: reads the links of a page so many times.
-//! - `measure pages COUNT < PAGE`: reads what the page says so many times.
-//! - `measure keys COUNT`: merges one memento for each of so many originals into a state, one by one.
-//! - `measure states COUNT < TEXT`: reads the text of a state and writes it again, so many times.
+//! - `measure links COUNT < PAGE`: reads the links of a page COUNT times.
+//! - `measure pages COUNT < PAGE`: reads what the page says COUNT times.
+//! - `measure keys COUNT`: merges one memento for each of COUNT originals into a state, one by one.
+//! - `measure states COUNT < TEXT`: reads the text of a state and writes it again, COUNT times.
 //!
 //! Each time it prints some counts, which must be those of the plain program. With no words it does nothing.
 #![tactic(auto)]

@@ -3,7 +3,7 @@ use anyhow::{Result, bail};
 use std::alloc::Global;
 use timemap_reader::read_page;
 
-/// Reads the page so many times.
+/// Reads the page `count` times.
 pub(crate) fn read<R: Print + AllocGlobal>(rt: &R, body: &[u8], count: u32) -> Result<()> {
     let alloc: Global = rt.alloc();
     for _ in 0..count {

@@ -3,7 +3,7 @@ use anyhow::{Result, bail};
 use replica_exchange::{read_state, write_state};
 use std::alloc::Global;
 
-/// Reads the text so many times, and writes each state that it is.
+/// Reads the text `count` times, and writes each state that it is.
 pub(crate) fn read_and_write<R: Print + AllocGlobal>(
     rt: &R,
     text: &[u8],

@@ -3,7 +3,7 @@ use Rattle.std.specs.Prelude.{ℕ, List, codes}
 use Rattle.memento_time.specs.declared.faults.CleanFault.{CleanFault}
 use Rattle.memento_time.specs.declared.faults.CleanFault.TheVariants.{NotClean, NoMemory}
 
--- how want of memory is printed
+-- how a refused growth is printed
 abbrev pub memory_words : List ℕ
 memory_words = codes "no memory"
 

@@ -10,7 +10,7 @@ use std::alloc::{AllocError, Global};
 use std::marker::Model;
 use std::sync::Arc;
 
-/// Gathers mementos, so that their addresses stand in one buffer in place of one each.
+/// Gathers mementos whose addresses share one buffer.
 #[derive(Debug, Drop)]
 pub struct MementosBuilder {
     marks: Vec<(Moment, u32)>,

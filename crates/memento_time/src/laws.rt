@@ -1,11 +1,11 @@
 //! Laws of the definitions.
-ghost use Rattle.std.specs.Prelude.{◌≡◌, ◌↔◌, ℕ, IsTrue, List, Some, codes};
+ghost use Rattle.std.specs.Prelude.{◌≡◌, ◌↔◌, ℕ, Bool, IsTrue, List, Some, codes};
 ghost use Rattle.std.specs.Cmp.{IsTotalOrder};
 ghost use Rattle.std.specs.Ordering.{nat_cmp};
 ghost use Rattle.std.specs.declared.cmp.Ordering.TheVariants.{Equal};
 ghost use Rattle.httpdate.specs.Valid.{IsValid, parts_secs};
 ghost use Rattle.memento_time.specs.BeforeEpoch.{IsBeforeEpoch, is_before_epoch};
-ghost use Rattle.memento_time.specs.Blanks.{IsTrimmed, trim_blanks};
+ghost use Rattle.memento_time.specs.Blanks.{IsTrimmed, trim};
 ghost use Rattle.memento_time.specs.Civil.{civil_time};
 ghost use Rattle.memento_time.specs.Mementos.{text_cmp, memento_cmp};
 ghost use Rattle.memento_time.specs.Second.{IsSecond, imf, Reads, Asks};
@@ -43,8 +43,8 @@ pub fn texts_are_read()
     ensures asked { (text : List ℕ) (s : ℕ) → (asked_of text ≡ Some s) ↔ Asks text s }
 {}
 
-/// The date of a second, told day after day, is one of the calendar, and the days of whole years and months lead back
-/// from it to the second.
+/// The date of a second, counted day after day, is one of the calendar, and the days of whole years and months lead
+/// back from it to the second.
 pub fn dates_are_of_the_calendar()
     ensures valid { (s : ℕ) → IsSecond s → IsValid (civil_time s) }
     ensures back { (s : ℕ) → IsSecond s → parts_secs (civil_time s) ≡ s }
@@ -52,9 +52,9 @@ pub fn dates_are_of_the_calendar()
     ensures of_rfc_9110 { imf 784111777 ≡ codes "Sun, 06 Nov 1994 08:49:37 GMT" }
 {}
 
-/// Trimming takes away blanks alone, and all that stand at an end.
+/// Trimming takes away such bytes alone, and all that stand at an end.
 pub fn blanks_are_cut()
-    ensures { (text : List ℕ) → IsTrimmed text (trim_blanks text) }
+    ensures { (test : ℕ → Bool) (text : List ℕ) → IsTrimmed test text (trim test text) }
 {}
 
 /// The dates before 1970, tested byte by byte, are the IMF-fixdates of those years.

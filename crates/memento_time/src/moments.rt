@@ -66,55 +66,42 @@ impl Moment {
         ensures exact { (s : ℕ) → Reads text.now s → result ≡ Some s }
         ensures value { result ≡ second_of text.now }
     {
-        read_date(text)
+        let bytes: &[u8; 29] = text.try_into().ok()?;
+        let own_name = [bytes[0], bytes[1], bytes[2]];
+        if !is_day_name(own_name) {
+            return None;
+        }
+        // Nearly every date bears the right name, so that one is tried before the seven.
+        if let Some(date) = date_under(&own_name, bytes) {
+            return Some(Moment {
+                secs: date.unix_secs(),
+            });
+        }
+        // Most texts that are no dates have another form, and are parsed no further.
+        if !fits_form(bytes) {
+            return None;
+        }
+        date_under_any_name(bytes)
     }
 
     /// Reads the value of `Accept-Datetime` (RFC 7089, section 2.1.1): an IMF-fixdate, perhaps between spaces and tabs.
     /// A date before 1970 asks for second 0, since no memento is earlier.
+    #[tactic(auto, unfolding(crate::specs::SecondOf::asked_of))]
     pub fn read_asked(text: &[u8]) -> Option<Moment>
         ensures asked { IfSome result (λ s. Asks text.now s) }
         ensures exact { (s : ℕ) → Asks text.now s → result ≡ Some s }
         ensures value { result ≡ asked_of text.now }
     {
-        read_wish(text)
+        let date = trim_blanks(text);
+        if let Some(moment) = Moment::read_imf(date) {
+            return Some(moment);
+        }
+        if is_before_epoch(date) {
+            Some(Moment { secs: 0 })
+        } else {
+            None
+        }
     }
-}
-
-fn read_wish(text: &[u8]) -> Option<Moment>
-    ensures asked { IfSome result (λ s. Asks text.now s) }
-    ensures exact { (s : ℕ) → Asks text.now s → result ≡ Some s }
-{
-    let date = trim_blanks(text);
-    if let Some(moment) = Moment::read_imf(date) {
-        return Some(moment);
-    }
-    if is_before_epoch(date) {
-        Some(Moment { secs: 0 })
-    } else {
-        None
-    }
-}
-
-fn read_date(text: &[u8]) -> Option<Moment>
-    ensures read { IfSome result (λ s. Reads text.now s) }
-    ensures exact { (s : ℕ) → Reads text.now s → result ≡ Some s }
-{
-    let bytes: &[u8; 29] = text.try_into().ok()?;
-    let own_name = [bytes[0], bytes[1], bytes[2]];
-    if !is_day_name(own_name) {
-        return None;
-    }
-    // Nearly every date bears the right name, so that one is tried before the seven.
-    if let Some(date) = date_under(&own_name, bytes) {
-        return Some(Moment {
-            secs: date.unix_secs(),
-        });
-    }
-    // And most texts that are no dates have another form, so that they are parsed just once.
-    if !fits_form(bytes) {
-        return None;
-    }
-    date_under_any_name(bytes)
 }
 
 fn date_under_any_name(bytes: &[u8; 29]) -> Option<Moment>

@@ -2,7 +2,7 @@
 //! place of the refusal, at that call or the next.
 //!
 //! `examples/memory/check.sh` refuses each request in turn. Whichever is refused, the same is printed: an event that is
-//! refused for want of memory leaves every reply as it was, and takes place when it comes again.
+//! refused because memory ran out leaves every reply as it was, and takes place when it comes again.
 #![tactic(auto)]
 
 mod exchange;
@@ -16,7 +16,7 @@ use std::alloc::Global;
 use std::io::Write;
 use timegate::{Reply, Request};
 
-/// What the event is answered, at the second try where the first is refused for want of memory.
+/// What the event is answered, at the second try where the first ran out of memory.
 fn insist(
     alloc: Global,
     world: &mut World,

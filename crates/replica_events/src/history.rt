@@ -25,8 +25,8 @@ pub fn what_replicas_have_taken()
 {}
 
 /// A message that no delivery names changes nothing of what replicas have learnt; nor does a further delivery of the
-/// same message to the same replica, if neither was the replica restarted nor the number sent anew in between; and two
-/// events in turn, of which none is a restart or sends, may come the other way round.
+/// same message to the same replica, if in between the replica wasn't restarted and no other message got the number;
+/// and two events in turn, of which none is a restart or sends, may come the other way round.
 pub fn deliveries_in_any_order()
     ensures lost { (before after : History) (sending : Event) (k : ℕ) →
         ((i : ℕ) → ¬ Contains after (Deliver i k, Ok Joined)) →

@@ -19,7 +19,7 @@ head = record { Is = λ h. IsEntryLine h.0 h.1.0 h.1.1; spelled = λ h. entry_li
 abbrev pub entry : Spelling (Key × Kept)
 entry = record { Is = IsEntry; spelled = entry_text }
 
--- so many, one after the other
+-- this number of them, one after the other
 abbrev pub many : {A : Type 0} → ℕ → Spelling A → Spelling (List A)
 many count s = record { Is = λ xs. (length xs ≡ count) × All s.Is xs; spelled = flat_map s.spelled }
 

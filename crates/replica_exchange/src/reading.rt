@@ -35,7 +35,7 @@ fn read_memento<'a>(
     Ok((Memento { at, uri }, rest))
 }
 
-/// The lines of so many mementos, and what follows. Nothing is reserved for lines that may not come.
+/// The lines of `count` mementos, and what follows. Nothing is reserved for lines that may not come.
 fn read_mementos<'a>(
     alloc: Global,
     buffer: &Arc<Vec<u8>>,
@@ -107,7 +107,7 @@ fn read_entry<'a>(
     Ok((row, rest))
 }
 
-/// So many entries, and what follows. Nothing is reserved for entries that may not come.
+/// `count` entries, and what follows. Nothing is reserved for entries that may not come.
 fn read_entries<'a>(
     alloc: Global,
     buffer: &Arc<Vec<u8>>,

@@ -53,7 +53,7 @@ after_line_end (b ∷ rest) = if b == 10 then Some rest else None
 abbrev pub longest_block : ℕ
 longest_block = 300000000
 
--- so many bytes, followed by LF or the end, and what follows them
+-- this number of bytes, followed by LF or the end, and what follows them
 unfoldable pub block_of : ℕ → List ℕ → Option (List ℕ × List ℕ)
 block_of len text =
     if nat_lt longest_block len || nat_lt (length text) len then None
@@ -69,7 +69,7 @@ line_of text =
     if (length text == 0) || nat_lt longest_line (length (first_line text).0) then None
     else Some (first_line text)
 
--- so many lines, and what follows them
+-- this number of lines, and what follows them
 unfoldable pub lines_of : ℕ → List ℕ → Option (List (List ℕ) × List ℕ)
 lines_of zero text = Some ([], text)
 lines_of (suc count) text = do

@@ -17,7 +17,7 @@ IsEnded text parts = (text ≡ parts.0 ++ 10 ∷ parts.1) ⊎ ((text ≡ parts.0
 abbrev pub IsLine : List ℕ → List ℕ × List ℕ → Type 0
 IsLine text parts = (0 < length text) × (length parts.0 ≤ 65536) × Lacks 10 parts.0 × IsEnded text parts
 
--- a block of so many bytes, at most 300,000,000, and what follows it
+-- a block of this number of bytes, at most 300,000,000, and what follows it
 abbrev pub IsBlock : ℕ → List ℕ → List ℕ × List ℕ → Type 0
 IsBlock len text parts = (len ≤ 300000000) × (length parts.0 ≡ len) × IsEnded text parts
 

@@ -52,7 +52,7 @@ abbrev pub taken_line : Page → List ℕ
 taken_line page =
     line (codes "taken " ++ decimal (length page.mementos) ++ codes " " ++ decimal (length page.further) ++ codes " " ++ decimal page.dropped)
 
--- want of memory ends a replay, and this line is never written
+-- out of memory ends a replay, and this line is never written
 abbrev pub refusal_line : Refused → List ℕ
 refusal_line why = refused (words_of why)
 

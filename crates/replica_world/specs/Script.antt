@@ -64,7 +64,7 @@ command_at text = do
   said ← form_of line.0
   command_of said line.1
 
--- so many replicas of the service with this base
+-- this number of replicas of the service with this base
 pub record Start : Type 0 where
   pub replicas : ℕ
   pub base : List ℕ
@@ -116,7 +116,7 @@ abbrev pub onward : List ℕ → Found → (List ℕ → Commands) → Commands
 onward text None next = bad_from text
 onward text (Some found) next = command_before found.0 (next found.1)
 
--- the commands of a text of so many bytes at most, whose first line isn't empty
+-- the commands of a text of at most this number of bytes, whose first line isn't empty
 unfoldable pub commands_within : ℕ → List ℕ → Commands
 commands_within zero text = no_more
 commands_within (suc bytes) [] = no_more

@@ -10,7 +10,7 @@ ghost use Rattle.replica_world.specs.ReadBack.{AreOnWeb, page_of};
 
 /// A TimeMap of at most 8,388,608 bytes, whose mementos have addresses that begin with `http://` or `https://`, may be
 /// answered as a page of just these mementos, whatever http or https URL it was fetched from: so one aggregator can
-/// harvest another. No other page may be answered, by `one_page`, and no fault but want of memory, by
+/// harvest another. No other page may be answered, by `one_page`, and no fault but NoMemory, by
 /// `no_fault_beside_a_page`.
 pub fn timemaps_are_pages()
     ensures { (base original address : List ℕ) (url : Parts) (mementos : List Memento) → IsBase base → IsOriginal original → AreOnWeb mementos

@@ -1,9 +1,9 @@
 -- What a link is on a page of a TimeMap (RFC 7089, sections 2.2 and 5): whether it names a memento or a further TimeMap, and which.
-use Rattle.std.specs.Prelude.{ℕ, Bool, true, ◌==◌, ◌&&◌, not, List, reverse, [], ◌∷◌, codes, Option, Some, None, option_map, if◌then◌else◌}
+use Rattle.std.specs.Prelude.{ℕ, Bool, true, ◌==◌, ◌&&◌, not, List, codes, Option, Some, None, option_map}
 use Rattle.std.specs.List.{slice_split, list_any, before_first}
 use Rattle.std.specs.Option.{option_and_then}
 use Rattle.url.specs.Parts.{Parts}
-use Rattle.memento_time.specs.Blanks.{trim_blanks}
+use Rattle.memento_time.specs.Blanks.{trim, trim_blanks}
 use Rattle.memento_time.specs.SecondOf.{second_of}
 use Rattle.memento_time.specs.declared.mementos.Memento.{Memento}
 use Rattle.link_format.specs.Bytes.{is_blank}
@@ -23,23 +23,10 @@ lists name rel = list_any (λ word. same_word word name) (slice_split is_blank r
 abbrev pub has_relation : List ℕ → Link → Bool
 has_relation name link = lists name (rel_of link)
 
--- the text without the blanks of link-format at its start
-unfoldable pub trim_start : List ℕ → List ℕ
-trim_start [] = []
-trim_start (b ∷ text) = if is_blank b then trim_start text else b ∷ text
-
--- a text without those at its end
-abbrev pub trim_end : List ℕ → List ℕ
-trim_end text = reverse (trim_start (reverse text))
-
--- without those at both ends
-abbrev pub trim : List ℕ → List ℕ
-trim text = trim_end (trim_start text)
-
--- no media type, or that of link-format, up to its first `;` and without blanks round it (RFC 6690, section 7.3)
+-- no media type, or that of link-format, up to its first `;` and without the blanks of link-format round it (RFC 6690, section 7.3)
 abbrev pub is_link_format : Option (List ℕ) → Bool
 is_link_format None = true
-is_link_format (Some value) = same_word (trim (before_first (λ b. b == 59) value)) (codes "application/link-format")
+is_link_format (Some value) = same_word (trim is_blank (before_first (λ b. b == 59) value)) (codes "application/link-format")
 
 -- the link has the relation type `memento`
 abbrev pub is_memento_link : Link → Bool

@@ -21,7 +21,7 @@ pub(crate) fn is_http(url: &Url) -> bool
 }
 
 /// The text with each byte that is not clean escaped.
-pub(crate) fn cleaned(alloc: Global, text: &[u8]) -> Result<String, AllocError>
+pub(crate) fn escape(alloc: Global, text: &[u8]) -> Result<String, AllocError>
     ensures { IfOk result (λ clean. string_bytes clean ≡ spec.clean_text text.now) }
 {
     let mut clean = String::new(alloc);
@@ -73,7 +73,7 @@ fn clean_address(alloc: Global, text: &[u8]) -> Result<Option<Clean>, AllocError
         Err(CleanFault::NotClean) => {}
         Err(CleanFault::NoMemory) => return Err(AllocError),
     }
-    match Clean::new(alloc, cleaned(alloc, text)?.as_bytes()) {
+    match Clean::new(alloc, escape(alloc, text)?.as_bytes()) {
         Ok(address) => Ok(Some(address)),
         Err(CleanFault::NotClean) => Ok(None),
         Err(CleanFault::NoMemory) => Err(AllocError),
@@ -81,7 +81,7 @@ fn clean_address(alloc: Global, text: &[u8]) -> Result<Option<Clean>, AllocError
 }
 
 /// The URL that the target names at the page's base; None where that is no http or https URL.
-fn joined(base: &Url, target: &[u8]) -> Result<Option<Url>, AllocError>
+fn join(base: &Url, target: &[u8]) -> Result<Option<Url>, AllocError>
     ensures text { IfOk result (λ url. spec.joined_text base.now target.now ≡ option_map serialize url) }
     ensures http { IfOk result (λ url. IfSome url (λ u. IsTrue (spec.is_http_scheme u.scheme))) }
 {
@@ -119,7 +119,7 @@ fn push_at_text(
         Err(CleanFault::NotClean) => {}
         Err(CleanFault::NoMemory) => return Err(AllocError),
     }
-    match mementos.push(at, cleaned(alloc, text)?.as_bytes()) {
+    match mementos.push(at, escape(alloc, text)?.as_bytes()) {
         Ok(()) => Ok(true),
         Err(CleanFault::NotClean) => Ok(false),
         Err(CleanFault::NoMemory) => Err(AllocError),
@@ -142,7 +142,7 @@ pub(crate) fn push_memento_at(
     if is_http_target(target) {
         return push_at_text(mementos, at, alloc, target);
     }
-    match joined(base, target)? {
+    match join(base, target)? {
         Some(url) => push_at_text(mementos, at, alloc, url.as_str().as_bytes()),
         None => Ok(false),
     }
@@ -159,7 +159,7 @@ pub(crate) fn further_address(
     if is_http_target(target) {
         return clean_address(alloc, before_byte(target, b'#'));
     }
-    match joined(base, target)? {
+    match join(base, target)? {
         Some(url) => clean_address(alloc, before_byte(url.as_str().as_bytes(), b'#')),
         None => Ok(None),
     }

@@ -3,7 +3,7 @@ ghost use Rattle.std.specs.Prelude.{◌≡◌, ◌⊎◌, ◌<◌, Some, IfOk, I
 ghost use Rattle.timemap_reader.specs.Address.{clean_text};
 ghost use Rattle.timemap_reader.specs.Original.{original_reading, within_limit, words_of};
 
-use crate::address::{cleaned, is_http};
+use crate::address::{escape, is_http};
 use memento_time::{CleanFault, Original};
 use std::alloc::{AllocError, Global};
 use std::error::Error;
@@ -62,7 +62,7 @@ fn clean_original(alloc: Global, written: &[u8]) -> Result<Original, OriginalFau
         Err(CleanFault::NotClean) => {}
         Err(CleanFault::NoMemory) => return Err(OriginalFault::NoMemory),
     }
-    match Original::new(alloc, cleaned(alloc, written)?.as_bytes()) {
+    match Original::new(alloc, escape(alloc, written)?.as_bytes()) {
         Ok(original) => Ok(original),
         Err(CleanFault::NotClean) => Err(OriginalFault::TooLong),
         Err(CleanFault::NoMemory) => Err(OriginalFault::NoMemory),
@@ -80,7 +80,7 @@ pub fn read_original(alloc: Global, text: &str) -> Result<Original, OriginalFaul
     // An original reads as itself.
     ensures kept { IfOk result (λ original. original_reading original ≡ Ok original) }
     ensures too_long { 4096 < length text.now → result ≡ Err OriginalFault.TooLong }
-    // Want of memory may come at any later place.
+    // NoMemory may come at any later place.
     ensures refused { IfErr result (λ fault.
         (original_reading text.now ≡ Err fault) ⊎ (fault ≡ OriginalFault.NoMemory)) }
 {

@@ -8,50 +8,16 @@ ghost use Rattle.timemap_reader.specs.Role as spec;
 
 use crate::address::{before_byte, further_address, is_same_word, push_memento_at};
 use link_format::LinkRef;
-use memento_time::{Clean, MementosBuilder, Moment, trim_blanks};
+use memento_time::{Clean, MementosBuilder, Moment, trim, trim_blanks};
 use std::alloc::{AllocError, Global};
 use std::borrow::CowSlice;
 use url::Url;
 
-/// Whether the byte is a blank of link-format, which parts relation types and may stand round a media type.
+/// Whether the byte is a blank of link-format, which parts relation types.
 fn is_blank(byte: u8) -> bool
     ensures { result ≡ is_blank byte }
 {
     matches!(byte, b' ' | b'\t' | b'\r' | b'\n')
-}
-
-/// The text without the blanks at its start.
-fn trim_start(text: &[u8]) -> &[u8]
-    ensures { result.now ≡ spec.trim_start text.now }
-{
-    let mut rest = text;
-    while let [first, after @ ..] = rest {
-        if !is_blank(*first) {
-            return rest;
-        }
-        rest = after;
-    }
-    rest
-}
-
-/// The text without the blanks at its end.
-fn trim_end(text: &[u8]) -> &[u8]
-    ensures { result.now ≡ spec.trim_end text.now }
-{
-    let mut rest = text;
-    while let [before @ .., last] = rest {
-        if !is_blank(*last) {
-            return rest;
-        }
-        rest = before;
-    }
-    rest
-}
-
-fn trim(text: &[u8]) -> &[u8]
-    ensures { result.now ≡ spec.trim text.now }
-{
-    trim_end(trim_start(text))
 }
 
 /// Whether the relation type is one of those that the value of `rel` lists.
@@ -65,10 +31,8 @@ fn lists(rel: &[u8], name: &[u8]) -> bool
 fn is_link_format(media_type: &[u8]) -> bool
     ensures { result ≡ spec.is_link_format (Some media_type.now) }
 {
-    is_same_word(
-        trim(before_byte(media_type, b';')),
-        b"application/link-format",
-    )
+    let name = trim(before_byte(media_type, b';'), b" \t\r\n");
+    is_same_word(name, b"application/link-format")
 }
 
 fn has_link_format(link: &LinkRef<'_>) -> Result<bool, AllocError>

@@ -8,7 +8,7 @@ use crate::replaying::watched::Watched;
 use std::alloc::Global;
 use std::io::{Read, Write};
 
-/// A reader that isn't at its end after so many reads counts as failed, so that a replay ends.
+/// A reader that isn't at its end after this number of reads counts as failed, so that a replay ends.
 const MOST_READS: u64 = 1_000_000_000;
 
 /// All that a reader gives.

@@ -118,7 +118,7 @@ refused bad state
 refused no replica
 ";
 
-/// A reader that gives a byte at a time, and fails once it was read so many times.
+/// A reader that gives a byte at a time, and fails after `reads` of them.
 #[derive(Drop)]
 struct FailingReader<'a> {
     rest: &'a [u8],
@@ -139,7 +139,7 @@ impl Read for FailingReader<'_> {
     }
 }
 
-/// A writer that takes a byte at a time, and fails once it was written to so many times.
+/// A writer that takes a byte at a time, and fails after `writes` of them.
 #[derive(Drop)]
 struct FailingWriter<'a> {
     bytes: &'a mut Vec<u8>,

@@ -82,7 +82,7 @@ pub fn accepted_line(event: &Event) -> &'static [u8]
     }
 }
 
-/// What is written of an answer. Refused for want of memory, it writes nothing.
+/// What is written of an answer: nothing where memory ran out.
 pub fn answer_text(
     alloc: Global,
     accepted: &[u8],

@@ -1,5 +1,5 @@
-use Rattle.memento_time.proofs.TrimLemmas.{trim_blanks-IsTrimmed}
+use Rattle.memento_time.proofs.TrimLemmas.{trim-IsTrimmed}
 use Rattle.memento_time.proofs.laws.blanks_are_cut.Goals as goal
 
 pub returns : goal.returns
-returns c = trim_blanks-IsTrimmed
+returns c = trim-IsTrimmed

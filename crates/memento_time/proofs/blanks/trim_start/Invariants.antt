@@ -1,0 +1,9 @@
+use Rattle.std.proofs.Common.{◌≡◌, length}
+use Rattle.memento_time.specs.Blanks.{is_among, trim_start}
+use Rattle.memento_time.proofs.blanks.trim_start.Given as goal
+
+abbrev pub invariant-loop-rest : goal.invariant-loop-rest
+invariant-loop-rest l = trim_start (is_among l.bytes) l.rest ≡ trim_start (is_among l.bytes) l.text
+
+abbrev pub decreases-loop-rest : goal.decreases-loop-rest
+decreases-loop-rest l = length l.rest
