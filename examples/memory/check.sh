@@ -1,15 +1,17 @@
 #!/usr/bin/env bash
-# Refuses each request for memory in turn, first while the program replays a script, then while two replicas exchange
-# what they know:
+# Refuses each request for memory in turn: while the program replays a script, while two replicas exchange what they know
+# and an archive's pages are walked over (`refusals`), and while a merger publishes and its gate is asked (`gate_trials`):
 #
-#     ./run --build && (cd crates/refusals && rt run >/dev/null) && examples/memory/check.sh
+#     ./run --build && (cd crates/refusals && rt run >/dev/null) && (cd crates/gate_trials && rt run >/dev/null) &&
+#         examples/memory/check.sh
 #
 # A replay must end with status 3 and `no memory`, and must have written a beginning of the script's output: never another
-# answer in place of the fault. `refusals` calls again whatever was refused, and must print the same in every case.
+# answer in place of the fault. The other two call again whatever was refused, and must print the same in every case.
 set -euo pipefail
 top=$(cd "$(dirname "$0")/../.." && pwd)
 program=${PROGRAM:-$top/crates/aggregator/out/aggregator}
 refusals=${REFUSALS:-$top/crates/refusals/out/refusals}
+trials=${TRIALS:-$top/crates/gate_trials/out/gate_trials}
 work=$(mktemp -d)
 trap 'rm -r "$work"' EXIT
 cc -O2 -shared -fPIC -o "$work/refuse.so" "$top/examples/memory/refuse.c" -ldl
@@ -43,19 +45,22 @@ check_replay() {
     echo "$(basename "$script"): $count requests for memory refused in turn, each with status 3"
 }
 
-check_exchange() {
-    local number count
-    count=$(requests_of "$refusals")
+# A command that calls again whatever was refused: check_calls EXPECTED COMMAND
+check_calls() {
+    local expected=$1 number count
+    shift
+    count=$(requests_of "$@")
     for number in $(seq "$count"); do
-        run_refused "$number" "$refusals" && cmp "$work/out" "$top/crates/refusals/stdout" || {
-            echo "refusals: request $number refused: $(cat "$work/err")" >&2
+        run_refused "$number" "$@" && cmp "$work/out" "$expected" || {
+            echo "$(basename "$1"): request $number refused: $(cat "$work/err")" >&2
             exit 1
         }
     done
-    echo "refusals: $count requests for memory refused in turn, each time the same answers at the next call"
+    echo "$(basename "$1"): $count requests for memory refused in turn, each time the same answers at the next call"
 }
 
 for script in "$top"/examples/*.replay; do
     check_replay "$script"
 done
-check_exchange
+check_calls "$top/crates/refusals/stdout" "$refusals"
+check_calls "$top/examples/memory/gates.expected" "$trials" refusals
