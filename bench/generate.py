@@ -6,6 +6,7 @@ generate.py take N     a script that takes that page and asks for its TimeMap
 generate.py keys N     a script that takes one memento for each of N originals, one by one
 generate.py world N    a script of N events over 16 replicas
 generate.py state N    a state's text with N mementos, 100 in each entry
+generate.py hostile N  a state's text with N entries of nothing, each of another archive and another original
 """
 import sys
 from email.utils import formatdate
@@ -92,6 +93,11 @@ def main():
             write(f"entry arc.example 1 100 http://a.example/{e:07d}\n")
             for k in range(100):
                 write(f"{FIRST + k} http://m.example/{e:07d}/{k:03d}\n")
+        write("end\n")
+    elif kind == "hostile":
+        write(f"memento-state 1\nentries {count}\n")
+        for e in range(count):
+            write(f"entry a{e:06d} 1 0 http://a.example/{e:06d}\n")
         write("end\n")
     else:
         sys.exit(__doc__)

@@ -1,15 +1,32 @@
 /*
- * Refuses one request for memory: the one whose number REFUSE names, counted from 1. At the end the number of requests is
- * written to the file that COUNT names. To be preloaded.
+ * Refuses one request for memory: the one whose number REFUSE names, counted from 1. The number of requests up to now is
+ * kept in the file that COUNT names: a program may end by _exit, which runs nothing of ours. To be preloaded.
  */
 #define _GNU_SOURCE
 #include <dlfcn.h>
 #include <errno.h>
+#include <fcntl.h>
 #include <stddef.h>
 #include <stdio.h>
 #include <stdlib.h>
+#include <unistd.h>
 
 static long asked;
+
+/* Takes no memory. */
+static void tell(void) {
+    static int file = -1;
+    static int begun = 0;
+    char text[24];
+    if (!begun) {
+        const char *name = getenv("COUNT");
+        begun = 1;
+        if (name)
+            file = open(name, O_WRONLY | O_CREAT | O_TRUNC, 0644);
+    }
+    if (file >= 0 && pwrite(file, text, (size_t)sprintf(text, "%ld\n", asked), 0) < 0)
+        abort();
+}
 
 static int is_refused(void) {
     static long wanted = -1;
@@ -17,20 +34,12 @@ static int is_refused(void) {
         const char *word = getenv("REFUSE");
         wanted = word ? atol(word) : 0;
     }
-    if (++asked != wanted)
+    asked++;
+    tell();
+    if (asked != wanted)
         return 0;
     errno = ENOMEM;
     return 1;
-}
-
-__attribute__((destructor)) static void tell(void) {
-    const char *name = getenv("COUNT");
-    const long count = asked;
-    FILE *file = name ? fopen(name, "w") : NULL;
-    if (file) {
-        fprintf(file, "%ld\n", count);
-        fclose(file);
-    }
 }
 
 void *malloc(size_t size) {

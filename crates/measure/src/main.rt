@@ -4,14 +4,22 @@
 //! - `measure pages COUNT < PAGE`: reads what the page says COUNT times.
 //! - `measure keys COUNT`: merges one memento for each of COUNT originals into a state, one by one.
 //! - `measure states COUNT < TEXT`: reads the text of a state and writes it again, COUNT times.
+//! - `measure hostile COUNT < TEXT`: reads the text of a state and absorbs it in an index of nothing, COUNT times.
+//! - `measure memory COUNT`: fills an index with COUNT mementos, ten of each original.
+//! - `measure walk COUNT`: walks over 64 pages of 1,500 mementos each, COUNT times.
+//! - `measure read COUNT`: fetches and reads these pages COUNT times, and does no more with them.
+//! - `measure round WORKERS`: a round of 1,000 jobs, each of a page that takes a millisecond.
 //!
 //! Each time it prints some counts, which must be those of the plain program. With no words it does nothing.
 #![tactic(auto)]
 
+mod hostile;
 mod keys;
 mod links;
+mod memory;
 mod pages;
 mod states;
+mod walks;
 
 use anyhow::{Context, Result, bail};
 use std::env;
@@ -29,16 +37,25 @@ fn measure(rt: &HostRuntime, kind: &str, count: u32) -> Result<()> {
         "links" => links::read(rt, &input(rt)?, count),
         "pages" => pages::read(rt, &input(rt)?, count),
         "keys" => keys::merge(rt, count),
+        "hostile" => hostile::read_and_absorb(rt, &input(rt)?, count),
+        "memory" => memory::fill(rt, count),
         "states" => states::read_and_write(rt, &input(rt)?, count),
         _ => bail!("nothing of that name is measured"),
     }
 }
 
+// Only `main` may wait and start threads.
 fn main(rt: HostRuntime) -> Result<()> {
     let mut words = env::args(&rt)?.skip(1);
     let Some(kind) = words.next() else {
         return Ok(());
     };
     let count = words.next().context("how often?")?;
-    measure(&rt, &kind, count.parse::<u32>().context("how often?")?)
+    let count = count.parse::<u32>().context("how often?")?;
+    match kind.as_str() {
+        "walk" => walks::walk_pages(&rt, count),
+        "read" => walks::read_pages(&rt, count),
+        "round" => walks::round(&rt, count as usize),
+        kind => measure(&rt, kind, count),
+    }
 }

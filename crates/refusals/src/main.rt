@@ -1,12 +1,14 @@
-//! Performs an exchange of two replicas while requests for memory may be refused, and looks for an answer that changed in
-//! place of the refusal, at that call or the next.
+//! Performs an exchange of two replicas, and a walk over an archive's pages, while requests for memory may be refused, and
+//! looks for an answer that changed in place of the refusal, at that call or the next.
 //!
-//! `examples/memory/check.sh` refuses each request in turn. Whichever is refused, the same is printed: an event that is
-//! refused because memory ran out leaves every reply as it was, and takes place when it comes again.
+//! `tests/memory/run` refuses each request in turn. Whichever is refused, the same is printed: an event that is
+//! refused because memory ran out leaves every reply as it was, and takes place when it comes again; a walk that is refused
+//! memory says so, and what it fetched up to there is the beginning of the whole record.
 #![tactic(auto)]
 
 mod exchange;
 mod replies;
+mod walks;
 
 use crate::exchange::{Exchange, begin};
 use crate::replies::{is_same, replies_of_all};
@@ -74,5 +76,7 @@ fn main(rt: HostRuntime) -> Result<()> {
     for reply in &replies_of_all(alloc, &world, &questions)? {
         print_reply(&rt, reply)?;
     }
-    Ok(())
+    let archive = walks::make_archive(alloc).or_else(|_| walks::make_archive(alloc))?;
+    let outcome = walks::insist(&rt, &archive)?;
+    walks::print_outcome(&rt, &outcome)
 }
