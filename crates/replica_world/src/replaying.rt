@@ -6,6 +6,7 @@ pub mod fault;
 mod fields;
 mod form;
 pub mod laws;
+mod output;
 mod perform;
 pub mod run;
 mod start;

@@ -10,6 +10,7 @@ ghost use Rattle.replica_world.specs.Spelled.{command_view, taking_view};
 
 use crate::replaying::command::{Command, Taking};
 use crate::replaying::fields::utf8_text;
+use crate::replaying::output::Output;
 use crate::replaying::texts::{accepted_line, answer_text, refused, taken_line};
 use crate::world::World;
 use harvest_lattice::{Harvest, HarvestFault};
@@ -55,11 +56,11 @@ fn happen(
     world: &mut World,
     accepted: &[u8],
     event: &Event,
-) -> Result<Vec<u8>, NoMemory>
-    ensures { IfOk result (λ text. IsHappening world.old accepted.now event.now text.items world.new) }
+) -> Result<Output, NoMemory>
+    ensures { IfOk result (λ text. IsHappening world.old accepted.now event.now text world.new) }
 {
     let answer = world.step(event);
-    answer_text(alloc, accepted, &answer)
+    answer_text(alloc, accepted, answer)
 }
 
 /// Takes the mementos of a page.
@@ -69,9 +70,9 @@ fn take_harvest(
     taking: &Taking<'_>,
     original: &Original,
     page: Page,
-) -> Result<Vec<u8>, NoMemory>
+) -> Result<Output, NoMemory>
     requires { IsStrictlySortedBy memento_cmp page.mementos }
-    ensures { IfOk result (λ text. IsHarvestTaken world.old (taking_view taking.now) original.now page text.items world.new) }
+    ensures { IfOk result (λ text. IsHarvestTaken world.old (taking_view taking.now) original.now page text world.new) }
 {
     let Some(archive) = ArchiveName::new(taking.archive) else {
         return refused(alloc, "bad archive");
@@ -88,8 +89,8 @@ fn take_harvest(
 }
 
 /// Reads a page and takes its mementos.
-fn take(alloc: Global, world: &mut World, taking: &Taking<'_>) -> Result<Vec<u8>, NoMemory>
-    ensures { IfOk result (λ text. IsPageTaken world.old (taking_view taking.now) text.items world.new) }
+fn take(alloc: Global, world: &mut World, taking: &Taking<'_>) -> Result<Output, NoMemory>
+    ensures { IfOk result (λ text. IsPageTaken world.old (taking_view taking.now) text world.new) }
 {
     let Some(original) = original(alloc, taking.original)? else {
         return refused(alloc, "bad original");
@@ -100,9 +101,9 @@ fn take(alloc: Global, world: &mut World, taking: &Taking<'_>) -> Result<Vec<u8>
     take_harvest(alloc, world, taking, &original, page)
 }
 
-/// Does what a command says, and gives the text that it writes.
-pub fn perform(alloc: Global, world: &mut World, command: &Command<'_>) -> Result<Vec<u8>, NoMemory>
-    ensures { IfOk result (λ text. IsPerformed world.old (command_view command.now) text.items world.new) }
+/// Does what a command says, and gives what it writes.
+pub fn perform(alloc: Global, world: &mut World, command: &Command<'_>) -> Result<Output, NoMemory>
+    ensures { IfOk result (λ text. IsPerformed world.old (command_view command.now) text world.new) }
 {
     match command {
         Command::Take(taking) => take(alloc, world, taking),

@@ -8,9 +8,10 @@ ghost use Rattle.replica_world.specs.Output.{Replays, ReplaysFrom};
 ghost use Rattle.replica_world.specs.Performing.{IsFirstPerformed};
 
 use crate::replaying::command::command_at;
-use crate::replaying::devices::{read_all, write_whole};
+use crate::replaying::devices::read_all;
 use crate::replaying::fault::ReplayFault;
 use crate::replaying::fields::after_empty_lines;
+use crate::replaying::output::Output;
 use crate::replaying::perform::perform;
 use crate::replaying::start::start_at;
 use crate::replaying::watched::Watched;
@@ -42,9 +43,9 @@ fn perform_first<'a>(
     alloc: Global,
     world: &mut World,
     text: &'a [u8],
-) -> Result<Option<(Vec<u8>, &'a [u8])>, NoMemory>
+) -> Result<Option<(Output, &'a [u8])>, NoMemory>
     ensures { IfOk result (λ first. MatchOption first (command_at text.now ≡ None)
-        (λ p. IsFirstPerformed world.old text.now p.0.items p.1.now world.new)) }
+        (λ p. IsFirstPerformed world.old text.now p.0 p.1.now world.new)) }
 {
     let Some((command, rest)) = command_at(alloc, text)? else {
         return Ok(None);
@@ -75,7 +76,7 @@ fn replay_commands<W: Write>(
                 number: number_of_line(script, rest),
             });
         };
-        write_whole(writer, &said)?;
+        said.write(writer)?;
         rest = after;
     }
     Ok(())

@@ -2,6 +2,7 @@
 ghost use Rattle.std.specs.Prelude.{◌≡◌, ◌≢◌, ◌++◌, ◌∷◌, [], IfOk, OnOk, Err, codes, length, string_bytes};
 ghost use Rattle.replica_world.specs.Output.{line, counted, refused, header_line, reply_text, taken_line, refusal_line, answer_text, accepted_line};
 
+use crate::replaying::output::Output;
 use memento_time::{NoMemory, Octets};
 use replica_events::{Event, Refused, Said};
 use std::alloc::Global;
@@ -9,11 +10,11 @@ use timegate::{Header, Reply};
 use timemap_reader::Page;
 
 /// The line of a refused command.
-pub fn refused(alloc: Global, why: &str) -> Result<Vec<u8>, NoMemory>
-    ensures { IfOk result (λ text. text.items ≡ refused why.now) }
+pub fn refused(alloc: Global, why: &str) -> Result<Output, NoMemory>
+    ensures { IfOk result (λ text. text ≡ refused why.now) }
 {
     let text = format!(in alloc; "refused {why}\n")?;
-    Ok(text.into_bytes())
+    Ok(Output::of_lines(alloc, text.into_bytes()))
 }
 
 /// The line of a refused event.
@@ -54,20 +55,25 @@ fn write_header(out: &mut Vec<u8>, header: &(Header, Octets)) -> Result<(), NoMe
     Ok(())
 }
 
-/// A reply: its status, its headers in order, and its body behind its length.
-fn reply_text(alloc: Global, reply: &Reply) -> Result<Vec<u8>, NoMemory>
-    ensures { IfOk result (λ text. text.items ≡ reply_text reply.now) }
+/// The lines of a reply before its body: its status, its headers in order, and the body's length.
+fn reply_lines(alloc: Global, reply: &Reply) -> Result<Vec<u8>, NoMemory>
+    ensures { IfOk result (λ lines. lines.items ++ reply.now.body ≡ reply_text reply.now) }
 {
     let mut out = counted(alloc, "reply", u64::from(reply.status))?;
     for header in reply.headers.as_slice() {
         write_header(&mut out, header)?;
     }
-    let body = reply.body.as_slice();
-    let length = counted(alloc, "body", body.len() as u64)?;
-    out.reserve(length.len() + body.len())?;
+    let length = counted(alloc, "body", reply.body.as_slice().len() as u64)?;
     out.extend_from_slice(&length)?;
-    out.extend_from_slice(body)?;
     Ok(out)
+}
+
+/// A reply, with its body as it is.
+fn reply_text(alloc: Global, reply: Reply) -> Result<Output, NoMemory>
+    ensures { IfOk result (λ text. text ≡ reply_text reply) }
+{
+    let lines = reply_lines(alloc, &reply)?;
+    Ok(Output::with_body(lines, reply.body))
 }
 
 /// The line of an event that says neither a number nor a reply.
@@ -86,16 +92,17 @@ pub fn accepted_line(event: &Event) -> &'static [u8]
 pub fn answer_text(
     alloc: Global,
     accepted: &[u8],
-    answer: &Result<Said, Refused>,
-) -> Result<Vec<u8>, NoMemory>
-    ensures text { IfOk result (λ text. text.items ≡ answer_text accepted.now answer.now) }
-    ensures memory { OnOk result (answer.now ≢ Err Refused.NoMemory) }
+    answer: Result<Said, Refused>,
+) -> Result<Output, NoMemory>
+    ensures text { IfOk result (λ text. text ≡ answer_text accepted.now answer) }
+    ensures memory { OnOk result (answer ≢ Err Refused.NoMemory) }
 {
-    match answer {
-        Ok(Said::Taken | Said::Joined | Said::Restarted) => Ok(Vec::from_slice(alloc, accepted)?),
-        Ok(Said::Sent(count)) => counted(alloc, "sent", *count as u64),
-        Ok(Said::Replied(reply)) => reply_text(alloc, reply),
-        Err(Refused::NoMemory) => Err(NoMemory),
-        Err(why) => refusal_line(alloc, *why),
-    }
+    let lines = match answer {
+        Ok(Said::Replied(reply)) => return reply_text(alloc, reply),
+        Ok(Said::Taken | Said::Joined | Said::Restarted) => Vec::from_slice(alloc, accepted)?,
+        Ok(Said::Sent(count)) => counted(alloc, "sent", count as u64)?,
+        Err(Refused::NoMemory) => return Err(NoMemory),
+        Err(why) => refusal_line(alloc, why)?,
+    };
+    Ok(Output::of_lines(alloc, lines))
 }

@@ -1,4 +1,4 @@
-use Rattle.std.proofs.Common.{◌<◌, ◌∙◌, Err, length, arith, ap}
+use Rattle.std.proofs.Common.{◌<◌, ◌∙◌, Err, length, arith, ap, refl}
 use Rattle.std.proofs.lemmas.Result.{err_from_is_err_and}
 use Rattle.replica_world.specs.declared.replaying.fault.ReplayFault.{ReplayFault}
 use Rattle.replica_world.proofs.Progress.{progress_start, progress_end, progress_bad, progress_next, progress_out_of_memory, progress_cut, some_left, none_left}
@@ -21,12 +21,12 @@ pub returns-in_default-clause-replays : goal.returns-in_default-clause-replays
 returns-in_default-clause-replays g c = λ w stands.
     progress_bad _ _ _ _ _ _ _ _ _ (c.commands.invariant.progress w stands) (some_left _ _ c.is_empty.ensures c.commands-test.true) (rw c.in_default.is at c.in_ok-said.ensures) c.number_of_line.ensures
 
-pub returns-in_err-write_whole-clause-replays : goal.returns-in_err-write_whole-clause-replays
-returns-in_err-write_whole-clause-replays g c = λ w stands.
-    let p = err_from_is_err_and c.from_residual-in_err-write_whole.result c.from_residual-in_err-write_whole.ensures.1 in
+pub returns-in_err-write-clause-replays : goal.returns-in_err-write-clause-replays
+returns-in_err-write-clause-replays g c = λ w stands.
+    let p = err_from_is_err_and c.from_residual-in_err-write.result c.from_residual-in_err-write.ensures.1 in
     progress_cut c.one_page.ensures _ _ _ _ _ _ _ _ _ _ _ _ _ _ (c.commands.invariant.progress w stands) (some_left _ _ c.is_empty.ensures c.commands-test.true)
-    (rw c.in-Some.is at c.in_ok-said.ensures) (first_shorter _ _ _ _ _ (rw c.in-Some.is at c.in_ok-said.ensures)) c.deref.ensures.value c.in_err-write_whole.ensures.err
-    (rw (p.1, p.2) c.in_err-write_whole.ensures.write)
+    (rw c.in-Some.is at c.in_ok-said.ensures) (first_shorter _ _ _ _ _ (rw c.in-Some.is at c.in_ok-said.ensures)) refl c.in_err-write.ensures.err
+    (rw (p.1, p.2) c.in_err-write.ensures.write)
 
 pub commands-preserved : goal.commands-preserved
 commands-preserved g c =
@@ -34,7 +34,7 @@ commands-preserved g c =
     record {
       within = omega (arith, shorter, c.commands.invariant.within);
       progress = λ w stands.
-          progress_next _ _ _ _ _ _ _ _ _ _ _ _ (c.commands.invariant.progress w stands) (some_left _ _ c.is_empty.ensures c.commands-test.true) (rw c.in-Some.is at c.in_ok-said.ensures) shorter c.deref.ensures.value c.in_ok-write_whole.ensures.ok;
+          progress_next _ _ _ _ _ _ _ _ _ _ _ _ (c.commands.invariant.progress w stands) (some_left _ _ c.is_empty.ensures c.commands-test.true) (rw c.in-Some.is at c.in_ok-said.ensures) shorter refl c.in_ok-write.ensures.ok;
     }
 
 pub returns-clause-replays : goal.returns-clause-replays
@@ -48,7 +48,7 @@ returns-in_err-said-clause-writer g c =
     let p = err_from_is_err_and c.from_residual.result c.from_residual.ensures.1 in
     rw (p.1, p.2) tt
 
-pub returns-in_err-write_whole-clause-writer : goal.returns-in_err-write_whole-clause-writer
-returns-in_err-write_whole-clause-writer g c =
-    let p = err_from_is_err_and c.from_residual-in_err-write_whole.result c.from_residual-in_err-write_whole.ensures.1 in
-    blamed _ _ (rw (p.1, p.2) c.in_err-write_whole.ensures.write) c.in_err-write_whole.ensures.failed
+pub returns-in_err-write-clause-writer : goal.returns-in_err-write-clause-writer
+returns-in_err-write-clause-writer g c =
+    let p = err_from_is_err_and c.from_residual-in_err-write.result c.from_residual-in_err-write.ensures.1 in
+    blamed _ _ (rw (p.1, p.2) c.in_err-write.ensures.write) c.in_err-write.ensures.failed

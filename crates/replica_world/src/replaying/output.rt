@@ -1,0 +1,54 @@
+//! What one command writes.
+ghost use Rattle.std.specs.Prelude.{◌≡◌, ◌++◌, true, OnOk, OnErr};
+ghost use Rattle.std.specs.Io.KnownBytes.{Appends};
+ghost use Rattle.replica_world.specs.Devices.{AppendsBeginning};
+
+use crate::replaying::devices::write_whole;
+use crate::replaying::fault::ReplayFault;
+use crate::replaying::watched::Watched;
+use memento_time::Octets;
+use std::alloc::Global;
+use std::io::Write;
+use std::marker::Model;
+
+/// Lines, and behind them the body of a reply, which is moved here and not copied: a TimeMap may be long.
+#[derive(Drop)]
+pub struct Output {
+    lines: Vec<u8>,
+    body: Octets,
+}
+
+impl Model for Output {
+    ghost use Rattle.std.specs.Prelude.{◌++◌, List, ℕ};
+
+    ghost Value = { List ℕ };
+
+    ghost view = { λ output. output.lines.items ++ output.body };
+}
+
+impl Output {
+    /// Lines alone.
+    pub fn of_lines(alloc: Global, lines: Vec<u8>) -> Output
+        ensures { result ≡ lines.items }
+    {
+        Output::with_body(lines, Octets::of(Vec::new(alloc)))
+    }
+
+    /// Lines with a body behind them.
+    pub fn with_body(lines: Vec<u8>, body: Octets) -> Output
+        ensures { result ≡ lines.items ++ body }
+    {
+        Output { lines, body }
+    }
+
+    /// Writes all of it, or a beginning.
+    pub fn write<W: Write>(&self, writer: &mut Watched<W>) -> Result<(), ReplayFault>
+        ensures ok { OnOk result (Appends (W.contents writer.old.device) (W.contents writer.new.device) self.now) }
+        ensures err { OnErr result (AppendsBeginning (W.contents writer.old.device) (W.contents writer.new.device) self.now) }
+        ensures write { OnErr result (result ≡ Err ReplayFault.Write) }
+        ensures failed { OnErr result (writer.new.failed ≡ true) }
+    {
+        write_whole(writer, &self.lines)?;
+        write_whole(writer, self.body.as_slice())
+    }
+}
