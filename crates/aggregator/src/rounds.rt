@@ -1,6 +1,7 @@
 //! One round: each archive is walked for each original, each peer is pulled, and what came is published.
-ghost use Rattle.std.specs.Prelude.{◌≤◌, All};
+ghost use Rattle.std.specs.Prelude.{◌≡◌, ◌≤◌, ◌++◌, All, IfSome, Some};
 ghost use Rattle.harvester.specs.Answers.{HasFirstUrl};
+ghost use Rattle.aggregator.specs.Lines.{round_words};
 
 use crate::settings::Settings;
 use harvester::{Job, Outcome, have_first_urls, run_round};
@@ -32,6 +33,8 @@ pub(crate) struct Round {
 }
 
 impl fmt::Display for Round {
+    ghost output = { λ round. Some (round_words round) };
+
     fn fmt<W: fmt::Write>(&self, f: &mut fmt::Formatter<W>) -> fmt::Result {
         let end = if self.published { "published" } else { "kept" };
         write!(
@@ -160,13 +163,20 @@ fn jobs_of(
     jobs
 }
 
+// The job of an archive for an original: its first URL is the archive's `timemap` with the original behind it. None where
+// memory is refused, or the URL is too long.
 fn job_of(
     alloc: Global,
     archive: ArchiveName,
     timemap: &Clean,
     revision: u64,
     original: &Original,
-) -> Option<Job> {
+) -> Option<Job>
+    ensures archive { IfSome result (λ job. job.archive ≡ archive) }
+    ensures original { IfSome result (λ job. job.original ≡ original.now) }
+    ensures revision { IfSome result (λ job. job.revision ≡ revision) }
+    ensures first { IfSome result (λ job. job.first ≡ timemap.now ++ original.now) }
+{
     let mut first = timemap.as_bytes().to_vec(alloc).ok()?;
     first.extend_from_slice(original.as_bytes()).ok()?;
     let first = Clean::new(alloc, &first).ok()?;

@@ -1,4 +1,11 @@
 //! `serve FILE`: gates in threads of their own, and rounds in this one.
+#[cfg(test)]
+mod tests;
+
+ghost use Rattle.std.specs.Prelude.{OnOk};
+ghost use Rattle.std.specs.Io.KnownBytes.{Appends};
+ghost use Rattle.aggregator.specs.Lines.{round_line};
+
 use crate::check::settings_in;
 use crate::failure::Failure;
 use crate::gates::{Doors, open_doors};
@@ -26,12 +33,10 @@ pub(crate) enum ServeFault {
     NoMemory,
 }
 
+// A write that failed, for whatever reason.
 impl From<io::Error> for ServeFault {
-    fn from(error: io::Error) -> ServeFault {
-        match error.kind() {
-            io::ErrorKind::OutOfMemory => ServeFault::NoMemory,
-            _ => ServeFault::Device,
-        }
+    fn from(_failed: io::Error) -> ServeFault {
+        ServeFault::Device
     }
 }
 
@@ -191,8 +196,15 @@ where
             sleep_between(rt, settings);
         }
         let round = Round::make(rt, settings, merger);
-        writeln!(out, "round {number} {round}")?;
-        out.flush()?;
+        say_round(number, round, out)?;
     }
+    Ok(())
+}
+
+fn say_round<W: Write>(number: u64, round: Round, out: &mut W) -> Result<(), ServeFault>
+    ensures { OnOk result (Appends (W.contents out.old) (W.contents out.new) (round_line number round)) }
+{
+    writeln!(out, "round {number} {round}")?;
+    out.flush()?;
     Ok(())
 }

@@ -2,6 +2,8 @@
 //!
 //! Keys are looked for in the order of `Key`, and the first that is missing or holds what it may not is the fault. Other
 //! keys aren't looked at.
+ghost use Rattle.std.specs.Prelude.{◌≡◌, ◌<◌, ◌≤◌, length};
+
 mod archives;
 mod fault;
 #[cfg(test)]
@@ -41,16 +43,20 @@ pub(crate) struct Settings {
     /// The archives: names, none twice, and the text that stands before an original in the address of its TimeMap.
     pub archives: Vec<(ArchiveName, Clean)>,
 
-    ghost some_gates: { 1 ≤ length gates.items },
-    ghost few_gates: { length gates.items ≤ 64 },
-    ghost some_workers: { 1 ≤ workers },
-    ghost few_workers: { workers ≤ 64 },
+    ghost gates_in_range: { (1 ≤ length gates.items) × (length gates.items ≤ 64) },
+    ghost connections_in_range: { (1 ≤ connections) × (connections ≤ 1000000000) },
+    ghost rounds_in_range: { (1 ≤ rounds) × (rounds ≤ 1000000000) },
+    ghost pause_in_range: { pause ≤ 86400 },
+    ghost workers_in_range: { (1 ≤ workers) × (workers ≤ 64) },
+    ghost few_originals: { length originals.items ≤ 100000 },
+    ghost few_peers: { length peers.items ≤ 15 },
+    ghost few_archives: { length archives.items ≤ 1000 },
 }
 
-ghost use Rattle.std.specs.Prelude.{◌≤◌, length};
-
 /// Reads settings: `Text` where the text is no TOML or has over 1,048,576 bytes.
-pub(crate) fn read_settings(alloc: Global, text: &str) -> Result<Settings, SettingsFault> {
+pub(crate) fn read_settings(alloc: Global, text: &str) -> Result<Settings, SettingsFault>
+    ensures long { MAX_TEXT < length text.now → result ≡ Err SettingsFault.Text }
+{
     if text.len() > MAX_TEXT {
         return Err(SettingsFault::Text);
     }

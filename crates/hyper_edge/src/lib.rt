@@ -15,6 +15,7 @@ mod responses;
 mod services;
 mod serving;
 mod targets;
+mod timers;
 #[cfg(test)]
 mod tests;
 

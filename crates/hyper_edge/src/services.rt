@@ -8,7 +8,7 @@ ghost use Rattle.hyper_edge.specs.Requests.{IsAskedBy};
 use crate::answers::Answers;
 use crate::faults::RespondFault;
 use crate::requests::request_of;
-use crate::responses::{form, refusal};
+use crate::responses::{into_form, refusal};
 use bytes::Bytes;
 use futures::future;
 use futures::future::Ready;
@@ -61,7 +61,7 @@ impl<G: Answers, R: Wait + Drop> GateService<G, R> {
             Err(GateFault::Closed) => return Err(RespondFault::Closed),
             Err(GateFault::NoMemory) => return Err(RespondFault::NoMemory),
         };
-        Ok(form(shared.alloc, &reply)?)
+        Ok(into_form(shared.alloc, reply)?)
     }
 
     // The form of the reply to what was sent, or the response that stands for a fault.

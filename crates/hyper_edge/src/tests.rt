@@ -1,5 +1,5 @@
 //! Over loopback: what is sent is what was answered.
-use crate::{Answers, GateService, HyperFetch, bind, serve_gate};
+use crate::{Answers, GateService, HyperFetch, PullFault, bind, pull_state, serve_gate};
 use harvester::{Answer, Fetch, FetchFault};
 use memento_time::{Clean, Items, Octets};
 use published_index::GateFault;
@@ -116,5 +116,12 @@ fn fault_is_503(rt: HostRuntime) -> Result<(), Fail> {
     let answer = fetch_from_echo(&rt, true)?;
     assert_eq!(rt; answer.status, 503);
     assert_eq!(rt; answer.body.as_slice().len(), 0);
+    Ok(())
+}
+
+#[test]
+fn nobody_has_no_state(rt: HostRuntime) -> Result<(), Fail> {
+    let peer = Clean::new(rt.alloc(), b"http://127.0.0.1:1")?;
+    assert!(rt; matches!(pull_state(&rt, &peer), Err(PullFault::Failed)));
     Ok(())
 }

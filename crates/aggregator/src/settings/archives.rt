@@ -1,4 +1,6 @@
 //! The archives of settings.
+ghost use Rattle.std.specs.Prelude.{◌≤◌, IfOk, length};
+
 use crate::settings::fault::{Key, SettingsFault};
 use crate::settings::values::{clean_of, list_at};
 use memento_time::{ArchiveName, Clean};
@@ -18,7 +20,9 @@ const BAD_ARCHIVE: SettingsFault = SettingsFault::Key(Key::Archives);
 pub(crate) fn archives_at(
     alloc: Global,
     table: &Table,
-) -> Result<Vec<(ArchiveName, Clean)>, SettingsFault> {
+) -> Result<Vec<(ArchiveName, Clean)>, SettingsFault>
+    ensures { IfOk result (λ archives. length archives.items ≤ MAX_ARCHIVES) }
+{
     let list = list_at(table, Key::Archives, MAX_ARCHIVES)?;
     let mut names = BTreeSet::new(alloc);
     let mut archives = Vec::new(alloc);

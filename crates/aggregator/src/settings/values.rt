@@ -79,7 +79,7 @@ fn service_of(alloc: Global, text: &str, key: Key) -> Result<Service, SettingsFa
 /// The addresses of the gates.
 pub(crate) fn gates_at(alloc: Global, table: &Table) -> Result<Vec<String>, SettingsFault>
     ensures some { IfOk result (λ gates. 1 ≤ length gates.items) }
-    ensures few { IfOk result (λ gates. length gates.items ≤ 64) }
+    ensures few { IfOk result (λ gates. length gates.items ≤ MAX_GATES) }
 {
     let list = list_at(table, Key::Gates, MAX_GATES)?;
     let mut gates = Vec::new(alloc);
@@ -102,7 +102,9 @@ fn gate_of(alloc: Global, value: &Value) -> Result<String, SettingsFault> {
 }
 
 /// The originals.
-pub(crate) fn originals_at(alloc: Global, table: &Table) -> Result<Vec<Original>, SettingsFault> {
+pub(crate) fn originals_at(alloc: Global, table: &Table) -> Result<Vec<Original>, SettingsFault>
+    ensures { IfOk result (λ originals. length originals.items ≤ MAX_ORIGINALS) }
+{
     let list = list_at(table, Key::Originals, MAX_ORIGINALS)?;
     let mut originals = Vec::new(alloc);
     for value in list {
@@ -126,7 +128,9 @@ fn original_of(alloc: Global, value: &Value) -> Result<Original, SettingsFault> 
 }
 
 /// The bases of the peers, without the last `/`.
-pub(crate) fn peers_at(alloc: Global, table: &Table) -> Result<Vec<Clean>, SettingsFault> {
+pub(crate) fn peers_at(alloc: Global, table: &Table) -> Result<Vec<Clean>, SettingsFault>
+    ensures { IfOk result (λ peers. length peers.items ≤ MAX_PEERS) }
+{
     let list = list_at(table, Key::Peers, MAX_PEERS)?;
     let mut peers = Vec::new(alloc);
     for value in list {

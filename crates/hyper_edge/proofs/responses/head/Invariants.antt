@@ -2,7 +2,7 @@ use Rattle.std.proofs.Common.{◌≡◌, [], map, take}
 use Rattle.http.specs.declared.version.TheConstants.Version.{HTTP_11}
 use Rattle.hyper_edge.specs.Responses.{field_of}
 use Rattle.http_header.specs.HeaderMap.{append_all}
-use Rattle.hyper_edge.proofs.responses.form.Given as goal
+use Rattle.hyper_edge.proofs.responses.head.Given as goal
 
 abbrev pub invariant-loop-header : goal.invariant-loop-header
 invariant-loop-header l = record {
