@@ -100,12 +100,7 @@ where
     served
 }
 
-fn serve_known<R>(
-    rt: &R,
-    merger: &mut Merger,
-    gates: Vec<Gate>,
-    port: &Sender<u16>,
-) -> Option<u64>
+fn serve_known<R>(rt: &R, merger: &mut Merger, gates: Vec<Gate>, port: &Sender<u16>) -> Option<u64>
 where
     R: Wait
         + Clock
@@ -141,7 +136,8 @@ where
         + 'static,
 {
     let alloc = rt.alloc();
-    let Ok(text) = format!(in alloc; r#"
+    let Ok(text) = format!(in alloc;
+        r#"
 base = "http://agg.example"
 gates = ["127.0.0.1:0"]
 connections = 1
@@ -154,7 +150,8 @@ peers = []
 [[archives]]
 name = "arc.example"
 timemap = "http://127.0.0.1:{port}/timemap/link/"
-"#) else {
+"#
+    ) else {
         return None;
     };
     let settings = read_settings(alloc, text.as_str()).ok()?;
@@ -267,9 +264,9 @@ fn a_round_is_served(rt: HostRuntime) -> Result<(), Fail> {
     assert_eq!(rt; rest, "round 1 jobs 1 harvests 1 pulls 0 published\ndone\n");
     assert!(rt; seen.reply.as_str().starts_with("HTTP/1.1 302 "));
     assert!(rt;
-        seen.reply
-            .as_str()
-            .contains("\r\nlocation: http://arc.example/web/20000101000000/http://a.example/\r\n")
+        seen.reply.as_str().contains(
+            "\r\nlocation: http://arc.example/web/20000101000000/http://a.example/\r\n"
+        )
     );
     assert_eq!(rt; seen.state.as_slice(), STATE.as_bytes());
     Ok(())
