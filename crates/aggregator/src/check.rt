@@ -56,5 +56,6 @@ fn write_summary<W: Write>(settings: &Settings, out: &mut W) -> io::Result<()>
         settings.originals.len(),
         settings.peers.len()
     )?;
-    out.flush()
+    out.flush()?;
+    Ok(())
 }

@@ -119,7 +119,13 @@ impl Round {
             return;
         };
         for outcome in outcomes {
-            let Ok(harvest) = outcome.result else {
+            let Outcome {
+                number: _,
+                job: _,
+                fetched: _,
+                result,
+            } = outcome;
+            let Ok(harvest) = result else {
                 continue;
             };
             if merger.append(&Merge::Harvest(harvest)).is_ok() {
