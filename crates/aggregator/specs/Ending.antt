@@ -1,10 +1,16 @@
--- How the program ends where it fails: the failure that a replay's fault is, the line on standard error, and the exit status.
+-- How the program ends where it fails: the failure that each fault is, the line on standard error, and the exit status.
 use Rattle.std.specs.Prelude.{ℕ, List, ◌++◌, codes}
 use Rattle.std.specs.Fmt.{decimal}
 use Rattle.replica_world.specs.declared.replaying.fault.ReplayFault.{ReplayFault}
 use Rattle.replica_world.specs.declared.replaying.fault.ReplayFault.TheVariants as fault
+use Rattle.aggregator.specs.declared.settings.fault.Key.{Key}
+use Rattle.aggregator.specs.declared.settings.fault.Key.TheVariants as key
+use Rattle.aggregator.specs.declared.settings.fault.SettingsFault.{SettingsFault}
+use Rattle.aggregator.specs.declared.settings.fault.SettingsFault.TheVariants as settings
+use Rattle.aggregator.specs.declared.serve.ServeFault.{ServeFault}
+use Rattle.aggregator.specs.declared.serve.ServeFault.TheVariants as serve
 use Rattle.aggregator.specs.declared.failure.Failure.{Failure}
-use Rattle.aggregator.specs.declared.failure.Failure.TheVariants.{Usage, BadLine, Device, NoMemory}
+use Rattle.aggregator.specs.declared.failure.Failure.TheVariants.{Usage, BadLine, BadText, BadKey, NoGate, Device, NoMemory}
 
 -- how a replay's fault ends the program
 abbrev pub failure_of : ReplayFault → Failure
@@ -13,16 +19,46 @@ failure_of fault.Read = Device
 failure_of fault.Write = Device
 failure_of fault.NoMemory = NoMemory
 
+-- how a fault of the settings ends the program
+abbrev pub failure_of_settings : SettingsFault → Failure
+failure_of_settings settings.Text = BadText
+failure_of_settings (settings.Key key) = BadKey key
+failure_of_settings settings.NoMemory = NoMemory
+
+-- how a fault of serving ends the program
+abbrev pub failure_of_serving : ServeFault → Failure
+failure_of_serving serve.NoGate = NoGate
+failure_of_serving serve.Device = Device
+failure_of_serving serve.NoMemory = NoMemory
+
+-- a key of the settings as it is written
+abbrev pub name_of : Key → List ℕ
+name_of key.Base = codes "base"
+name_of key.Gates = codes "gates"
+name_of key.Connections = codes "connections"
+name_of key.Rounds = codes "rounds"
+name_of key.Pause = codes "pause"
+name_of key.Workers = codes "workers"
+name_of key.Originals = codes "originals"
+name_of key.Peers = codes "peers"
+name_of key.Archives = codes "archives"
+
 -- the line on standard error
 abbrev pub message_of : Failure → List ℕ
 message_of Usage = codes "usage: aggregator [replay | serve FILE | check FILE]"
 message_of (BadLine number) = codes "bad line " ++ decimal number
+message_of BadText = codes "bad settings: text"
+message_of (BadKey key) = codes "bad settings: " ++ name_of key
+message_of NoGate = codes "no gate"
 message_of Device = codes "device fault"
 message_of NoMemory = codes "no memory"
 
--- 2 for wrong input, 3 for a device or memory
+-- 2 for wrong input, 3 for a device, a gate or memory
 abbrev pub status_of : Failure → ℕ
 status_of Usage = 2
 status_of (BadLine number) = 2
+status_of BadText = 2
+status_of (BadKey key) = 2
+status_of NoGate = 3
 status_of Device = 3
 status_of NoMemory = 3

@@ -1,16 +1,18 @@
 //! How the program fails: its one line on standard error, and its exit status.
 ghost use Rattle.std.specs.Prelude.{◌≡◌, Some};
 ghost use Rattle.std.specs.Process.{exit_status};
-ghost use Rattle.aggregator.specs.Ending.{failure_of, message_of, status_of};
+ghost use Rattle.aggregator.specs.Ending.{failure_of, failure_of_serving, failure_of_settings, message_of, status_of};
 
+use crate::serve::ServeFault;
+use crate::settings::{Key, SettingsFault};
 use replica_world::ReplayFault;
 use std::process::ExitCode;
 use std::{fmt, io};
 
-/// The input, or the words of the command line, were wrong.
+/// The input, the settings, or the words of the command line, were wrong.
 const BAD_INPUT: u8 = 2;
 
-/// A device failed, or memory was refused.
+/// A device failed, a gate couldn't be had, or memory was refused.
 const BAD_MACHINE: u8 = 3;
 
 #[derive(Clone, Copy, Debug, PartialEq, Eq)]
@@ -19,6 +21,12 @@ pub(crate) enum Failure {
     Usage,
     /// The line of this number is no command.
     BadLine { number: u64 },
+    /// The settings are no TOML, or too long.
+    BadText,
+    /// The settings lack this key, or it holds what it may not.
+    BadKey(Key),
+    /// A gate can't be bound, opened, or given a thread.
+    NoGate,
     /// Reading or writing failed.
     Device,
     /// The allocator refused a growth.
@@ -26,13 +34,15 @@ pub(crate) enum Failure {
 }
 
 impl Failure {
-    /// The exit status: 2 for wrong input, 3 for a device or memory.
+    /// The exit status: 2 for wrong input, 3 for a device, a gate or memory.
     pub(crate) fn status(self) -> ExitCode
         ensures { exit_status result ≡ status_of self }
     {
         match self {
-            Failure::Usage | Failure::BadLine { .. } => ExitCode::from(BAD_INPUT),
-            Failure::Device | Failure::NoMemory => ExitCode::from(BAD_MACHINE),
+            Failure::Usage | Failure::BadLine { .. } | Failure::BadText | Failure::BadKey(_) => {
+                ExitCode::from(BAD_INPUT)
+            }
+            Failure::NoGate | Failure::Device | Failure::NoMemory => ExitCode::from(BAD_MACHINE),
         }
     }
 }
@@ -44,6 +54,9 @@ impl fmt::Display for Failure {
         match self {
             Failure::Usage => f.write_str("usage: aggregator [replay | serve FILE | check FILE]"),
             Failure::BadLine { number } => write!(f, "bad line {number}"),
+            Failure::BadText => f.write_str("bad settings: text"),
+            Failure::BadKey(key) => write!(f, "bad settings: {}", key.name()),
+            Failure::NoGate => f.write_str("no gate"),
             Failure::Device => f.write_str("device fault"),
             Failure::NoMemory => f.write_str("no memory"),
         }
@@ -62,12 +75,44 @@ impl From<ReplayFault> for Failure {
     }
 }
 
-/// Why the words of the command line couldn't be had: want of memory, or one that isn't UTF-8.
-impl From<io::Error> for Failure {
-    fn from(error: io::Error) -> Failure {
+impl From<SettingsFault> for Failure {
+    ghost from_gives = { λ fault failure. failure ≡ failure_of_settings fault };
+
+    fn from(fault: SettingsFault) -> Failure {
+        match fault {
+            SettingsFault::Text => Failure::BadText,
+            SettingsFault::Key(key) => Failure::BadKey(key),
+            SettingsFault::NoMemory => Failure::NoMemory,
+        }
+    }
+}
+
+impl From<ServeFault> for Failure {
+    ghost from_gives = { λ fault failure. failure ≡ failure_of_serving fault };
+
+    fn from(fault: ServeFault) -> Failure {
+        match fault {
+            ServeFault::NoGate => Failure::NoGate,
+            ServeFault::Device => Failure::Device,
+            ServeFault::NoMemory => Failure::NoMemory,
+        }
+    }
+}
+
+impl Failure {
+    /// Why the words of the command line couldn't be had: memory, or one that isn't UTF-8.
+    pub(crate) fn of_words(error: &io::Error) -> Failure {
         match error.kind() {
             io::ErrorKind::OutOfMemory => Failure::NoMemory,
             _ => Failure::Usage,
+        }
+    }
+
+    /// Why a file or a device couldn't be read or written.
+    pub(crate) fn of_device(error: &io::Error) -> Failure {
+        match error.kind() {
+            io::ErrorKind::OutOfMemory => Failure::NoMemory,
+            _ => Failure::Device,
         }
     }
 }

@@ -3,40 +3,59 @@
 //! Standard output has what the command writes and nothing else. A failure is one line on standard error.
 #![tactic(auto)]
 
+mod check;
 mod failure;
+mod gates;
+mod rounds;
+mod serve;
+mod settings;
 mod words;
 
+use crate::check::check;
 use crate::failure::Failure;
+use crate::serve::serve_file;
 use crate::words::{Command, command_named};
 use replica_world::{Watched, replay};
 use std::env::{self, Env};
 use std::process::ExitCode;
 
 // What the words of the command line ask for.
-fn command_of(rt: &(impl Env + Alloc)) -> Result<Command, Failure> {
-    let mut words = env::args(rt)?.skip(1);
+fn command_of(rt: &(impl Env + AllocGlobal)) -> Result<Command, Failure> {
+    let mut words = match env::args(rt) {
+        Ok(words) => words.skip(1),
+        Err(error) => return Err(Failure::of_words(&error)),
+    };
     let Some(word) = words.next() else {
         return Ok(Command::Replay);
     };
+    let file = words.next();
     if words.next().is_some() {
         return Err(Failure::Usage);
     }
-    command_named(word.as_str())
+    command_named(word.as_str(), file)
 }
 
-fn run(rt: &HostRuntime) -> Result<(), Failure> {
-    match command_of(rt)? {
+// Does what needs no thread.
+fn run(rt: &HostRuntime, command: &Command) -> Result<(), Failure> {
+    match command {
         Command::Replay => {
             let mut input = Watched::new(rt.stdin());
             let mut output = Watched::new(rt.stdout());
             replay(rt.alloc(), &mut input, &mut output)?;
             Ok(())
         }
+        Command::Check(file) => check(rt, file.as_str(), &mut rt.stdout()),
+        Command::Serve(_) => Err(Failure::Usage),
     }
 }
 
 fn main(rt: HostRuntime) -> ExitCode {
-    match run(&rt) {
+    let ended = match command_of(&rt) {
+        Ok(Command::Serve(file)) => serve_file(&rt, file.as_str(), rt.stdout()),
+        Ok(command) => run(&rt, &command),
+        Err(failure) => Err(failure),
+    };
+    match ended {
         Ok(()) => ExitCode::SUCCESS,
         Err(failure) => {
             let _ = eprintln!(rt; "{failure}");

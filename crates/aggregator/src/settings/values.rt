@@ -1,0 +1,159 @@
+//! What stands at the keys of settings: numbers, and lists of texts.
+ghost use Rattle.std.specs.Prelude.{◌≡◌, ◌≤◌, ◌<◌, IfOk, length, vec_len};
+
+use crate::settings::fault::{Key, SettingsFault};
+use memento_time::{Clean, CleanFault, Original};
+use std::alloc::{AllocError, Global};
+use std::net::SocketAddr;
+use std::str::FromStr;
+use timemap_reader::{OriginalFault, read_original};
+use timemap_writer::{Service, ServiceFault};
+use toml::{Table, Value};
+
+/// The most gates, originals and peers.
+const MAX_GATES: usize = 64;
+
+const MAX_ORIGINALS: usize = 100_000;
+
+const MAX_PEERS: usize = 15;
+
+/// The numbers from `low` to `high`.
+#[derive(Clone, Copy)]
+pub(crate) struct Range {
+    low: u64,
+    high: u64,
+}
+
+impl Range {
+    pub(crate) fn new(low: u64, high: u64) -> Range
+        ensures low { result.low ≡ low }
+        ensures high { result.high ≡ high }
+    {
+        Range { low, high }
+    }
+}
+
+/// The number at a key.
+pub(crate) fn number_at(table: &Table, key: Key, range: Range) -> Result<u64, SettingsFault>
+    ensures low { IfOk result (λ number. range.low ≤ number) }
+    ensures high { IfOk result (λ number. number ≤ range.high) }
+{
+    let number = table.get(key.name()).and_then(Value::as_integer);
+    let number = number.and_then(|number| u64::try_from(number).ok());
+    match number {
+        Some(number) if range.low <= number && number <= range.high => Ok(number),
+        _ => Err(SettingsFault::Key(key)),
+    }
+}
+
+/// The list at a key, where it has at most so many elements.
+pub(crate) fn list_at<'a>(
+    table: &'a Table,
+    key: Key,
+    most: usize,
+) -> Result<&'a [Value], SettingsFault>
+    ensures { IfOk result (λ list. length list.now ≤ most) }
+{
+    match table.get(key.name()).and_then(Value::as_array) {
+        Some(list) if list.len() <= most => Ok(list.as_slice()),
+        _ => Err(SettingsFault::Key(key)),
+    }
+}
+
+/// The service whose base stands there.
+pub(crate) fn service_at(alloc: Global, table: &Table) -> Result<Service, SettingsFault> {
+    let Some(text) = table.get(Key::Base.name()).and_then(Value::as_str) else {
+        return Err(SettingsFault::Key(Key::Base));
+    };
+    service_of(alloc, text, Key::Base)
+}
+
+fn service_of(alloc: Global, text: &str, key: Key) -> Result<Service, SettingsFault> {
+    match Service::new(alloc, text) {
+        Ok(service) => Ok(service),
+        Err(ServiceFault::BadBase) => Err(SettingsFault::Key(key)),
+        Err(ServiceFault::NoMemory) => Err(SettingsFault::NoMemory),
+    }
+}
+
+/// The addresses of the gates.
+pub(crate) fn gates_at(alloc: Global, table: &Table) -> Result<Vec<String>, SettingsFault>
+    ensures some { IfOk result (λ gates. 1 ≤ length gates.items) }
+    ensures few { IfOk result (λ gates. length gates.items ≤ MAX_GATES) }
+{
+    let list = list_at(table, Key::Gates, MAX_GATES)?;
+    let mut gates = Vec::new(alloc);
+    for value in list {
+        gates
+            .push(gate_of(alloc, value)?)
+            .map_err(AllocError::from)?;
+    }
+    if gates.is_empty() {
+        return Err(SettingsFault::Key(Key::Gates));
+    }
+    Ok(gates)
+}
+
+fn gate_of(alloc: Global, value: &Value) -> Result<String, SettingsFault> {
+    match value.as_str() {
+        Some(text) if SocketAddr::from_str(text).is_ok() => Ok(String::from_str(alloc, text)?),
+        _ => Err(SettingsFault::Key(Key::Gates)),
+    }
+}
+
+/// The originals.
+pub(crate) fn originals_at(alloc: Global, table: &Table) -> Result<Vec<Original>, SettingsFault>
+    ensures { IfOk result (λ originals. length originals.items ≤ MAX_ORIGINALS) }
+{
+    let list = list_at(table, Key::Originals, MAX_ORIGINALS)?;
+    let mut originals = Vec::new(alloc);
+    for value in list {
+        originals
+            .push(original_of(alloc, value)?)
+            .map_err(AllocError::from)?;
+    }
+    Ok(originals)
+}
+
+fn original_of(alloc: Global, value: &Value) -> Result<Original, SettingsFault> {
+    let fault = SettingsFault::Key(Key::Originals);
+    let Some(text) = value.as_str() else {
+        return Err(fault);
+    };
+    match read_original(alloc, text) {
+        Ok(original) => Ok(original),
+        Err(OriginalFault::NoMemory) => Err(SettingsFault::NoMemory),
+        Err(_) => Err(fault),
+    }
+}
+
+/// The bases of the peers, without the last `/`.
+pub(crate) fn peers_at(alloc: Global, table: &Table) -> Result<Vec<Clean>, SettingsFault>
+    ensures { IfOk result (λ peers. length peers.items ≤ MAX_PEERS) }
+{
+    let list = list_at(table, Key::Peers, MAX_PEERS)?;
+    let mut peers = Vec::new(alloc);
+    for value in list {
+        peers
+            .push(peer_of(alloc, value)?)
+            .map_err(AllocError::from)?;
+    }
+    Ok(peers)
+}
+
+fn peer_of(alloc: Global, value: &Value) -> Result<Clean, SettingsFault> {
+    let Some(text) = value.as_str() else {
+        return Err(SettingsFault::Key(Key::Peers));
+    };
+    let service = service_of(alloc, text, Key::Peers)?;
+    clean_of(alloc, service.base(), Key::Peers)
+}
+
+/// A clean text, or a fault of the key.
+pub(crate) fn clean_of(alloc: Global, text: &[u8], key: Key) -> Result<Clean, SettingsFault> {
+    match Clean::new(alloc, text) {
+        Ok(clean) => Ok(clean),
+        Err(CleanFault::NotClean) => Err(SettingsFault::Key(key)),
+        Err(CleanFault::NoMemory) => Err(SettingsFault::NoMemory),
+    }
+}

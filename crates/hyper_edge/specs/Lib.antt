@@ -1,0 +1,4 @@
+pub mod Faults
+pub mod Requests
+pub mod Responses
+pub mod Gates

@@ -1,0 +1,198 @@
+//! One request over a fresh connection, and its answer.
+ghost use Rattle.std.specs.Prelude.{◌≤◌, IfOk, IfSome, length};
+
+use crate::targets::target_of;
+use bytes::Bytes;
+use futures::future::Either;
+use futures::{Future, future};
+use harvester::{Answer, FetchFault};
+use http_body_util::{BodyExt, Collected, Empty, Limited, LimitedError};
+use hyper::client::conn::http1::handshake;
+use hyper::{Request, header};
+use memento_time::{Items, Octets};
+use std::alloc::{AllocError, AllocGlobal, Global};
+use std::hash::RandomState;
+use std::io;
+use std::net::{Net, TcpListener, TcpStream, ToSocketAddrs};
+use std::random::RandomSource;
+use std::sync::Wait;
+use std::time::Clock;
+use tokio::io::{AsyncRead, AsyncWrite};
+use tokio::net;
+use tokio::runtime::LocalRuntime;
+use url::{ParseError, Position, Url};
+
+/// What is fetched by GET over a fresh connection; a body over `most` bytes is TooLong. An https URL is Failed.
+pub(crate) fn get<R>(rt: &R, url: &str, most: usize) -> Result<Answer, FetchFault>
+where
+    R: Wait + Clock + Net<Listener = TcpListener, Stream = TcpStream> + RandomSource + AllocGlobal,
+    ensures { IfOk result (λ answer. length answer.body ≤ most) }
+{
+    let alloc = rt.alloc();
+    let address = match Url::parse(alloc, url) {
+        Ok(address) => address,
+        Err(ParseError::OutOfMemory | ParseError::Overflow) => return Err(FetchFault::NoMemory),
+        Err(_) => return Err(FetchFault::Failed),
+    };
+    let request = request_for(alloc, url, &address)?;
+    let mut runtime = LocalRuntime::new(rt).map_err(|error| fault_of(&error))?;
+    let stream = connect(rt, &mut runtime, &address)?;
+    exchange(rt, &mut runtime, stream, request, most)
+}
+
+fn fault_of(error: &io::Error) -> FetchFault {
+    match error.kind() {
+        io::ErrorKind::OutOfMemory => FetchFault::NoMemory,
+        _ => FetchFault::Failed,
+    }
+}
+
+// The request for a URL. Its target is the URL's own text, since dot segments in an archived address must stay.
+fn request_for(
+    alloc: Global,
+    url: &str,
+    address: &Url,
+) -> Result<Request<Empty<Bytes>>, FetchFault> {
+    let target = match target_of(alloc, url) {
+        Ok(Some(target)) => target,
+        Ok(None) => return Err(FetchFault::Failed),
+        Err(_) => return Err(FetchFault::NoMemory),
+    };
+    let host = address.slice(Position::BeforeHost, Position::AfterPort);
+    let builder = Request::get(alloc, target.as_str())
+        .header(header::HOST, host)
+        .header(header::ACCEPT_ENCODING, "identity")
+        .header(header::CONNECTION, "close");
+    match builder.body(Empty::new()) {
+        Ok(request) => Ok(request),
+        Err(http::Error::OutOfMemory) => Err(FetchFault::NoMemory),
+        Err(_) => Err(FetchFault::Failed),
+    }
+}
+
+// A connection to the first of the host's addresses that takes one.
+fn connect<R>(rt: &R, runtime: &mut LocalRuntime, url: &Url) -> Result<net::TcpStream, FetchFault>
+where
+    R: Wait + Clock + Net + RandomSource + AllocGlobal,
+{
+    let (Some(host), Some(port)) = (url.host_str(), url.port_or_known_default()) else {
+        return Err(FetchFault::Failed);
+    };
+    let addresses = (host, port)
+        .to_socket_addrs(rt)
+        .map_err(|error| fault_of(&error))?;
+    for address in addresses {
+        let connecting = net::TcpStream::connect(rt, address, runtime.handle().reactor());
+        let connected = runtime
+            .block_on(rt, connecting)
+            .map_err(|error| fault_of(&error))?;
+        if let Ok(stream) = connected {
+            return Ok(stream);
+        }
+    }
+    Err(FetchFault::Failed)
+}
+
+// What `wanted` gives, while the connection is kept going, and the connection if it hasn't ended.
+fn while_connected<R, F, C>(
+    rt: &R,
+    runtime: &mut LocalRuntime,
+    wanted: F,
+    connection: Option<C>,
+) -> io::Result<(F::Output, Option<C>)>
+where
+    R: Wait + Clock + RandomSource + AllocGlobal,
+    F: Future,
+    C: Future<Output: Drop>,
+    requires wanted { F.can_poll wanted }
+    requires connection { IfSome connection C.can_poll }
+    ensures gives { IfOk result (λ r. F.gives wanted r.0) }
+    ensures left { IfOk result (λ r. IfSome r.1 C.can_poll) }
+{
+    let Some(connection) = connection else {
+        let given = runtime.block_on(rt, wanted)?;
+        return Ok((given, None));
+    };
+    match runtime.block_on(rt, future::select(wanted, connection))? {
+        Either::Left((given, connection)) => Ok((given, Some(connection))),
+        Either::Right((_ended, wanted)) => {
+            let given = runtime.block_on(rt, wanted)?;
+            Ok((given, None))
+        }
+    }
+}
+
+// Sends the request and takes the whole answer.
+fn exchange<R, I>(
+    rt: &R,
+    runtime: &mut LocalRuntime,
+    stream: I,
+    request: Request<Empty<Bytes>>,
+    most: usize,
+) -> Result<Answer, FetchFault>
+where
+    R: Wait + Clock + RandomSource + AllocGlobal,
+    I: AsyncRead + AsyncWrite,
+    ensures { IfOk result (λ answer. length answer.body ≤ most) }
+{
+    let alloc = rt.alloc();
+    let keys = RandomState::new(rt).map_err(|error| fault_of(&error))?;
+    let Ok((mut sender, connection)) = handshake(alloc, keys, stream) else {
+        return Err(FetchFault::Failed);
+    };
+    let response = sender.send_request(request);
+    drop(sender);
+    let (response, connection) = while_connected(rt, runtime, response, Some(connection)).map_err(
+        |error| fault_of(&error),
+    )?;
+    let Ok(response) = response else {
+        return Err(FetchFault::Failed);
+    };
+    let (head, body) = response.into_parts();
+    let body = Limited::new(body, most).collect(alloc);
+    let (collected, _connection) = while_connected(rt, runtime, body, connection).map_err(
+        |error| fault_of(&error),
+    )?;
+    match collected {
+        Ok(collected) => within(answer_of(alloc, &head, collected), most),
+        Err(LimitedError::LengthLimit) => Err(FetchFault::TooLong),
+        Err(LimitedError::Body(_)) => Err(FetchFault::Failed),
+    }
+}
+
+fn within(answer: Result<Answer, AllocError>, most: usize) -> Result<Answer, FetchFault>
+    ensures { IfOk result (λ answer. length answer.body ≤ most) }
+{
+    match answer {
+        Ok(answer) if answer.body.as_slice().len() <= most => Ok(answer),
+        Ok(_) => Err(FetchFault::TooLong),
+        Err(_) => Err(FetchFault::NoMemory),
+    }
+}
+
+fn answer_of(
+    alloc: Global,
+    head: &http::response::Parts,
+    collected: Collected,
+) -> Result<Answer, AllocError> {
+    let mut encoding = Vec::new(alloc);
+    for value in head.headers.get_all("content-encoding") {
+        let value = value.as_bytes().to_vec(alloc)?;
+        encoding.push(Octets::of(value))?;
+    }
+    let body = body_of(alloc, collected)?;
+    Ok(Answer {
+        status: head.status.as_u16(),
+        encoding: Items::of(encoding),
+        body: Octets::of(body),
+    })
+}
+
+// The bytes of a body: its own block, where nobody else holds it.
+fn body_of(alloc: Global, collected: Collected) -> Result<Vec<u8>, AllocError> {
+    let bytes = collected.to_bytes()?;
+    match bytes.try_into_mut() {
+        Ok(own) => Ok(own.into_vec()?),
+        Err(shared) => Ok(shared.as_slice().to_vec(alloc)?),
+    }
+}

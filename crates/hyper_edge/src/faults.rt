@@ -1,0 +1,213 @@
+//! Why a call at the edge gives nothing.
+ghost use Rattle.std.specs.Prelude.{◌≡◌, Some};
+ghost use Rattle.hyper_edge.specs.Faults.{edge_words, form_words, pull_words, respond_words};
+
+use harvester::FetchFault;
+use http_header::{HeaderMapError, HeaderNameError, HeaderValueError};
+use memento_time::NoMemory;
+use replica_exchange::StateFault;
+use std::alloc::{AllocError, AllocFailed};
+use std::error::Error;
+use std::{fmt, io};
+
+/// Why a reply has no form.
+#[derive(Clone, Copy, Debug, PartialEq, Eq)]
+pub enum FormFault {
+    /// `http` refuses a part of it.
+    NoForm,
+    /// The allocator refused a growth.
+    NoMemory,
+}
+
+/// Why a service gives no response.
+#[derive(Clone, Copy, Debug, PartialEq, Eq)]
+pub enum RespondFault {
+    /// The gate is closed.
+    Closed,
+    /// `http` refuses a part of the reply.
+    NoForm,
+    /// The allocator refused a growth.
+    NoMemory,
+}
+
+/// Why a gate isn't served.
+#[derive(Clone, Copy, Debug, PartialEq, Eq)]
+pub enum EdgeFault {
+    /// The address can't be bound.
+    Bind,
+    /// No further connection can be accepted.
+    Accept,
+    /// The allocator refused a growth.
+    NoMemory,
+}
+
+/// Why a peer's state isn't pulled.
+#[derive(Clone, Copy, Debug, PartialEq, Eq)]
+pub enum PullFault {
+    /// No answer came.
+    Failed,
+    /// The peer answered with another status than 200.
+    Status(u16),
+    /// The body is no state's text, or longer than 268,435,456 bytes.
+    BadState,
+    /// The allocator refused a growth.
+    NoMemory,
+}
+
+impl fmt::Display for FormFault {
+    ghost output = { λ fault. Some (form_words fault) };
+
+    fn fmt<W: fmt::Write>(&self, f: &mut fmt::Formatter<W>) -> fmt::Result {
+        match self {
+            FormFault::NoForm => f.write_str("a reply that HTTP can't carry"),
+            FormFault::NoMemory => f.write_str("no memory"),
+        }
+    }
+}
+
+impl fmt::Display for RespondFault {
+    ghost output = { λ fault. Some (respond_words fault) };
+
+    fn fmt<W: fmt::Write>(&self, f: &mut fmt::Formatter<W>) -> fmt::Result {
+        match self {
+            RespondFault::Closed => f.write_str("a closed gate"),
+            RespondFault::NoForm => f.write_str("a reply that HTTP can't carry"),
+            RespondFault::NoMemory => f.write_str("no memory"),
+        }
+    }
+}
+
+impl fmt::Display for EdgeFault {
+    ghost output = { λ fault. Some (edge_words fault) };
+
+    fn fmt<W: fmt::Write>(&self, f: &mut fmt::Formatter<W>) -> fmt::Result {
+        match self {
+            EdgeFault::Bind => f.write_str("an address that can't be bound"),
+            EdgeFault::Accept => f.write_str("no further connection"),
+            EdgeFault::NoMemory => f.write_str("no memory"),
+        }
+    }
+}
+
+impl fmt::Display for PullFault {
+    ghost output = { λ fault. Some (pull_words fault) };
+
+    fn fmt<W: fmt::Write>(&self, f: &mut fmt::Formatter<W>) -> fmt::Result {
+        match self {
+            PullFault::Failed => f.write_str("no answer"),
+            PullFault::Status(status) => write!(f, "status {status}"),
+            PullFault::BadState => f.write_str("not the text of a state"),
+            PullFault::NoMemory => f.write_str("no memory"),
+        }
+    }
+}
+
+impl Error for FormFault {}
+
+impl Error for RespondFault {}
+
+impl Error for EdgeFault {}
+
+impl Error for PullFault {}
+
+impl From<AllocError> for FormFault {
+    fn from(_refused: AllocError) -> FormFault {
+        FormFault::NoMemory
+    }
+}
+
+impl From<HeaderNameError> for FormFault {
+    fn from(error: HeaderNameError) -> FormFault {
+        match error {
+            HeaderNameError::OutOfMemory => FormFault::NoMemory,
+            _ => FormFault::NoForm,
+        }
+    }
+}
+
+impl From<HeaderValueError> for FormFault {
+    fn from(error: HeaderValueError) -> FormFault {
+        match error {
+            HeaderValueError::OutOfMemory => FormFault::NoMemory,
+            _ => FormFault::NoForm,
+        }
+    }
+}
+
+impl From<HeaderMapError> for FormFault {
+    fn from(error: HeaderMapError) -> FormFault {
+        match error {
+            HeaderMapError::OutOfMemory => FormFault::NoMemory,
+            _ => FormFault::NoForm,
+        }
+    }
+}
+
+impl From<FormFault> for RespondFault {
+    ghost use Rattle.std.specs.Prelude.{◌≢◌};
+    ghost use Rattle.hyper_edge.specs.declared.faults.RespondFault.TheVariants.{Closed};
+
+    ghost from_gives = { λ _ fault. fault ≢ Closed };
+
+    fn from(fault: FormFault) -> RespondFault {
+        match fault {
+            FormFault::NoForm => RespondFault::NoForm,
+            FormFault::NoMemory => RespondFault::NoMemory,
+        }
+    }
+}
+
+impl From<AllocError> for EdgeFault {
+    fn from(_refused: AllocError) -> EdgeFault {
+        EdgeFault::NoMemory
+    }
+}
+
+impl From<NoMemory> for EdgeFault {
+    fn from(_refused: NoMemory) -> EdgeFault {
+        EdgeFault::NoMemory
+    }
+}
+
+impl EdgeFault {
+    /// Why an address wasn't bound.
+    pub(crate) fn of_binding(error: &io::Error) -> EdgeFault {
+        match error.kind() {
+            io::ErrorKind::OutOfMemory => EdgeFault::NoMemory,
+            _ => EdgeFault::Bind,
+        }
+    }
+
+    /// Why no connection was accepted.
+    pub(crate) fn of_accepting(error: &io::Error) -> EdgeFault {
+        match error.kind() {
+            io::ErrorKind::OutOfMemory => EdgeFault::NoMemory,
+            _ => EdgeFault::Accept,
+        }
+    }
+}
+
+impl From<FetchFault> for PullFault {
+    fn from(fault: FetchFault) -> PullFault {
+        match fault {
+            FetchFault::Failed => PullFault::Failed,
+            FetchFault::TooLong => PullFault::BadState,
+            FetchFault::NoMemory => PullFault::NoMemory,
+        }
+    }
+}
+
+impl From<StateFault> for PullFault {
+    fn from(fault: StateFault) -> PullFault {
+        match fault {
+            StateFault::TooLong | StateFault::NotState => PullFault::BadState,
+            StateFault::NoMemory => PullFault::NoMemory,
+        }
+    }
+}
+
+impl<T: Drop> From<AllocFailed<T>> for PullFault {
+    fn from(_refused: AllocFailed<T>) -> PullFault {
+        PullFault::NoMemory
+    }
+}

@@ -1,0 +1,30 @@
+//! Gates, fetches and pulls over sockets, by `hyper` and `tokio`.
+//!
+//! What a gate answers is carried by HTTP/1.1: `GateService::respond` gives the form of a reply that the gate's type allows
+//! for the request, and nothing else. What crosses a socket, no contract can say: that is tested.
+#![tactic(auto)]
+
+mod answers;
+mod binding;
+mod exchanges;
+mod faults;
+mod fetching;
+mod pulls;
+mod requests;
+mod responses;
+mod services;
+mod serving;
+mod targets;
+mod timers;
+#[cfg(test)]
+mod tests;
+
+pub use answers::Answers;
+pub use binding::{Bound, bind};
+pub use faults::{EdgeFault, FormFault, PullFault, RespondFault};
+pub use fetching::HyperFetch;
+pub use pulls::pull_state;
+pub use requests::request_of;
+pub use responses::form;
+pub use services::GateService;
+pub use serving::serve_gate;
