@@ -15,9 +15,9 @@ mod responses;
 mod services;
 mod serving;
 mod targets;
-mod timers;
 #[cfg(test)]
 mod tests;
+mod timers;
 
 pub use answers::Answers;
 pub use binding::{Bound, bind};
