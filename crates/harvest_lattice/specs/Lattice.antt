@@ -67,10 +67,6 @@ join x y = join_by join_kept x y
 abbrev pub joined_kept : Entries → Key × Kept → Kept
 joined_kept x e = unwrap_or (join_values join_kept (map.get x e.0) (Some e.1)) e.1
 
--- an entry as it stands in the join
-abbrev pub joined_with : Entries → Key × Kept → Key × Kept
-joined_with x e = (e.0, joined_kept x e)
-
 -- an entry as a pair of its revision and its mementos
 abbrev pub coded_kept : Coded Kept
 coded_kept = code_by (ℕ × Mementos) (coded× coded_ℕ (set.code coded_memento)) (λ e. (e.revision, e.mementos)) (λ p. record { revision = p.0; mementos = p.1 }) (λ _. refl)

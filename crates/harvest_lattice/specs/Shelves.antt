@@ -1,53 +1,43 @@
--- The slots of a state, archive by archive: each original that has one, with what is kept of it.
+-- What a state holds, archive by archive: each original with its entry.
 use Rattle.std.specs.Prelude.{ℕ, List, [], ◌∷◌, ◌++◌, Option, Some, None}
 use Rattle.std.specs.BTreeMap as tree
 use Rattle.std.specs.BTreeMap.{BTreeMap}
-use Rattle.std.specs.Coded.{Coded, coded_list, coded_option, coded_ℕ}
+use Rattle.std.specs.Coded.{Coded, coded_list, coded_ℕ}
 use Rattle.std.specs.FinMap as fmap
 use Rattle.memento_time.specs.Mementos.{text_cmp}
 use Rattle.harvest_lattice.specs.Lattice.{Key, Kept, Entries, coded_kept}
 
--- the slots of an archive: one for each original, which may be empty
-abbrev pub Slots : Type 0
-Slots = fmap.FinMap text_cmp (Option Kept)
+-- the entries of an archive, by original
+abbrev pub Shelved : Type 0
+Shelved = fmap.FinMap text_cmp Kept
 
--- slots as pairs of an original and what is kept, if anything
-abbrev pub coded_slots : Coded Slots
-coded_slots = fmap.code (coded_list coded_ℕ) (coded_option coded_kept)
+-- as pairs of an original and its entry
+abbrev pub coded_shelved : Coded Shelved
+coded_shelved = fmap.code (coded_list coded_ℕ) coded_kept
 
 -- those of each archive
 abbrev pub Shelves : Type 0
-Shelves = BTreeMap (List ℕ) Slots
+Shelves = BTreeMap (List ℕ) Shelved
 
--- an archive's slot of an original
-abbrev pub slot_of : Option Slots → List ℕ → Option (Option Kept)
-slot_of None original = None
-slot_of (Some slots) original = fmap.get slots original
+-- what an archive's shelf, if there is one, has of an original
+abbrev pub shelf_at : Option Shelved → List ℕ → Option Kept
+shelf_at None original = None
+shelf_at (Some shelf) original = fmap.get shelf original
 
--- the slot of a key
-abbrev pub slot : Shelves → Key → Option (Option Kept)
-slot shelves k = slot_of (tree.get text_cmp shelves k.0) k.1
+-- what is held at a key
+abbrev pub held_at : Shelves → Key → Option Kept
+held_at shelves k = shelf_at (tree.get text_cmp shelves k.0) k.1
 
--- what a slot holds: an empty one none, as one that isn't there
-abbrev pub filled : Option (Option Kept) → Option Kept
-filled None = None
-filled (Some kept) = kept
-
--- the rows of the filled slots of an archive
-abbrev pub slot_rows : List ℕ → List ℕ → Option Kept → List (Key × Kept)
-slot_rows archive original None = []
-slot_rows archive original (Some kept) = ((archive, original), kept) ∷ []
-
--- the entries of an archive, by original
-abbrev pub shelf_rows : List ℕ → List (List ℕ × Option Kept) → List (Key × Kept)
+-- the rows of an archive
+abbrev pub shelf_rows : List ℕ → List (List ℕ × Kept) → List (Key × Kept)
 shelf_rows archive [] = []
-shelf_rows archive (s ∷ ss) = slot_rows archive s.0 s.1 ++ shelf_rows archive ss
+shelf_rows archive (e ∷ es) = ((archive, e.0), e.1) ∷ shelf_rows archive es
 
 -- the entries of all archives, by archive, then original
-abbrev pub all_rows : List (List ℕ × Slots) → List (Key × Kept)
+abbrev pub all_rows : List (List ℕ × Shelved) → List (Key × Kept)
 all_rows [] = []
 all_rows (s ∷ ss) = shelf_rows s.0 (fmap.entries s.1) ++ all_rows ss
 
--- the map of what the slots hold
+-- the map of what the shelves hold
 abbrev pub entries_of : Shelves → Entries
 entries_of shelves = fmap.from_entries (all_rows shelves.entries)

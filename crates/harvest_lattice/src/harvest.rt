@@ -4,7 +4,8 @@ ghost use Rattle.memento_time.specs.Mementos.{memento_cmp};
 ghost use Rattle.harvest_lattice.specs.Faults.{words_of};
 ghost use Rattle.harvest_lattice.specs.Sets as set;
 
-use crate::latest::Latest;
+use crate::entry::Entry;
+use crate::mementos::Mementos;
 use memento_time::{ArchiveName, Memento, NoMemory, Original};
 use std::error::Error;
 use std::fmt;
@@ -46,7 +47,7 @@ impl From<NoMemory> for HarvestFault {
 pub struct Harvest {
     archive: ArchiveName,
     original: Original,
-    latest: Latest,
+    entry: Entry,
 }
 
 impl Model for Harvest {
@@ -56,7 +57,7 @@ impl Model for Harvest {
 
     ghost coded = { coded_harvested };
 
-    ghost view = { λ h. record { archive = h.archive; original = h.original; revision = h.latest.revision; mementos = h.latest.mementos } };
+    ghost view = { λ h. record { archive = h.archive; original = h.original; revision = h.entry.revision; mementos = h.entry.mementos } };
 }
 
 impl Harvest {
@@ -75,14 +76,14 @@ impl Harvest {
         ensures too_many { IsErrOf result HarvestFault.TooMany → 100000 < length (set.items (set.from_list {R = memento_cmp} mementos.items)) }
     {
         let original = original.try_clone()?;
-        let latest = Latest::of(revision, mementos);
-        if latest.len() > Harvest::MAX_MEMENTOS {
+        let mementos = Mementos::of(mementos);
+        if mementos.len() > Harvest::MAX_MEMENTOS {
             return Err(HarvestFault::TooMany);
         }
         Ok(Harvest {
             archive,
             original,
-            latest,
+            entry: Entry::new(revision, mementos),
         })
     }
 
@@ -104,21 +105,21 @@ impl Harvest {
     pub fn revision(&self) -> u64
         ensures { result ≡ self.now.revision }
     {
-        self.latest.revision()
+        self.entry.revision()
     }
 
     /// Each once, by datetime, then by URI.
     pub fn mementos(&self) -> &[Memento]
         ensures { result.now ≡ set.items self.now.mementos }
     {
-        self.latest.mementos()
+        self.entry.mementos().as_slice()
     }
 
     // What a state of this harvest alone has of its archive and original.
-    pub(crate) fn latest(&self) -> &Latest
+    pub(crate) fn entry(&self) -> &Entry
         ensures { result.now ≡ record { revision = self.now.revision; mementos = self.now.mementos } }
     {
-        &self.latest
+        &self.entry
     }
 
     /// The same harvest once more.
@@ -126,11 +127,11 @@ impl Harvest {
         ensures { IfOk result (λ copy. copy ≡ self.now) }
     {
         let original = self.original.try_clone()?;
-        let latest = self.latest.try_clone()?;
+        let entry = self.entry.try_clone()?;
         Ok(Harvest {
             archive: self.archive,
             original,
-            latest,
+            entry,
         })
     }
 }

@@ -1,4 +1,3 @@
-use crate::latest::Latest;
 use crate::*;
 use memento_time::{ArchiveName, Clean, Memento, Moment, Original};
 use std::alloc::Global;
@@ -48,14 +47,58 @@ fn harvest(
 }
 
 #[test]
-fn a_lesser_revision_adds_nothing(rt: HostRuntime) -> Result<(), Fail> {
+fn the_greatest_revision_stays(rt: HostRuntime) -> Result<(), Fail> {
     let alloc = rt.alloc();
-    let newer = Latest::of(7, mementos(alloc, &[FIRST])?);
-    let older = Latest::of(3, mementos(alloc, &[SECOND])?);
-    for both in [newer.joined(alloc, &older)?, older.joined(alloc, &newer)?] {
-        assert!(rt; both.revision() == 7);
-        assert!(rt; both.mementos() == newer.mementos());
-    }
+    let root = Original::new(alloc, b"http://a.example/")?;
+    let mut state = State::new(alloc);
+    state.merge(&harvest(alloc, "a1", 7, &[FIRST])?)?;
+    state.merge(&harvest(alloc, "a1", 3, &[SECOND])?)?;
+    assert!(rt; state.shown(&root)?.as_slice() == mementos(alloc, &[FIRST])?.as_slice());
+    state.merge(&harvest(alloc, "a1", 7, &[THIRD, SECOND])?)?;
+    assert!(rt;
+        state.shown(&root)?.as_slice() == mementos(alloc, &[FIRST, SECOND, THIRD])?.as_slice()
+    );
+    state.merge(&harvest(alloc, "a1", 8, &[])?)?;
+    assert!(rt; state.shown(&root)?.is_empty());
+    Ok(())
+}
+
+#[test]
+fn sets_are_united(rt: HostRuntime) -> Result<(), Fail> {
+    let alloc = rt.alloc();
+    let mut all = Mementos::of(mementos(alloc, &[THIRD, FIRST, THIRD])?);
+    assert!(rt; all.len() == 2);
+    let second = Mementos::of(mementos(alloc, &[SECOND, FIRST])?);
+    assert!(rt; second.without(&all)?.as_slice() == mementos(alloc, &[SECOND])?.as_slice());
+    assert!(rt; !second.is_subset(&all));
+    all.absorb(second.try_clone()?)?;
+    assert!(rt; second.is_subset(&all));
+    assert!(rt; all.into_vec().as_slice() == mementos(alloc, &[FIRST, SECOND, THIRD])?.as_slice());
+    assert!(rt; Mementos::new(alloc).is_empty());
+    Ok(())
+}
+
+#[test]
+fn changes_are_what_is_news(rt: HostRuntime) -> Result<(), Fail> {
+    let alloc = rt.alloc();
+    let root = Original::new(alloc, b"http://a.example/")?;
+    let mut here = State::new(alloc);
+    here.merge(&harvest(alloc, "a1", 7, &[FIRST])?)?;
+    here.merge(&harvest(alloc, "b1", 2, &[THIRD])?)?;
+    let mut there = State::new(alloc);
+    there.merge(&harvest(alloc, "a1", 7, &[FIRST, SECOND])?)?;
+    there.merge(&harvest(alloc, "b1", 1, &[FIRST])?)?;
+    there.merge(&harvest(alloc, "c1", 1, &[FIRST])?)?;
+    let changes = here.changes(&there)?;
+    assert!(rt; changes.rows().len() == 2);
+    here.put(changes)?;
+    assert!(rt; there.le(&here) && here.len() == 3);
+    assert!(rt; here.shown(&root)?.len() == 3);
+    assert!(rt;
+        here.changes_by(&harvest(alloc, "a1", 6, &[THIRD])?)?
+            .rows()
+            .is_empty()
+    );
     Ok(())
 }
 
@@ -104,10 +147,10 @@ fn a_row_is_copied(rt: HostRuntime) -> Result<(), Fail> {
     let list = mementos(alloc, &[FIRST, SECOND])?;
     let row = Row::new(archive("a1")?, root, 7, list).ok_or("a row")?;
     let copy = row.try_clone()?;
-    assert!(rt; copy.archive == archive("a1")?);
-    assert!(rt; copy.original.as_bytes() == b"http://a.example/".as_slice());
-    assert!(rt; copy.latest.revision() == 7);
-    assert!(rt; copy.latest.mementos() == mementos(alloc, &[FIRST, SECOND])?.as_slice());
+    assert!(rt; copy.archive() == archive("a1")?);
+    assert!(rt; copy.original().as_bytes() == b"http://a.example/".as_slice());
+    assert!(rt; copy.entry().revision() == 7);
+    assert!(rt; copy.entry().mementos() == mementos(alloc, &[FIRST, SECOND])?.as_slice());
     Ok(())
 }
 

@@ -1,4 +1,4 @@
-// Walks over the entries of a state.
+//! Walks over the entries of a state.
 ghost use Rattle.std.specs.Prelude.{◌≡◌, length};
 ghost use Rattle.std.specs.FinMap as map;
 ghost use Rattle.std.specs.Iterator.{at_most};
@@ -6,8 +6,7 @@ ghost use Rattle.std.specs.Map.Iter.{TakesFirst};
 ghost use Rattle.harvest_lattice.specs.Rows.{lent_entry};
 ghost use Rattle.harvest_lattice.specs.Shelves.{all_rows, shelf_rows};
 
-use crate::latest::Latest;
-use crate::row::Entry;
+use crate::entry::{Entry, EntryRef};
 use crate::shelf::Shelf;
 use crate::shelves::Shelves;
 use memento_time::{ArchiveName, Original};
@@ -18,7 +17,7 @@ use std::marker::Model;
 #[derive(Drop)]
 struct ShelfRows<'a> {
     archive: ArchiveName,
-    slots: Iter<'a, Original, Option<Latest>>,
+    entries: Iter<'a, Original, Entry>,
 }
 
 impl<'a> Model for ShelfRows<'a> {
@@ -31,7 +30,7 @@ impl<'a> Model for ShelfRows<'a> {
 
     ghost coded = { coded_list (coded× coded_key coded_kept) };
 
-    ghost view = { λ rows. shelf_rows rows.archive rows.slots };
+    ghost view = { λ rows. shelf_rows rows.archive rows.entries };
 }
 
 impl<'a> ShelfRows<'a> {
@@ -40,25 +39,21 @@ impl<'a> ShelfRows<'a> {
     {
         ShelfRows {
             archive,
-            slots: shelf.iter(),
+            entries: shelf.iter(),
         }
     }
 }
 
 impl<'a> Iterator for ShelfRows<'a> {
-    type Item = ((ArchiveName, &'a Original), Entry<'a>);
+    type Item = ((ArchiveName, &'a Original), EntryRef<'a>);
 
     ghost next_gives = { TakesFirst lent_entry };
 
     ghost remaining = { λ rows. at_most (length rows) };
 
-    fn next(&mut self) -> Option<((ArchiveName, &'a Original), Entry<'a>)> {
-        while let Some((original, slot)) = self.slots.next() {
-            if let Some(latest) = slot {
-                return Some(((self.archive, original), Entry::new(latest)));
-            }
-        }
-        None
+    fn next(&mut self) -> Option<((ArchiveName, &'a Original), EntryRef<'a>)> {
+        let (original, entry) = self.entries.next()?;
+        Some(((self.archive, original), EntryRef::new(entry)))
     }
 }
 
@@ -95,13 +90,13 @@ impl<'a> Rows<'a> {
 }
 
 impl<'a> Iterator for Rows<'a> {
-    type Item = ((ArchiveName, &'a Original), Entry<'a>);
+    type Item = ((ArchiveName, &'a Original), EntryRef<'a>);
 
     ghost next_gives = { TakesFirst lent_entry };
 
     ghost remaining = { λ rows. at_most (length rows) };
 
-    fn next(&mut self) -> Option<((ArchiveName, &'a Original), Entry<'a>)> {
+    fn next(&mut self) -> Option<((ArchiveName, &'a Original), EntryRef<'a>)> {
         loop {
             if let Some(shelf) = &mut self.shelf {
                 if let Some(row) = shelf.next() {

@@ -24,7 +24,8 @@ use Rattle.harvest_lattice.specs.Rows.{row_entry}
 use Rattle.harvest_lattice.specs.declared.row.Row.{Row}
 use Rattle.harvest_lattice.proofs.Sets.{items_sorted}
 use Rattle.harvest_lattice.proofs.Entries.{contains-join_kept}
-use Rattle.harvest_lattice.proofs.RowLemmas.{joined_there, joined_alone, map_push}
+use Rattle.harvest_lattice.proofs.RowLemmas.{map_push}
+use Rattle.memento_index.proofs.Puts.{joined_there, joined_alone}
 use Rattle.harvest_lattice.proofs.ShelfLemmas.{same_text}
 use Rattle.harvest_lattice.proofs.Walked.{value_at}
 use Rattle.memento_index.specs.declared.counted.Step.{Step}

@@ -74,7 +74,7 @@ fn push_steps(
 // The mementos in whose place those of a row stand: none where they come beside what is held.
 fn replaced<'a>(state: &'a State, row: &Row) -> &'a [Memento]
     requires { IsNewsAt state.now (row_entry row.now) }
-    ensures replaced { (m : AMemento) → shows_one (Some (joined_kept state.now (row_entry row.now))) m + held result.now m ≡ shows_one (map.get state.now (row_key row.now)) m + held (set.items row.now.latest.mementos) m }
+    ensures replaced { (m : AMemento) → shows_one (Some (joined_kept state.now (row_entry row.now))) m + held result.now m ≡ shows_one (map.get state.now (row_key row.now)) m + held (set.items row.now.entry.mementos) m }
     ensures held { (m : AMemento) → held result.now m ≤ shows_one (map.get state.now (row_key row.now)) m }
 {
     match state.entry(row.archive(), row.original()) {

@@ -8,7 +8,7 @@ ghost use Rattle.replica_exchange.specs.StateText.{memento_line, entry_line, ent
 ghost use Rattle.replica_exchange.specs.StateText.{IsEntryLine, IsEntry, IsState};
 ghost use Rattle.harvest_lattice.specs.Sets as set;
 
-use harvest_lattice::{Entry, State};
+use harvest_lattice::{EntryRef, State};
 use memento_time::{ArchiveName, Memento, NoMemory, Original};
 use std::alloc::{AllocError, Global};
 use text_fields::write_decimal;
@@ -44,7 +44,7 @@ fn write_entry_line(
     out: &mut Vec<u8>,
     archive: ArchiveName,
     original: &Original,
-    entry: &Entry,
+    entry: &EntryRef,
 ) -> Result<(), AllocError>
     ensures written { OnOk result (out.new.items ≡ out.old.items
         ++ entry_line (archive, original.now) entry.now.revision (length (set.items entry.now.mementos))) }
@@ -73,7 +73,7 @@ fn write_entry(
     out: &mut Vec<u8>,
     archive: ArchiveName,
     original: &Original,
-    entry: &Entry,
+    entry: &EntryRef,
 ) -> Result<(), AllocError>
     ensures written { OnOk result (out.new.items ≡ out.old.items
         ++ entry_text ((archive, original.now), entry.now)) }

@@ -13,7 +13,7 @@ pub returns : goal.returns
 returns c =
     let more = c.in_ok-more.more.items in
     let is : c.append.new.self.items ≡ c.args.steps.now.items ++ more = grind (arith, common_steps) in
-    let its : c.mementos.result.now ≡ set.items c.args.row.now.latest.mementos = c.mementos.ensures ∙ ap (λ (k : Kept). set.items k.mementos) c.entry.ensures in
-    shifted c.args.state.now (row_entry c.args.row.now) c.args.steps.now.items more c.append.new.self.items c.replaced.result.now (set.items c.args.row.now.latest.mementos) is
+    let its : c.mementos.result.now ≡ set.items c.args.row.now.entry.mementos = c.mementos.ensures ∙ ap (λ (k : Kept). set.items k.mementos) c.entry.ensures in
+    shifted c.args.state.now (row_entry c.args.row.now) c.args.steps.now.items more c.append.new.self.items c.replaced.result.now (set.items c.args.row.now.entry.mementos) is
     (λ m. c.in_ok-more.ensures.counts m ∙ ap (λ (ms : List Memento). ceased more m + held ms m) its)
     c.in_ok-more.ensures.shown c.replaced.ensures.replaced c.replaced.ensures.held

@@ -13,7 +13,7 @@ returns-then-revision-clause-replaced c m =
     let x = c.args.state.now in
     let row = c.args.row.now in
     let there : fmap.get x (row_key row) ≡ Some c.in-Some.entry = (λ i. fmap.get x (sym c.archive.ensures i, sym c.original.ensures i)) ∙ (sym c.entry.ensures ∙ c.in-Some.is) in
-    let same : c.in-Some.entry.revision ≡ row.latest.revision = sym c.revision.ensures ∙ (c.if-revision.true ∙ (c.revision-in-Some.ensures ∙ ap (λ (k : Kept). k.revision) c.entry-in-Some.ensures)) in
+    let same : c.in-Some.entry.revision ≡ row.entry.revision = sym c.revision.ensures ∙ (c.if-revision.true ∙ (c.revision-in-Some.ensures ∙ ap (λ (k : Kept). k.revision) c.entry-in-Some.ensures)) in
     comes_beside x (row_entry row) c.in-Some.entry there same c.requires m
 
 pub returns-else-revision-clause-replaced : goal.returns-else-revision-clause-replaced
@@ -21,7 +21,7 @@ returns-else-revision-clause-replaced c m =
     let x = c.args.state.now in
     let row = c.args.row.now in
     let there : fmap.get x (row_key row) ≡ Some c.in-Some.entry = (λ i. fmap.get x (sym c.archive.ensures i, sym c.original.ensures i)) ∙ (sym c.entry.ensures ∙ c.in-Some.is) in
-    let other : c.in-Some.entry.revision ≡ row.latest.revision → ⊥ = λ s. c.if-revision.false (c.revision.ensures ∙ (s ∙ sym (c.revision-in-Some.ensures ∙ ap (λ (k : Kept). k.revision) c.entry-in-Some.ensures))) in
+    let other : c.in-Some.entry.revision ≡ row.entry.revision → ⊥ = λ s. c.if-revision.false (c.revision.ensures ∙ (s ∙ sym (c.revision-in-Some.ensures ∙ ap (λ (k : Kept). k.revision) c.entry-in-Some.ensures))) in
     ap (λ (ms : List Memento). shows_one (Some (joined_kept x (row_entry row))) m + held ms m) c.mementos.ensures ∙ takes_place x (row_entry row) c.in-Some.entry there other c.requires m
 
 pub returns-else-revision-clause-held : goal.returns-else-revision-clause-held

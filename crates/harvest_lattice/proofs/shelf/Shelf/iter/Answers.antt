@@ -1,8 +1,8 @@
 use Rattle.std.proofs.Common.{sym, ap, ◌∙◌}
 use Rattle.std.specs.FinMap as map
-use Rattle.harvest_lattice.specs.Shelves.{Slots}
-use Rattle.harvest_lattice.proofs.ShelfLemmas.{slots_made}
+use Rattle.harvest_lattice.specs.Shelves.{Shelved}
+use Rattle.harvest_lattice.proofs.ShelfLemmas.{shelved_made}
 use Rattle.harvest_lattice.proofs.shelf.Shelf.iter.Goals as goal
 
 pub returns : goal.returns
-returns c = c.iter.ensures.rest ∙ (sym (slots_made c.self.inside.slots.entries c.self.invariant) ∙ ap (λ (s : Slots). map.entries s) c.self.view_is)
+returns c = c.iter.ensures.rest ∙ (sym (shelved_made c.self.inside.entries.entries c.self.invariant) ∙ ap (λ (s : Shelved). map.entries s) c.self.view_is)

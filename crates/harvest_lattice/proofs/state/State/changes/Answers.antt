@@ -22,7 +22,7 @@ loop-row-preserved c =
     let e : Key × Kept = lent_entry c.in-Some.row in
     turned x y c.loop-row.rows.items c.note.new.rows.items e c.next.new.self
     (subst (λ (es : List (Key × Kept)). IsUnderWay x y (map row_entry c.loop-row.rows.items) es) c.in-Some.ensures.steps c.loop-row.invariant)
-    (subst (λ (v : Kept). IsNoted x (e.0, v) c.loop-row.rows.items c.note.new.rows.items) c.latest.ensures c.in_ok-note.ensures)
+    (subst (λ (v : Kept). IsNoted x (e.0, v) c.loop-row.rows.items c.note.new.rows.items) c.entry.ensures c.in_ok-note.ensures)
 
 pub returns : goal.returns
 returns c =

@@ -16,14 +16,14 @@ returns-then-not-has_at_least c =
     let start : c.into_iter-row-iterator.result ≡ fmap.entries x = c.into_iter-row-iterator.ensures.into_iter_gives ∙ c.rows-row-items.ensures in
     let turn = iter_turn lent_entry (fmap.entries x) c.loop-row.yielded c.into_iter-row-iterator.result c.loop-row.row-iterator c.next.new.self c.next.result start c.loop-row.yielded_by c.in-Some.row c.in-Some.is c.next.ensures.steps in (
       λ t. absurd (true≢false (sym t)),
-      λ le. absurd (true≢false (sym (c.has_at_least.ensures.1 (subst (λ (v : Kept). IsAtMostAt y (e.0, v)) (sym c.latest.ensures) (at_most_at x y e (value_at x (length c.loop-row.yielded) e turn.1) le))) ∙ c.if-not-has_at_least.true)),
+      λ le. absurd (true≢false (sym (c.has_at_least.ensures.1 (subst (λ (v : Kept). IsAtMostAt y (e.0, v)) (sym c.entry.ensures) (at_most_at x y e (value_at x (length c.loop-row.yielded) e turn.1) le))) ∙ c.if-not-has_at_least.true)),
     )
 
 pub loop-row-preserved : goal.loop-row-preserved
 loop-row-preserved c all =
     let y = c.args.other.now in
     let e : Key × Kept = lent_entry c.in-Some.row in
-    c.loop-row.invariant (All-same (IsAtMostAt y) c.loop-row.row-iterator (e ∷ c.next.new.self) c.in-Some.ensures.steps (All-cons (IsAtMostAt y) e c.next.new.self (subst (λ (v : Kept). IsAtMostAt y (e.0, v)) c.latest.ensures (c.has_at_least.ensures.0 c.if-not-has_at_least.false)) all))
+    c.loop-row.invariant (All-same (IsAtMostAt y) c.loop-row.row-iterator (e ∷ c.next.new.self) c.in-Some.ensures.steps (All-cons (IsAtMostAt y) e c.next.new.self (subst (λ (v : Kept). IsAtMostAt y (e.0, v)) c.entry.ensures (c.has_at_least.ensures.0 c.if-not-has_at_least.false)) all))
 
 pub returns : goal.returns
 returns c =
