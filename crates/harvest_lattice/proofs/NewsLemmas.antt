@@ -211,27 +211,15 @@ nothing_joins : (o : Option Kept) → o ≡ join_values join_kept o None
 nothing_joins None = refl
 nothing_joins (Some a) = refl
 
--- to join what is news of a harvest is to join the harvest
-pub merged : (x : Entries) (h : Harvested) (n : Kept) → n ≡ news_at (fmap.get x (key_of h)) (single h) → fmap.insert x (key_of h) (joined_kept x (key_of h, n)) ≡ join x (lat (h ∷ []))
-merged x h n is = fmap.same_map key_cmp_total key_cmp_exact _ _ (λ q.
-    get-joined x (key_of h, n) q
-    ∙ (elim (eq_by_cmp key_cmp q (key_of h)) as (λ b. eq_by_cmp key_cmp q (key_of h) ≡ b → cond b (join_values join_kept (fmap.get x (key_of h)) (Some n)) (fmap.get x q) ≡ join_values join_kept (fmap.get x q) (cond b (Some (single h)) None)) [
-      | true ↦ λ t.
-          ap (λ v. join_values join_kept (fmap.get x (key_of h)) (Some v)) is
-          ∙ (join_news (fmap.get x (key_of h)) (single h) ∙ ap (λ (k : Key). join_values join_kept (fmap.get x k) (Some (single h))) (sym (same_key q (key_of h) t)))
+-- to join the entry of a harvest is to join the harvest
+pub merged : (x : Entries) (h : Harvested) → fmap.insert x (key_of h) (joined_kept x (key_of h, single h)) ≡ join x (lat (h ∷ []))
+merged x h = fmap.same_map key_cmp_total key_cmp_exact _ _ (λ q.
+    get-joined x (key_of h, single h) q
+    ∙ (elim (eq_by_cmp key_cmp q (key_of h)) as (λ b. eq_by_cmp key_cmp q (key_of h) ≡ b → cond b (join_values join_kept (fmap.get x (key_of h)) (Some (single h))) (fmap.get x q) ≡ join_values join_kept (fmap.get x q) (cond b (Some (single h)) None)) [
+      | true ↦ λ t. ap (λ (k : Key). join_values join_kept (fmap.get x k) (Some (single h))) (sym (same_key q (key_of h) t))
       | false ↦ λ _. nothing_joins (fmap.get x q)
     ] refl
     ∙ (ap (join_values join_kept (fmap.get x q)) (sym (get-lat_one h q)) ∙ sym (get-join x (lat (h ∷ [])) q))))
-
--- where nothing of a harvest is news, it joins nothing
-pub merged_none : (x : Entries) (h : Harvested) → IsAtMostAt x (key_of h, single h) → x ≡ join x (lat (h ∷ []))
-merged_none x h le = fmap.same_map key_cmp_total key_cmp_exact _ _ (λ q.
-    elim (eq_by_cmp key_cmp q (key_of h)) as (λ b. eq_by_cmp key_cmp q (key_of h) ≡ b → fmap.get x q ≡ join_values join_kept (fmap.get x q) (cond b (Some (single h)) None)) [
-      | true ↦ λ t. nothing_joins (fmap.get x q) ∙ ap (λ (k : Key). join_values join_kept (fmap.get x k) None) (same_key q (key_of h) t)
-          ∙ (sym (at_most_joins x (key_of h) (single h) le) ∙ ap (λ (k : Key). join_values join_kept (fmap.get x k) (Some (single h))) (sym (same_key q (key_of h) t)))
-      | false ↦ λ _. nothing_joins (fmap.get x q)
-    ] refl
-    ∙ (ap (join_values join_kept (fmap.get x q)) (sym (get-lat_one h q)) ∙ sym (get-join x (lat (h ∷ [])) q)))
 
 -- ---- an entry joined to another
 

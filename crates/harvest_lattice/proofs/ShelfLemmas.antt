@@ -1,5 +1,5 @@
 -- What shelves hold, as the entries of a state.
-use Rattle.std.proofs.Common.{◌≡◌, ℕ, zero, suc, ◌+◌, ◌-◌, ◌<◌, arith, not, ◌&&◌, Bool, true, false, cond, ◌++◌, List, [], ◌∷◌, Option, Some, None, is_some, IsSome, Result, Ok, Err, OnOk, OnErr, refl, sym, ap, subst, ◌∙◌}
+use Rattle.std.proofs.Common.{◌≡◌, ℕ, zero, suc, ◌+◌, ◌-◌, ◌<◌, arith, not, ◌&&◌, Bool, true, false, cond, ◌++◌, List, [], ◌∷◌, Option, Some, None, is_some, IsSome, Result, Ok, Err, OnOk, OnErr, length, refl, sym, ap, subst, ◌∙◌}
 use Rattle.std.specs.Prelude.{T}
 use Rattle.std.specs.declared.cmp.Ordering.{Ordering}
 use Rattle.std.specs.declared.cmp.Ordering.TheVariants.{Less, Equal, Greater}
@@ -13,6 +13,7 @@ use Rattle.std.specs.Cmp.{tied_itself, Equal-is, eq_by_cmp_equiv}
 use Rattle.std.specs.Cmp.Lexicographic.{nat_list_cmp_total}
 use Rattle.std.specs.FinMap as fmap
 use Rattle.std.proofs.lemmas.Bool.{true≢false}
+use Rattle.std.proofs.lemmas.Option.{none-some}
 use Rattle.std.specs.FinMap.{slice_cmp-IsAntisymmetric, nat_cmp-IsAntisymmetric}
 use Rattle.std.specs.FinMap.Entries.{below_all}
 use Rattle.memento_time.specs.Mementos.{text_cmp}
@@ -193,6 +194,47 @@ shelved_made es h =
     let sorted = from_keys text_cmp es h in
     ap (λ (s : Shelved). fmap.entries s) (fmap.same_map nat_list_cmp_total text_exact (fmap.from_entries es) (fmap.from_sorted es) (λ o. fmap.get-from_entries nat_list_cmp_total es o ∙ sym (fmap.get-from_sorted text_cmp es o sorted)))
     ∙ fmap.entries-from_sorted text_cmp es sorted
+
+-- a shelf with something at an original isn't empty
+pub not_empty : (es : List (List ℕ × Kept)) (o : List ℕ) (v : Kept) → lookup (is_at (text_cmp o)) es ≡ Some v → 0 < length es
+not_empty [] o v there = absurd (none-some v there)
+not_empty (e ∷ es) o v there = omega arith
+
+pub len_shelved : (es : List (List ℕ × Kept)) (x : Shelved) → IsStrictlySortedBy text_cmp (keys_of es) → fmap.from_entries es ≡ x → fmap.len x ≡ length es
+len_shelved es x h view = ap (λ (s : Shelved). fmap.len s) (sym view) ∙ (fmap.len-entries (fmap.from_entries {R = text_cmp} es) ∙ ap (λ (fs : List (List ℕ × Kept)). length fs) (shelved_made es h))
+
+-- what is left where the only entry isn't taken out
+pub still_some : (o : Option Kept) (n m : ℕ) → n + cond (is_some o) 1 0 ≡ m → 0 < m → (IsSome o → 1 < m) → 0 < n
+still_some None n m same some more = omega arith
+still_some (Some v) n m same some more = let two = more refl in omega arith
+
+-- a single entry is that of no other original
+pub single_entry : (es : List (List ℕ × Kept)) (o p : List ℕ) → length es ≡ 1 → is_some (lookup (is_at (text_cmp o)) es) ≡ true → eq_by_cmp text_cmp p o ≡ false → lookup (is_at (text_cmp p)) es ≡ None
+single_entry [] o p one there other = absurd (omega arith)
+single_entry (e ∷ []) o p one there other =
+    elim (eq_by_cmp text_cmp o e.0) as (λ b. eq_by_cmp text_cmp o e.0 ≡ b → is_some (cond b (Some e.1) None) ≡ true → cond (eq_by_cmp text_cmp p e.0) (Some e.1) None ≡ None) [
+      | true ↦ λ t _. ap (λ b. cond b (Some e.1) None) (ap (eq_by_cmp text_cmp p) (sym (same_text o e.0 t)) ∙ other)
+      | false ↦ λ _ none. absurd (true≢false (sym none))
+    ] refl there
+single_entry (e ∷ f ∷ es) o p one there other = absurd (omega arith)
+
+-- an archive's shelf taken out, of which nothing but one original is held
+pub shelf_removed : (m l n : Shelves) (a o : List ℕ) (w : Shelved) → tree.get text_cmp m a ≡ Some w → ((q : List ℕ) → tree.get text_cmp l q ≡ cond (eq_by_cmp text_cmp a q) (Some w) (tree.get text_cmp m q)) → ((q : List ℕ) → tree.get text_cmp n q ≡ cond (eq_by_cmp text_cmp a q) None (tree.get text_cmp l q)) → ((p : List ℕ) → eq_by_cmp text_cmp p o ≡ false → fmap.get w p ≡ None) → (k : Key) → held_at n k ≡ cond (eq_by_cmp key_cmp k (a, o)) None (held_at m k)
+shelf_removed m l n a o w there same put alone k =
+    ap (λ s. shelf_at s k.1) (put k.0 ∙ ap (cond (eq_by_cmp text_cmp a k.0) None) (same k.0))
+    ∙ elim (eq_by_cmp text_cmp a k.0) as (λ b. eq_by_cmp text_cmp a k.0 ≡ b → shelf_at (cond b None (cond b (Some w) (tree.get text_cmp m k.0))) k.1 ≡ cond (eq_by_cmp key_cmp k (a, o)) None (held_at m k)) [
+      | true ↦ λ t.
+          let here : a ≡ k.0 = same_text a k.0 t in
+          nothing k.1 ∙ (ap (λ b. cond b None (held_at m (a, k.1))) (sym (tie a k.1 o))
+          ∙ ap (λ b. cond (eq_by_cmp key_cmp (b, k.1) (a, o)) None (held_at m (b, k.1))) here)
+      | false ↦ λ t. sym (ap (λ b. cond b None (held_at m k)) (apart k.0 a k.1 o ((eq_by_cmp_equiv nat_list_cmp_total).symm k.0 a ∙ t)))
+    ] refl
+  where
+    nothing : (p : List ℕ) → None ≡ cond (eq_by_cmp text_cmp p o) None (held_at m (a, p))
+    nothing p = elim (eq_by_cmp text_cmp p o) as (λ b. eq_by_cmp text_cmp p o ≡ b → None ≡ cond b None (held_at m (a, p))) [
+      | true ↦ λ _. refl
+      | false ↦ λ other. sym (ap (λ s. shelf_at s p) there ∙ alone p other)
+    ] refl
 
 -- another value at an original, or none
 pub shelved_put : (es fs : List (List ℕ × Kept)) (o : List ℕ) (v : Option Kept) (now : Shelved) → fmap.from_entries es ≡ now → ((q : List ℕ) → lookup (is_at (text_cmp q)) fs ≡ cond (is_at (text_cmp o) q) v (lookup (is_at (text_cmp q)) es)) → (p : List ℕ) → fmap.get (fmap.from_entries {R = text_cmp} fs) p ≡ cond (eq_by_cmp text_cmp p o) v (fmap.get now p)

@@ -2,10 +2,13 @@
 ghost use Rattle.std.specs.Prelude.{◌≡◌, ◌<◌, ◌≤◌, IfOk, IsErrOf, Some, length};
 ghost use Rattle.memento_time.specs.Mementos.{memento_cmp};
 ghost use Rattle.harvest_lattice.specs.Faults.{words_of};
+ghost use Rattle.harvest_lattice.specs.Knowledge.{key_of};
+ghost use Rattle.harvest_lattice.specs.Rows.{row_entry};
 ghost use Rattle.harvest_lattice.specs.Sets as set;
 
 use crate::entry::Entry;
 use crate::mementos::Mementos;
+use crate::row::Row;
 use memento_time::{ArchiveName, Memento, NoMemory, Original};
 use std::error::Error;
 use std::fmt;
@@ -120,6 +123,19 @@ impl Harvest {
         ensures { result.now ≡ record { revision = self.now.revision; mementos = self.now.mementos } }
     {
         &self.entry
+    }
+
+    // The one row of a state of this harvest alone.
+    pub(crate) fn row(&self) -> Result<Row, NoMemory>
+        ensures { IfOk result (λ row. row_entry row ≡ (key_of self.now, record { revision = self.now.revision; mementos = self.now.mementos })) }
+    {
+        let original = self.original.try_clone()?;
+        let entry = self.entry.try_clone()?;
+        Ok(Row {
+            archive: self.archive,
+            original,
+            entry,
+        })
     }
 
     /// The same harvest once more.

@@ -36,15 +36,6 @@ impl Model for Mementos {
 }
 
 impl Mementos {
-    /// The set of no mementos. Takes no memory.
-    pub fn new(alloc: Global) -> Mementos
-        ensures { result ≡ set.empty }
-    {
-        Mementos {
-            list: Vec::new(alloc),
-        }
-    }
-
     /// The set of these, which may come in any order and more than once. Takes no memory, and no more than one walk
     /// where they are in order already.
     pub fn of(mut mementos: Vec<Memento>) -> Mementos
@@ -81,13 +72,6 @@ impl Mementos {
         ensures { result ≡ length (set.items self.now) }
     {
         self.as_slice().len()
-    }
-
-    /// Whether there is none.
-    pub fn is_empty(&self) -> bool
-        ensures { IsTrue result ↔ (set.items self.now ≡ []) }
-    {
-        self.as_slice().is_empty()
     }
 
     /// In order.

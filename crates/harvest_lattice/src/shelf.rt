@@ -1,5 +1,5 @@
 // What a state has of one archive.
-ghost use Rattle.std.specs.Prelude.{◌≡◌, ◌&&◌, ℕ, List, cond, is_some, not, IfOk, OnOk, OnErr, option_copied, Some};
+ghost use Rattle.std.specs.Prelude.{◌≡◌, ◌<◌, ℕ, List, true, false, cond, is_some, IsSome, not, IfOk, OnOk, OnErr, option_copied, Some, None};
 ghost use Rattle.std.specs.FinMap as map;
 ghost use Rattle.std.specs.Ordering.{eq_by_cmp};
 ghost use Rattle.memento_time.specs.Mementos.{text_cmp};
@@ -13,13 +13,15 @@ use std::alloc::Global;
 use std::collections::btree_map::{BTreeMap, Iter};
 use std::marker::Model;
 
+// The entries of an archive that has some, by original.
 #[derive(Debug, Drop)]
 pub struct Shelf {
     entries: BTreeMap<Original, Entry>,
 }
 
 impl Model for Shelf {
-    ghost use Rattle.std.specs.BTreeMap.{IsOrdered};
+    ghost use Rattle.std.specs.Prelude.{◌<◌};
+    ghost use Rattle.std.specs.BTreeMap.{IsOrdered, btree_map_len};
     ghost use Rattle.std.specs.FinMap as map;
     ghost use Rattle.memento_time.specs.Mementos.{text_cmp};
     ghost use Rattle.harvest_lattice.specs.Shelves.{Shelved, coded_shelved};
@@ -30,7 +32,7 @@ impl Model for Shelf {
 
     ghost view = { λ s. map.from_entries s.entries.entries };
 
-    ghost invariant = { λ s. IsOrdered text_cmp s.entries };
+    ghost invariant = { λ s. IsOrdered text_cmp s.entries × (0 < btree_map_len s.entries) };
 }
 
 impl Shelf {
@@ -68,21 +70,27 @@ impl Shelf {
         }
     }
 
-    // Puts back what stood before an entry was joined, and tells whether that one is gone.
-    pub fn put_back(&mut self, original: &Original, before: Option<Entry>) -> bool
-        ensures after { (o : List ℕ)
-            → map.get self.new o ≡ cond (eq_by_cmp text_cmp o original.now) (put_back before (map.get self.old o)) (map.get self.old o) }
-        ensures gone { result ≡ (not (is_some before) && is_some (map.get self.old original.now)) }
+    // Whether an original has the only entry.
+    pub fn has_only(&self, original: &Original) -> bool
+        ensures there { result ≡ true → IsSome (map.get self.now original.now) }
+        ensures alone { result ≡ true → (o : List ℕ) → eq_by_cmp text_cmp o original.now ≡ false → map.get self.now o ≡ None }
+        ensures others { result ≡ false → IsSome (map.get self.now original.now) → 1 < map.len self.now }
     {
-        let Some(before) = before else {
-            return self.entries.remove(original).is_some();
-        };
-        self.replace(original, before);
-        false
+        self.entries.len() == 1 && self.entries.contains_key(original)
+    }
+
+    // Takes out the entry of an original, which isn't the only one, and tells whether there was one.
+    pub fn remove(&mut self, original: &Original) -> bool
+        requires others { IsSome (map.get self.old original.now) → 1 < map.len self.old }
+        ensures after { (o : List ℕ)
+            → map.get self.new o ≡ cond (eq_by_cmp text_cmp o original.now) None (map.get self.old o) }
+        ensures gone { result ≡ is_some (map.get self.old original.now) }
+    {
+        self.entries.remove(original).is_some()
     }
 
     // Puts an entry in the place of one that stands.
-    fn replace(&mut self, original: &Original, entry: Entry)
+    pub fn replace(&mut self, original: &Original, entry: Entry)
         ensures { (o : List ℕ)
             → map.get self.new o ≡ cond (eq_by_cmp text_cmp o original.now) (put_back (Some entry) (map.get self.old o)) (map.get self.old o) }
     {

@@ -1,5 +1,5 @@
 // What a state has, archive by archive.
-ghost use Rattle.std.specs.Prelude.{◌≡◌, ◌&&◌, cond, is_some, not, IfOk, OnOk, OnErr, option_copied, Some};
+ghost use Rattle.std.specs.Prelude.{◌≡◌, ◌&&◌, cond, is_some, not, IfOk, OnOk, OnErr, option_copied, Some, None};
 ghost use Rattle.std.specs.BTreeMap.{IsOrdered};
 ghost use Rattle.std.specs.Ordering.{eq_by_cmp};
 ghost use Rattle.memento_time.specs.Mementos.{text_cmp};
@@ -66,8 +66,39 @@ pub fn restore(shelves: &mut Shelves, backup: Backup) -> bool
         original,
         entry,
     } = backup;
-    match shelves.get_mut(&archive) {
-        Some(shelf) => shelf.put_back(&original, entry),
-        None => false,
+    let Some(entry) = entry else {
+        return remove(shelves, archive, &original);
+    };
+    replace(shelves, archive, &original, entry);
+    false
+}
+
+// Takes out what is held at a key, with the last entry of an archive its shelf, and tells whether something was held.
+fn remove(shelves: &mut Shelves, archive: ArchiveName, original: &Original) -> bool
+    requires { IsOrdered text_cmp shelves.old }
+    ensures after { (k : Key)
+        → held_at shelves.new k ≡ cond (eq_by_cmp key_cmp k (archive, original.now)) None (held_at shelves.old k) }
+    ensures gone { result ≡ is_some (held_at shelves.old (archive, original.now)) }
+    ensures ordered { IsOrdered text_cmp shelves.new }
+{
+    let Some(shelf) = shelves.get_mut(&archive) else {
+        return false;
+    };
+    if !shelf.has_only(original) {
+        return shelf.remove(original);
     }
+    shelves.remove(&archive).is_some()
+}
+
+// Puts an entry in the place of one that is held.
+fn replace(shelves: &mut Shelves, archive: ArchiveName, original: &Original, entry: Entry)
+    requires { IsOrdered text_cmp shelves.old }
+    ensures after { (k : Key)
+        → held_at shelves.new k ≡ cond (eq_by_cmp key_cmp k (archive, original.now)) (put_back (Some entry) (held_at shelves.old k)) (held_at shelves.old k) }
+    ensures ordered { IsOrdered text_cmp shelves.new }
+{
+    let Some(shelf) = shelves.get_mut(&archive) else {
+        return;
+    };
+    shelf.replace(original, entry);
 }

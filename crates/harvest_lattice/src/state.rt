@@ -24,7 +24,8 @@ use std::marker::Model;
 
 /// For each archive and original the latest revision, with its mementos.
 ///
-/// Where memory is refused, nothing has changed.
+/// Where memory is refused, nothing has changed: what a call had begun is taken out again, and a state holds its
+/// entries and nothing else.
 #[derive(Debug, Drop)]
 pub struct State {
     alloc: Global,
@@ -82,10 +83,8 @@ impl State {
         ensures ok { OnOk result (self.new ≡ join self.old (lat (harvest.now ∷ []))) }
         ensures err { OnErr result (self.new ≡ self.old) }
     {
-        match self.news(harvest.archive(), harvest.original(), harvest.entry())? {
-            Some(row) => self.join_row(row),
-            None => Ok(()),
-        }
+        let row = harvest.row()?;
+        self.join_row(row)
     }
 
     /// Takes all that another state has. What stands here alone isn't touched.

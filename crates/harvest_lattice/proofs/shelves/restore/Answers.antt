@@ -1,33 +1,22 @@
-use Rattle.std.proofs.Common.{◌≡◌, cond, true, false, Option, Some, None, refl, sym, ap, ◌∙◌}
-use Rattle.std.specs.Option.{option_copied_mut}
-use Rattle.std.specs.BTreeMap as tree
+use Rattle.std.proofs.Common.{◌≡◌, ◌&&◌, not, is_some, cond, Option, sym, ap, ◌∙◌}
 use Rattle.std.specs.Ordering.{eq_by_cmp}
-use Rattle.memento_time.specs.Mementos.{text_cmp}
-use Rattle.harvest_lattice.specs.Lattice.{Key, key_cmp, Kept}
-use Rattle.harvest_lattice.specs.Rows.{put_back}
-use Rattle.harvest_lattice.specs.Shelves.{Shelves, shelf_at, held_at}
-use Rattle.harvest_lattice.proofs.Knowledge.{same_key}
-use Rattle.harvest_lattice.proofs.ShelfLemmas.{one_at_key, put_back_none, is_some_is}
+use Rattle.harvest_lattice.specs.Lattice.{key_cmp, Kept}
+use Rattle.harvest_lattice.specs.Rows.{backup_key, put_back}
+use Rattle.harvest_lattice.specs.Shelves.{held_at}
 use Rattle.harvest_lattice.proofs.shelves.restore.Goals as goal
 
-pub returns-in-Some-clause-after : goal.returns-in-Some-clause-after
-returns-in-Some-clause-after c =
+pub returns-in_default-clause-after : goal.returns-in_default-clause-after
+returns-in_default-clause-after c k =
     let m = c.args.shelves.now in
-    let a = c.args.backup.archive in
-    let o = c.args.backup.original in
-    let w = c.put_back.new.self in
-    let there : tree.get text_cmp m a ≡ Some c.in-Some.shelf.now = sym c.get_mut.ensures.value ∙ ap option_copied_mut c.in-Some.is in
-    one_at_key m (c.get_mut.follows.lender w) a o w (put_back c.args.backup.entry)
-    ((c.get_mut.follows.holds w).3 (is_some_is (tree.get text_cmp m a) c.in-Some.shelf.now there)).0
-    (λ p. c.put_back.ensures.after p ∙ (λ i. cond (eq_by_cmp text_cmp p o) (put_back c.args.backup.entry (shelf_at (sym there i) p)) (shelf_at (sym there i) p)))
+    c.remove.ensures.after k ∙ ap (λ b. cond (eq_by_cmp key_cmp k (backup_key c.args.backup)) (put_back b (held_at m k)) (held_at m k)) (sym c.in_default.is)
+
+pub returns-in_default-clause-gone : goal.returns-in_default-clause-gone
+returns-in_default-clause-gone c = c.remove.ensures.gone ∙ ap (λ (b : Option Kept). not (is_some b) && is_some (held_at c.args.shelves.now (backup_key c.args.backup))) (sym c.in_default.is)
 
 pub returns-clause-after : goal.returns-clause-after
 returns-clause-after c k =
     let m = c.args.shelves.now in
-    let key : Key = (c.args.backup.archive, c.args.backup.original) in
-    let none : held_at m key ≡ None = ap (λ s. shelf_at s c.args.backup.original) (sym c.get_mut.ensures.value ∙ ap option_copied_mut c.in-None.is) in
-    ap (λ (l : Shelves). held_at l k) c.get_mut.follows.holds-at-none
-    ∙ elim (eq_by_cmp key_cmp k key) as (λ b. eq_by_cmp key_cmp k key ≡ b → held_at m k ≡ cond b (put_back c.args.backup.entry (held_at m k)) (held_at m k)) [
-      | true ↦ λ t. let gone : held_at m k ≡ None = ap (held_at m) (same_key k key t) ∙ none in gone ∙ sym (ap (put_back c.args.backup.entry) gone ∙ put_back_none c.args.backup.entry)
-      | false ↦ λ _. refl
-    ] refl
+    c.replace.ensures.after k ∙ ap (λ b. cond (eq_by_cmp key_cmp k (backup_key c.args.backup)) (put_back b (held_at m k)) (held_at m k)) (sym c.in-Some.is)
+
+pub returns-clause-gone : goal.returns-clause-gone
+returns-clause-gone c = ap (λ (b : Option Kept). not (is_some b) && is_some (held_at c.args.shelves.now (backup_key c.args.backup))) (sym c.in-Some.is)

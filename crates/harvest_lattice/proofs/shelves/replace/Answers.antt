@@ -1,0 +1,34 @@
+use Rattle.std.proofs.Common.{◌≡◌, cond, true, false, Option, Some, None, refl, sym, ap, ◌∙◌}
+use Rattle.std.specs.Option.{option_copied_mut}
+use Rattle.std.specs.BTreeMap as tree
+use Rattle.std.specs.Ordering.{eq_by_cmp}
+use Rattle.memento_time.specs.Mementos.{text_cmp}
+use Rattle.harvest_lattice.specs.Lattice.{Key, key_cmp, Kept}
+use Rattle.harvest_lattice.specs.Rows.{put_back}
+use Rattle.harvest_lattice.specs.Shelves.{Shelves, shelf_at, held_at}
+use Rattle.harvest_lattice.proofs.Knowledge.{same_key}
+use Rattle.harvest_lattice.proofs.ShelfLemmas.{one_at_key, put_back_none, is_some_is}
+use Rattle.harvest_lattice.proofs.shelves.replace.Goals as goal
+
+pub returns-clause-after : goal.returns-clause-after
+returns-clause-after c =
+    let m = c.args.shelves.now in
+    let a = c.args.archive in
+    let o = c.args.original.now in
+    let w = c.replace.new.self in
+    let there : tree.get text_cmp m a ≡ Some c.in-Some.shelf.now = sym c.get_mut.ensures.value ∙ ap option_copied_mut c.in-Some.is in
+    one_at_key m (c.get_mut.follows.lender w) a o w (put_back (Some c.args.entry))
+    ((c.get_mut.follows.holds w).3 (is_some_is (tree.get text_cmp m a) c.in-Some.shelf.now there)).0
+    (λ p. c.replace.ensures p ∙ (λ i. cond (eq_by_cmp text_cmp p o) (put_back (Some c.args.entry) (shelf_at (sym there i) p)) (shelf_at (sym there i) p)))
+
+pub returns-in_default-clause-after : goal.returns-in_default-clause-after
+returns-in_default-clause-after c k =
+    let m = c.args.shelves.now in
+    let v : Option Kept = Some c.args.entry in
+    let key : Key = (c.args.archive, c.args.original.now) in
+    let none : held_at m key ≡ None = ap (λ s. shelf_at s c.args.original.now) (sym c.get_mut.ensures.value ∙ ap option_copied_mut c.in_default.is) in
+    ap (λ (l : Shelves). held_at l k) c.get_mut.follows.holds-at-none
+    ∙ elim (eq_by_cmp key_cmp k key) as (λ b. eq_by_cmp key_cmp k key ≡ b → held_at m k ≡ cond b (put_back v (held_at m k)) (held_at m k)) [
+      | true ↦ λ t. let gone : held_at m k ≡ None = ap (held_at m) (same_key k key t) ∙ none in gone ∙ sym (ap (put_back v) gone ∙ put_back_none v)
+      | false ↦ λ _. refl
+    ] refl
