@@ -37,4 +37,4 @@ returns-clause-members c =
     let whole : c.split_off.new.self.items ++ reverse c.reverse.new.self.items ≡ c.args.list.now.items =
     (λ i. c.in_ok-lifted.ensures.items i ++ back i) ∙ (take-append-drop at c.reserve.new.self.items ∙ c.in_ok-reserve.ensures.items) in
     united_is c.merge.new.list.items c.args.list.now.items c.args.added.items (λ m.
-        c.merge.ensures.members m ∙ ap (λ (xs : List Memento). list_any (eq_by_cmp memento_cmp m) xs || list_any (eq_by_cmp memento_cmp m) c.args.added.items) whole)
+    c.merge.ensures.members m ∙ ap (λ (xs : List Memento). list_any (eq_by_cmp memento_cmp m) xs || list_any (eq_by_cmp memento_cmp m) c.args.added.items) whole)

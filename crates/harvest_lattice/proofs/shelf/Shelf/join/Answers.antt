@@ -36,8 +36,8 @@ returns-in_err-join-in-Some-clause-err c =
     let there : tree.get text_cmp c.self.inside.entries o ≡ Some c.in-Some.standing.now = sym c.get_mut.ensures.value ∙ ap option_copied_mut c.in-Some.is in
     let read : map.get x o ≡ Some w = ap (λ (s : Shelved). map.get s o) (sym c.self.view_is) ∙ (get-shelved c.self.inside.entries.entries o ∙ (there ∙ ap (λ (k : Kept). Some k) (sym c.in_err-join-in-Some.ensures.err))) in
     on_err c.from_residual.result (map.same_map nat_list_cmp_total text_exact _ _ (λ p.
-        shelved_put c.self.inside.entries.entries (c.get_mut.follows.lender w).entries o (Some w) x c.self.view_is ((c.get_mut.follows.holds w).3 (is_some_is (tree.get text_cmp c.self.inside.entries o) c.in-Some.standing.now there)).0 p
-        ∙ sym (unchanged_at (λ q. map.get x q) o (Some w) read p)))
+    shelved_put c.self.inside.entries.entries (c.get_mut.follows.lender w).entries o (Some w) x c.self.view_is ((c.get_mut.follows.holds w).3 (is_some_is (tree.get text_cmp c.self.inside.entries o) c.in-Some.standing.now there)).0 p
+    ∙ sym (unchanged_at (λ q. map.get x q) o (Some w) read p)))
 
 pub returns-in_ok-insert-in-None-clause-after : goal.returns-in_ok-insert-in-None-clause-after
 returns-in_ok-insert-in-None-clause-after c p =
