@@ -1,14 +1,13 @@
 -- What is news to a state, entry by entry.
-use Rattle.std.proofs.Common.{◌≡◌, ℕ, ◌≤◌, ◌<◌, Bool, true, false, not, cond, eqb, ◌&&◌, ◌||◌, max, ◌++◌, map, List, [], ◌∷◌, Option, Some, None, IfSome, inl, inr, refl, sym, ap, subst, ◌∙◌, append_assoc, append-nil, arith}
+use Rattle.std.proofs.Common.{◌≡◌, ℕ, ◌<◌, Bool, true, false, not, cond, eqb, ◌&&◌, ◌||◌, max, ◌++◌, map, List, [], ◌∷◌, Option, Some, None, IfSome, inl, inr, refl, sym, ap, subst, ◌∙◌, append_assoc, append-nil, arith}
 use Rattle.std.specs.Prelude.{T}
-use Rattle.std.specs.declared.cmp.Ordering.{Ordering}
-use Rattle.std.specs.List.{list_any, filter, AllByRecursion}
+use Rattle.std.specs.List.{filter, AllByRecursion}
 use Rattle.std.specs.Option.{MatchOption}
 use Rattle.std.specs.Ordering.{eq_by_cmp, is_lt}
-use Rattle.std.specs.Cmp.{IsTotalOrder, Equal-is}
+use Rattle.std.specs.Cmp.{Equal-is}
 use Rattle.std.specs.FinMap as fmap
 use Rattle.std.specs.FinMap.Entries.{below_all}
-use Rattle.std.proofs.lemmas.Bool.{true≢false, and_parts, and_from, eqb-true, eq-eqb}
+use Rattle.std.proofs.lemmas.Bool.{true≢false, eq-eqb}
 use Rattle.std.proofs.lemmas.Bool.Decides.{nat_tests}
 use Rattle.std.proofs.lemmas.Map.Views.{any-filter_same}
 use Rattle.memento_time.specs.Mementos.{memento_cmp}
@@ -20,8 +19,8 @@ use Rattle.harvest_lattice.specs.Sets as set
 use Rattle.harvest_lattice.specs.Lattice.{Key, key_cmp, Kept, KeptAtMost, Mementos, Entries, IsAtMostAt, join_kept, join, joined_kept}
 use Rattle.harvest_lattice.specs.Knowledge.{Harvested, key_of, lat}
 use Rattle.harvest_lattice.specs.News.{AreApart, IsFresh, IsNews, news_at, IsNoted}
-use Rattle.harvest_lattice.specs.Rows.{row_entry, lent_entry}
-use Rattle.harvest_lattice.proofs.Sets.{contains-from_list, contains-union, contains-empty, two_parts, both_parts}
+use Rattle.harvest_lattice.specs.Rows.{row_entry}
+use Rattle.harvest_lattice.proofs.Sets.{contains-from_list, contains-union, two_parts, both_parts}
 use Rattle.harvest_lattice.proofs.Entries.{same_mementos, same_kept, revision-join_kept, contains-join_kept, key_cmp_total, key_cmp_exact, get-join, join_from_at_most, entry_semilattice}
 use Rattle.harvest_lattice.proofs.Knowledge.{single, get-lat_one, same_key, below_none}
 use Rattle.harvest_lattice.proofs.RowLemmas.{without_sorted, get-joined}

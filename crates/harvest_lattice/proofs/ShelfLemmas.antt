@@ -25,7 +25,7 @@ use Rattle.harvest_lattice.specs.Rows.{put_back}
 use Rattle.harvest_lattice.specs.Shelves.{Shelved, Shelves, shelf_at, held_at, shelf_rows, all_rows, entries_of}
 use Rattle.harvest_lattice.proofs.Entries.{key_cmp_total, key_cmp_exact}
 use Rattle.harvest_lattice.proofs.Rising.{from_keys}
-use Rattle.harvest_lattice.proofs.Sets.{less_from, two_parts, both_parts}
+use Rattle.harvest_lattice.proofs.Sets.{two_parts, both_parts}
 
 pub text_exact : (a b : List ℕ) → text_cmp a b ≡ Equal → a ≡ b
 text_exact a b e = slice_cmp-IsAntisymmetric nat_cmp-IsAntisymmetric a b e

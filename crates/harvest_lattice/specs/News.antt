@@ -3,8 +3,7 @@ use Rattle.std.specs.Prelude.{◌≡◌, ◌⊎◌, ◌++◌, ◌==◌, true, co
 use Rattle.std.specs.FinMap as fmap
 use Rattle.harvest_lattice.specs.Sets as set
 use Rattle.std.specs.Option.{MatchOption}
-use Rattle.harvest_lattice.specs.Maps.{join_values}
-use Rattle.harvest_lattice.specs.Lattice.{Mementos, Key, Kept, Entries, IsAtMostAt, join_kept, join}
+use Rattle.harvest_lattice.specs.Lattice.{Mementos, Key, Kept, Entries, IsAtMostAt, join}
 use Rattle.harvest_lattice.specs.Rows.{row_entry}
 use Rattle.harvest_lattice.specs.declared.row.Row.{Row}
 

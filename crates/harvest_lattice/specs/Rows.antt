@@ -1,5 +1,5 @@
 -- Rows as the entries of a state.
-use Rattle.std.specs.Prelude.{◌≡◌, ℕ, Bool, cond, T, List, [], ◌∷◌, map, Option, Some, None, IsSome}
+use Rattle.std.specs.Prelude.{◌≡◌, ℕ, Bool, cond, T, List, map, Option, Some, None, IsSome}
 use Rattle.std.specs.Option.{option_map}
 use Rattle.std.specs.Borrow.{Bor}
 use Rattle.std.specs.FinMap as fmap

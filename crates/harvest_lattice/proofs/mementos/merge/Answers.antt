@@ -2,10 +2,10 @@ use Rattle.std.proofs.Common.{◌≡◌, ◌++◌, ◌∷◌, [], ◌||◌, List
 use Rattle.std.specs.List.{list_any}
 use Rattle.std.specs.List.Sorted.{IsStrictlySortedBy}
 use Rattle.std.specs.Ordering.{eq_by_cmp}
-use Rattle.std.specs.Vec.Iter.{into_iter_items, into_iter_len}
+use Rattle.std.specs.Vec.Iter.{into_iter_items}
 use Rattle.memento_time.specs.Mementos.{memento_cmp}
 use Rattle.memento_time.specs.declared.mementos.Memento.{Memento}
-use Rattle.harvest_lattice.proofs.UnitedLemmas.{up_to, back_in_order, chained, any_next, any_none, no_items}
+use Rattle.harvest_lattice.proofs.UnitedLemmas.{up_to, back_in_order, chained, any_next}
 use Rattle.harvest_lattice.proofs.mementos.merge.Goals as goal
 
 pub pass-requires-clause-below : goal.pass-requires-clause-below

@@ -1,10 +1,10 @@
-use Rattle.std.proofs.Common.{◌≡◌, cond, ℕ, List, Option, Some, None, sym, ap, ◌∙◌}
+use Rattle.std.proofs.Common.{◌≡◌, cond, Some, None, sym, ap, ◌∙◌}
 use Rattle.std.specs.Option.{option_copied_mut}
 use Rattle.std.specs.BTreeMap as tree
 use Rattle.std.specs.FinMap as map
 use Rattle.std.specs.Ordering.{eq_by_cmp}
 use Rattle.memento_time.specs.Mementos.{text_cmp}
-use Rattle.harvest_lattice.specs.Lattice.{Kept, join_kept}
+use Rattle.harvest_lattice.specs.Lattice.{join_kept}
 use Rattle.harvest_lattice.specs.Maps.{join_values}
 use Rattle.harvest_lattice.specs.Shelves.{Shelved, Shelves, shelf_at, held_at}
 use Rattle.harvest_lattice.proofs.ShelfLemmas.{one_key, no_key, shelved_one, is_some_is, on_ok, on_err_too}

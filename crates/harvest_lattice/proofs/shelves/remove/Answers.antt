@@ -1,9 +1,9 @@
-use Rattle.std.proofs.Common.{◌≡◌, cond, true, false, Option, Some, None, is_some, refl, sym, ap, ◌∙◌}
+use Rattle.std.proofs.Common.{◌≡◌, cond, true, false, Some, None, is_some, refl, sym, ap, ◌∙◌}
 use Rattle.std.specs.Option.{option_copied_mut}
 use Rattle.std.specs.BTreeMap as tree
 use Rattle.std.specs.Ordering.{eq_by_cmp}
 use Rattle.memento_time.specs.Mementos.{text_cmp}
-use Rattle.harvest_lattice.specs.Lattice.{Key, key_cmp, Kept}
+use Rattle.harvest_lattice.specs.Lattice.{Key, key_cmp}
 use Rattle.harvest_lattice.specs.Shelves.{Shelves, shelf_at, held_at}
 use Rattle.harvest_lattice.proofs.Knowledge.{same_key}
 use Rattle.harvest_lattice.proofs.ShelfLemmas.{one_key, shelf_removed, is_some_is}

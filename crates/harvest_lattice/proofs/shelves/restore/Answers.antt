@@ -1,4 +1,4 @@
-use Rattle.std.proofs.Common.{◌≡◌, ◌&&◌, not, is_some, cond, Option, sym, ap, ◌∙◌}
+use Rattle.std.proofs.Common.{◌&&◌, not, is_some, cond, Option, sym, ap, ◌∙◌}
 use Rattle.std.specs.Ordering.{eq_by_cmp}
 use Rattle.harvest_lattice.specs.Lattice.{key_cmp, Kept}
 use Rattle.harvest_lattice.specs.Rows.{backup_key, put_back}

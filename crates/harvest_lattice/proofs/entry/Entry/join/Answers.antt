@@ -1,8 +1,8 @@
-use Rattle.std.proofs.Common.{◌≡◌, ◌<◌, OnOk, OnErr, Result, Ok, Err, sym, ap, subst, ◌∙◌, arith}
+use Rattle.std.proofs.Common.{◌≡◌, ◌<◌, OnOk, OnErr, Result, Ok, Err, sym, ap, ◌∙◌, arith}
 use Rattle.std.specs.declared.cmp.Ordering.TheVariants.{Less, Equal, Greater}
 use Rattle.std.proofs.lemmas.Cmp.{ranked}
 use Rattle.harvest_lattice.specs.Sets as set
-use Rattle.harvest_lattice.specs.Lattice.{Kept, join_kept}
+use Rattle.harvest_lattice.specs.Lattice.{Kept}
 use Rattle.harvest_lattice.proofs.NewsLemmas.{join_same, join_later, join_earlier}
 use Rattle.harvest_lattice.proofs.entry.Entry.join.Goals as goal
 

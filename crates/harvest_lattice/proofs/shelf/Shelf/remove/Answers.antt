@@ -1,8 +1,5 @@
-use Rattle.std.proofs.Common.{◌≡◌, ◌<◌, Option, None, IsSome, is_some, sym, ap, subst, ◌∙◌, arith}
-use Rattle.std.specs.BTreeMap as tree
+use Rattle.std.proofs.Common.{◌≡◌, None, IsSome, is_some, sym, ap, subst, ◌∙◌, arith}
 use Rattle.std.specs.FinMap as map
-use Rattle.memento_time.specs.Mementos.{text_cmp}
-use Rattle.harvest_lattice.specs.Lattice.{Kept}
 use Rattle.harvest_lattice.specs.Shelves.{Shelved}
 use Rattle.harvest_lattice.proofs.ShelfLemmas.{get-shelved, shelved_put, len_shelved, still_some}
 use Rattle.harvest_lattice.proofs.shelf.Shelf.remove.Goals as goal

@@ -3,7 +3,6 @@ use Rattle.std.specs.Option.{option_copied_mut}
 use Rattle.std.specs.BTreeMap as tree
 use Rattle.std.specs.FinMap as map
 use Rattle.memento_time.specs.Mementos.{text_cmp}
-use Rattle.harvest_lattice.specs.Lattice.{Kept}
 use Rattle.harvest_lattice.specs.Shelves.{Shelved}
 use Rattle.harvest_lattice.proofs.ShelfLemmas.{get-shelved, shelved_put, replaced_some, replaced_none, is_some_is}
 use Rattle.harvest_lattice.proofs.shelf.Shelf.replace.Goals as goal

@@ -3,7 +3,6 @@ use Rattle.harvest_lattice.specs.declared.row.Row.{Row}
 use Rattle.harvest_lattice.specs.Lattice.{Key, Kept, Entries}
 use Rattle.harvest_lattice.specs.Knowledge.{key_of, lat}
 use Rattle.harvest_lattice.specs.News.{IsNoted, IsNews}
-use Rattle.harvest_lattice.specs.Rows.{row_entry}
 use Rattle.harvest_lattice.proofs.Knowledge.{single}
 use Rattle.harvest_lattice.proofs.NewsLemmas.{one_under_way, turned, noted_all}
 use Rattle.harvest_lattice.proofs.state.State.changes_by.Goals as goal

@@ -1,8 +1,7 @@
-use Rattle.std.proofs.Common.{◌≡◌, ◌+◌, Bool, true, false, not, cond, is_some, ap, sym, ◌∙◌, arith}
+use Rattle.std.proofs.Common.{true, false, ap, sym, ◌∙◌, arith}
 use Rattle.std.specs.FinMap as fmap
-use Rattle.harvest_lattice.specs.Lattice.{Key, Kept, Entries, joined_kept}
+use Rattle.harvest_lattice.specs.Lattice.{Entries, joined_kept}
 use Rattle.harvest_lattice.specs.Rows.{row_key, row_entry}
-use Rattle.harvest_lattice.specs.Shelves.{entries_of}
 use Rattle.harvest_lattice.proofs.ShelfLemmas.{same_entries, on_err, row_joined, row_counted}
 use Rattle.harvest_lattice.proofs.state.State.join_row.Goals as goal
 

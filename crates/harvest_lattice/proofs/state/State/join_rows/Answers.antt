@@ -1,8 +1,7 @@
-use Rattle.std.proofs.Common.{◌≡◌, [], ◌∷◌, List, length, map, sym, ap, subst, ◌∙◌, arith}
-use Rattle.std.specs.FinMap as fmap
-use Rattle.std.specs.Vec.Iter.{into_iter_items, into_iter_len}
+use Rattle.std.proofs.Common.{◌≡◌, [], ◌∷◌, List, length, map, sym, ap, subst, arith}
+use Rattle.std.specs.Vec.Iter.{into_iter_items}
 use Rattle.harvest_lattice.specs.declared.row.Row.{Row}
-use Rattle.harvest_lattice.specs.Lattice.{Key, Kept, Entries}
+use Rattle.harvest_lattice.specs.Lattice.{Entries}
 use Rattle.harvest_lattice.specs.Rows.{row_entry}
 use Rattle.harvest_lattice.proofs.RowLemmas.{IsJoining, joined_one, joined_none_left}
 use Rattle.harvest_lattice.proofs.UnitedLemmas.{no_items}

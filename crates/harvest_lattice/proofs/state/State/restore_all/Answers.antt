@@ -1,4 +1,4 @@
-use Rattle.std.proofs.Common.{◌≡◌, [], ◌∷◌, ◌++◌, List, Option, map, sym, ap, subst, ◌∙◌, arith}
+use Rattle.std.proofs.Common.{◌≡◌, [], ◌∷◌, ◌++◌, List, Option, map, ap, subst, ◌∙◌, arith}
 use Rattle.harvest_lattice.specs.declared.backup.Backup.{Backup}
 use Rattle.harvest_lattice.specs.Lattice.{Key, Kept}
 use Rattle.harvest_lattice.specs.Rows.{backup_entry, IsBackedUp}
