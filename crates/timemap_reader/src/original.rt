@@ -8,7 +8,8 @@ use memento_time::{CleanFault, Original};
 use std::alloc::{AllocError, Global};
 use std::error::Error;
 use std::fmt;
-use url::{ParseError, Position, Url};
+use url::Position;
+use url_texts::read_url;
 
 /// Why a text names no original.
 #[derive(Clone, Copy, Debug, PartialEq, Eq)]
@@ -87,10 +88,8 @@ pub fn read_original(alloc: Global, text: &str) -> Result<Original, OriginalFaul
     if text.len() > Original::MAX_LEN {
         return Err(OriginalFault::TooLong);
     }
-    let url = match Url::parse(alloc, text) {
-        Ok(url) => url,
-        Err(ParseError::OutOfMemory | ParseError::Overflow) => return Err(OriginalFault::NoMemory),
-        Err(_) => return Err(OriginalFault::NotUrl),
+    let Some(url) = read_url(alloc, text)? else {
+        return Err(OriginalFault::NotUrl);
     };
     if !is_http(&url) {
         return Err(OriginalFault::NotHttp);
