@@ -51,16 +51,19 @@ fn sample_is_read(rt: HostRuntime) -> Result<(), Fail> {
     assert_eq!(rt; settings.base.base(), b"http://127.0.0.1:8080".as_slice());
     assert_eq!(rt; settings.gates.len(), 2);
     assert_eq!(rt; settings.workers, 4);
+    let Some(original) = settings.originals.first() else {
+        return Err("no originals".into());
+    };
+    assert_eq!(rt; original.as_bytes(), b"http://a.example/".as_slice());
+    let Some(peer) = settings.peers.first() else {
+        return Err("no peers".into());
+    };
+    assert_eq!(rt; peer.as_bytes(), b"http://127.0.0.1:9080".as_slice());
+    let Some(archive) = settings.archives.first() else {
+        return Err("no archives".into());
+    };
     assert_eq!(rt;
-        settings.originals[0].as_bytes(),
-        b"http://a.example/".as_slice()
-    );
-    assert_eq!(rt;
-        settings.peers[0].as_bytes(),
-        b"http://127.0.0.1:9080".as_slice()
-    );
-    assert_eq!(rt;
-        settings.archives[0].1.as_bytes(),
+        archive.1.as_bytes(),
         b"http://127.0.0.1:8100/timemap/link/".as_slice()
     );
     Ok(())
