@@ -1,15 +1,13 @@
 //! The gates of a service, each in a thread that binds and serves it.
+use crate::runtimes::SocketRuntime;
 use crate::serve::ServeFault;
 use crate::settings::Settings;
 use crossbeam_channel::{Receiver, Sender, bounded};
 use hyper_edge::{GateService, bind, serve_gate};
 use published_index::Gate;
 use std::alloc::{AllocGlobal, Global};
-use std::net::{Net, TcpListener, TcpStream};
-use std::random::RandomSource;
 use std::sync::Wait;
 use std::thread::{self, JoinHandle, Threads};
-use std::time::Clock;
 
 /// How a gate's thread ends.
 type Ending = Result<(), ServeFault>;
@@ -72,17 +70,7 @@ pub(crate) fn open_doors<R>(
     gates: Vec<Gate>,
 ) -> Result<Doors, ServeFault>
 where
-    R: Threads
-        + Wait
-        + Clock
-        + Net<Listener = TcpListener, Stream = TcpStream>
-        + RandomSource
-        + AllocGlobal
-        + Sync
-        + Send
-        + Clone
-        + Drop
-        + 'static,
+    R: SocketRuntime + Threads + Sync + Send + Clone + Drop + 'static,
 {
     let alloc = rt.alloc();
     let mut doors = Vec::with_capacity(alloc, gates.len())?;
@@ -99,17 +87,7 @@ where
 // Starts a gate's thread.
 fn open_door<R>(rt: &R, gate: Gate, address: &str, connections: u64) -> Result<Door, ServeFault>
 where
-    R: Threads
-        + Wait
-        + Clock
-        + Net<Listener = TcpListener, Stream = TcpStream>
-        + RandomSource
-        + AllocGlobal
-        + Sync
-        + Send
-        + Clone
-        + Drop
-        + 'static,
+    R: SocketRuntime + Threads + Sync + Send + Clone + Drop + 'static,
 {
     let alloc = rt.alloc();
     let own = rt.clone()?;
@@ -136,13 +114,7 @@ where
 // What a gate's thread does: it binds, says so, and serves once it is told to.
 fn keep<R>(rt: &R, post: Post) -> Ending
 where
-    R: Wait
-        + Clock
-        + Net<Listener = TcpListener, Stream = TcpStream>
-        + RandomSource
-        + AllocGlobal
-        + Clone
-        + Drop,
+    R: SocketRuntime + Clone + Drop,
 {
     let Post {
         alloc,

@@ -7,6 +7,7 @@ mod check;
 mod failure;
 mod gates;
 mod rounds;
+mod runtimes;
 mod serve;
 mod settings;
 mod words;

@@ -3,17 +3,15 @@ ghost use Rattle.std.specs.Prelude.{◌≡◌, ◌≤◌, ◌++◌, All, IfSome,
 ghost use Rattle.harvester.specs.Answers.{HasFirstUrl};
 ghost use Rattle.aggregator.specs.Lines.{round_words};
 
+use crate::runtimes::SocketRuntime;
 use crate::settings::Settings;
 use harvester::{Job, Outcome, have_first_urls, run_round};
 use hyper_edge::{HyperFetch, pull_state};
 use memento_index::Merge;
 use memento_time::{ArchiveName, Clean, Original};
 use published_index::Merger;
-use std::alloc::{AllocGlobal, Global};
+use std::alloc::Global;
 use std::fmt;
-use std::net::{Net, TcpListener, TcpStream};
-use std::random::RandomSource;
-use std::sync::Wait;
 use std::thread::{self, Threads};
 use std::time::{Clock, Duration, SystemTime, UNIX_EPOCH};
 
@@ -49,13 +47,7 @@ impl Round {
     /// Makes a round. What is refused for memory isn't appended and isn't counted.
     pub(crate) fn make<R>(rt: &R, settings: &Settings, merger: &mut Merger) -> Round
     where
-        R: Threads
-            + Wait
-            + Clock
-            + Net<Listener = TcpListener, Stream = TcpStream>
-            + RandomSource
-            + AllocGlobal
-            + Sync,
+        R: SocketRuntime + Threads + Sync,
     {
         let mut round = Round {
             jobs: 0,
@@ -85,13 +77,7 @@ impl Round {
         revision: u64,
     )
     where
-        R: Threads
-            + Wait
-            + Clock
-            + Net<Listener = TcpListener, Stream = TcpStream>
-            + RandomSource
-            + AllocGlobal
-            + Sync,
+        R: SocketRuntime + Threads + Sync,
     {
         for originals in settings.originals.chunks(settings.workers * JOBS_EACH) {
             self.jobs = self.jobs.saturating_add(originals.len() as u64);
@@ -105,13 +91,7 @@ impl Round {
     // Walks the jobs, and appends their harvests.
     fn append_harvests<R>(&mut self, rt: &R, merger: &mut Merger, jobs: &[Job], workers: usize)
     where
-        R: Threads
-            + Wait
-            + Clock
-            + Net<Listener = TcpListener, Stream = TcpStream>
-            + RandomSource
-            + AllocGlobal
-            + Sync,
+        R: SocketRuntime + Threads + Sync,
         requires workers { 1 ≤ workers × workers ≤ 64 }
         requires first_urls { All HasFirstUrl jobs.now }
     {
@@ -137,11 +117,7 @@ impl Round {
     // Appends what a peer knows, where it answers with a state.
     fn pull<R>(&mut self, rt: &R, merger: &mut Merger, peer: &Clean)
     where
-        R: Wait
-            + Clock
-            + Net<Listener = TcpListener, Stream = TcpStream>
-            + RandomSource
-            + AllocGlobal,
+        R: SocketRuntime,
     {
         let Ok(state) = pull_state(rt, peer) else {
             return;

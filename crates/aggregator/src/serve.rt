@@ -10,6 +10,7 @@ use crate::check::settings_in;
 use crate::failure::Failure;
 use crate::gates::{Doors, open_doors};
 use crate::rounds::{Round, sleep_between};
+use crate::runtimes::SocketRuntime;
 use crate::settings::Settings;
 use hyper_edge::EdgeFault;
 use published_index::{Gate, Merger, OpenFault, open};
@@ -72,6 +73,9 @@ impl From<OpenFault> for ServeFault {
 }
 
 /// Serves by the settings of a file.
+///
+/// Its bounds are written out, since `main` calls it: what `main` calls by a bound on `SocketRuntime` isn't covered by the
+/// borrow checker.
 pub(crate) fn serve_file<R, W>(rt: &R, file: &str, out: W) -> Result<(), Failure>
 where
     R: Threads
@@ -103,17 +107,7 @@ pub(crate) fn serve_settings<R, W>(
     mut out: W,
 ) -> Result<(), ServeFault>
 where
-    R: Threads
-        + Wait
-        + Clock
-        + Net<Listener = TcpListener, Stream = TcpStream>
-        + RandomSource
-        + AllocGlobal
-        + Sync
-        + Send
-        + Clone
-        + Drop
-        + 'static,
+    R: SocketRuntime + Threads + Sync + Send + Clone + Drop + 'static,
     W: Write + Drop,
 {
     let service = match settings.base.try_clone() {
@@ -138,17 +132,7 @@ fn serve_gates<R, W>(
     out: &mut W,
 ) -> Result<(), ServeFault>
 where
-    R: Threads
-        + Wait
-        + Clock
-        + Net<Listener = TcpListener, Stream = TcpStream>
-        + RandomSource
-        + AllocGlobal
-        + Sync
-        + Send
-        + Clone
-        + Drop
-        + 'static,
+    R: SocketRuntime + Threads + Sync + Send + Clone + Drop + 'static,
     W: Write,
 {
     let doors = open_doors(rt, settings, gates)?;
@@ -182,13 +166,7 @@ fn make_rounds<R, W>(
     out: &mut W,
 ) -> Result<(), ServeFault>
 where
-    R: Threads
-        + Wait
-        + Clock
-        + Net<Listener = TcpListener, Stream = TcpStream>
-        + RandomSource
-        + AllocGlobal
-        + Sync,
+    R: SocketRuntime + Threads + Sync,
     W: Write,
 {
     for number in 1..=settings.rounds {

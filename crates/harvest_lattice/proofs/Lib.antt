@@ -12,3 +12,5 @@ pub mod ShelfLemmas
 pub mod Rising
 pub mod Made
 pub mod NewsLemmas
+pub mod BackupLemmas
+pub mod UnitedLemmas

@@ -17,7 +17,7 @@ use Rattle.harvest_lattice.proofs.RowLemmas.{entries_made}
 use Rattle.harvest_lattice.proofs.Sets.{items-from_list, from_list-items, items_sorted}
 
 -- the map of a map's entries is that map
-map_of_entries : (x : Entries) → fmap.from_entries (fmap.entries x) ≡ x
+pub map_of_entries : (x : Entries) → fmap.from_entries (fmap.entries x) ≡ x
 map_of_entries x = fmap.same_map key_cmp_total key_cmp_exact (fmap.from_entries (fmap.entries x)) x (λ k.
     fmap.get-from_entries key_cmp_total (fmap.entries x) k ∙ sym (fmap.get-entries x k))
 

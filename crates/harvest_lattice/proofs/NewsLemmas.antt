@@ -1,14 +1,13 @@
 -- What is news to a state, entry by entry.
-use Rattle.std.proofs.Common.{◌≡◌, ℕ, ◌≤◌, Bool, true, false, not, cond, eqb, ◌&&◌, ◌||◌, max, ◌++◌, map, List, [], ◌∷◌, Option, Some, None, IfSome, inl, inr, refl, sym, ap, subst, ◌∙◌, append_assoc, append-nil, arith}
+use Rattle.std.proofs.Common.{◌≡◌, ℕ, ◌<◌, Bool, true, false, not, cond, eqb, ◌&&◌, ◌||◌, max, ◌++◌, map, List, [], ◌∷◌, Option, Some, None, IfSome, inl, inr, refl, sym, ap, subst, ◌∙◌, append_assoc, append-nil, arith}
 use Rattle.std.specs.Prelude.{T}
-use Rattle.std.specs.declared.cmp.Ordering.{Ordering}
-use Rattle.std.specs.List.{list_any, filter, AllByRecursion}
+use Rattle.std.specs.List.{filter, AllByRecursion}
 use Rattle.std.specs.Option.{MatchOption}
 use Rattle.std.specs.Ordering.{eq_by_cmp, is_lt}
-use Rattle.std.specs.Cmp.{IsTotalOrder, Equal-is}
+use Rattle.std.specs.Cmp.{Equal-is}
 use Rattle.std.specs.FinMap as fmap
 use Rattle.std.specs.FinMap.Entries.{below_all}
-use Rattle.std.proofs.lemmas.Bool.{true≢false, and_parts, and_from, eqb-true, eq-eqb}
+use Rattle.std.proofs.lemmas.Bool.{true≢false, eq-eqb}
 use Rattle.std.proofs.lemmas.Bool.Decides.{nat_tests}
 use Rattle.std.proofs.lemmas.Map.Views.{any-filter_same}
 use Rattle.memento_time.specs.Mementos.{memento_cmp}
@@ -17,14 +16,14 @@ use Rattle.memento_time.specs.declared.mementos.Memento.{Memento}
 use Rattle.harvest_lattice.specs.declared.row.Row.{Row}
 use Rattle.harvest_lattice.specs.Maps.{join_values}
 use Rattle.harvest_lattice.specs.Sets as set
-use Rattle.harvest_lattice.specs.Lattice.{Key, key_cmp, Kept, KeptAtMost, Mementos, Entries, IsAtMostAt, join_kept, join}
+use Rattle.harvest_lattice.specs.Lattice.{Key, key_cmp, Kept, KeptAtMost, Mementos, Entries, IsAtMostAt, join_kept, join, join_at}
 use Rattle.harvest_lattice.specs.Knowledge.{Harvested, key_of, lat}
 use Rattle.harvest_lattice.specs.News.{AreApart, IsFresh, IsNews, news_at, IsNoted}
-use Rattle.harvest_lattice.specs.Rows.{row_entry, lent_entry}
-use Rattle.harvest_lattice.proofs.Sets.{contains-from_list, two_parts, both_parts}
-use Rattle.harvest_lattice.proofs.Entries.{same_kept, revision-join_kept, contains-join_kept, key_cmp_total, key_cmp_exact, get-join, join_from_at_most, entry_semilattice}
+use Rattle.harvest_lattice.specs.Rows.{row_entry}
+use Rattle.harvest_lattice.proofs.Sets.{contains-from_list, contains-union, two_parts, both_parts}
+use Rattle.harvest_lattice.proofs.Entries.{same_mementos, same_kept, revision-join_kept, contains-join_kept, key_cmp_total, key_cmp_exact, get-join, join_from_at_most, entry_semilattice}
 use Rattle.harvest_lattice.proofs.Knowledge.{single, get-lat_one, same_key, below_none}
-use Rattle.harvest_lattice.proofs.RowLemmas.{without_sorted}
+use Rattle.harvest_lattice.proofs.RowLemmas.{without_sorted, get-joined}
 
 -- what the one set has and the other lacks
 pub contains-minus : (s t : Mementos) (m : Memento) → set.contains (set.minus s t) m ≡ (not (set.contains t m) && set.contains s m)
@@ -204,3 +203,43 @@ noted_all x y rows rest none way =
 -- the entry of one harvest, and none left
 pub one_under_way : (x : Entries) (h : Harvested) → IsUnderWay x (lat (h ∷ [])) [] ((key_of h, single h) ∷ [])
 one_under_way x h = under_way x (lat (h ∷ [])) ((key_of h, single h) ∷ []) tt (λ q. sym (get-lat_one h q))
+
+-- ---- a harvest taken in
+
+nothing_joins : (o : Option Kept) → o ≡ join_values join_kept o None
+nothing_joins None = refl
+nothing_joins (Some a) = refl
+
+-- to join the entry of a harvest is to join the harvest
+pub merged : (x : Entries) (h : Harvested) → fmap.insert x (key_of h) (join_at x (key_of h, single h)) ≡ join x (lat (h ∷ []))
+merged x h = fmap.same_map key_cmp_total key_cmp_exact _ _ (λ q.
+    get-joined x (key_of h, single h) q
+    ∙ (elim (eq_by_cmp key_cmp q (key_of h)) as (λ b. eq_by_cmp key_cmp q (key_of h) ≡ b → cond b (join_values join_kept (fmap.get x (key_of h)) (Some (single h))) (fmap.get x q) ≡ join_values join_kept (fmap.get x q) (cond b (Some (single h)) None)) [
+      | true ↦ λ t. ap (λ (k : Key). join_values join_kept (fmap.get x k) (Some (single h))) (sym (same_key q (key_of h) t))
+      | false ↦ λ _. nothing_joins (fmap.get x q)
+    ] refl
+    ∙ (ap (join_values join_kept (fmap.get x q)) (sym (get-lat_one h q)) ∙ sym (get-join x (lat (h ∷ [])) q))))
+
+-- ---- an entry joined to another
+
+shown_both : (a e : ℕ) (p q : Bool) → a ≡ e → ((eqb a (max a e) && p) || (eqb e (max a e) && q)) ≡ (p || q)
+shown_both a e true q same = grind (arith, nat_tests)
+shown_both a e false q same = grind (arith, nat_tests)
+
+pub shows_union : (a e : Kept) → a.revision ≡ e.revision → (join_kept a e).mementos ≡ set.union a.mementos e.mementos
+shows_union a e same = same_mementos _ _ (λ m. contains-join_kept a e m ∙ (shown_both a.revision e.revision (set.contains a.mementos m) (set.contains e.mementos m) same ∙ sym (contains-union memento_cmp_total memento_cmp_exact a.mementos e.mementos m)))
+
+-- of one revision
+pub join_same : (a e : Kept) (r : ℕ) (ms : Mementos) → r ≡ a.revision → a.revision ≡ e.revision → ms ≡ set.union a.mementos e.mementos → (let k : Kept = record { revision = r; mementos = ms } in k) ≡ join_kept a e
+join_same a e r ms is same both =
+    let rev : r ≡ (join_kept a e).revision = let top : (join_kept a e).revision ≡ max a.revision e.revision = revision-join_kept a e in omega (arith, is, same, top) in
+    let all : ms ≡ (join_kept a e).mementos = both ∙ sym (shows_union a e same) in
+    λ i. record { revision = rev i; mementos = all i }
+
+-- of a greater revision it is the other itself
+pub join_later : (a e : Kept) → a.revision < e.revision → e ≡ join_kept a e
+join_later a e lt = sym (join_from_at_most a e (record { revision = omega (arith, lt); mementos = λ same. absurd (omega (arith, lt, same)) }))
+
+-- and of a lesser one that which stands
+pub join_earlier : (a e : Kept) → e.revision < a.revision → a ≡ join_kept a e
+join_earlier a e lt = sym (entry_semilattice.comm a e ∙ join_from_at_most e a (record { revision = omega (arith, lt); mementos = λ same. absurd (omega (arith, lt, same)) }))

@@ -16,14 +16,14 @@ use Rattle.memento_time.specs.declared.mementos.Memento.{Memento}
 use Rattle.harvest_lattice.specs.Sets as set
 use Rattle.harvest_lattice.proofs.Sets.{contains-from_list, contains-union, same_set, items-from_list, both_parts}
 
-below_marked : (x : Memento) (xs : List Memento) → AllByRecursion (λ y. memento_cmp x y ≡ Less) xs → T (below_all memento_cmp x (set.marked xs))
+below_marked : (x : Memento) (xs : List Memento) → AllByRecursion (λ y. memento_cmp x y ≡ Less) xs → T (below_all memento_cmp x (set.as_keys xs))
 below_marked x [] h = tt
-below_marked x (y ∷ xs) h = both_parts (is_lt (memento_cmp x y)) (below_all memento_cmp x (set.marked xs)) (subst (λ r. T (is_lt r)) (sym h.0) tt) (below_marked x xs h.1)
+below_marked x (y ∷ xs) h = both_parts (is_lt (memento_cmp x y)) (below_all memento_cmp x (set.as_keys xs)) (subst (λ r. T (is_lt r)) (sym h.0) tt) (below_marked x xs h.1)
 
-pub sorted_marked : (xs : List Memento) → IsStrictlySortedBy memento_cmp xs → T (is_sorted memento_cmp (set.marked xs))
+pub sorted_marked : (xs : List Memento) → IsStrictlySortedBy memento_cmp xs → T (is_sorted memento_cmp (set.as_keys xs))
 unfolding IsStrictlySortedBy
 sorted_marked [] h = tt
-sorted_marked (x ∷ xs) h = both_parts (below_all memento_cmp x (set.marked xs)) (is_sorted memento_cmp (set.marked xs)) (below_marked x xs h.0) (sorted_marked xs h.1)
+sorted_marked (x ∷ xs) h = both_parts (below_all memento_cmp x (set.as_keys xs)) (is_sorted memento_cmp (set.as_keys xs)) (below_marked x xs h.0) (sorted_marked xs h.1)
 
 -- a list in order, each memento once, is the list of its set
 pub items_in_order : (xs : List Memento) → IsStrictlySortedBy memento_cmp xs → set.items (set.from_list {R = memento_cmp} xs) ≡ xs

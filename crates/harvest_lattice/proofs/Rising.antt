@@ -55,15 +55,15 @@ module _ {K X : Type 0} (R : K → K → Ordering) where
   risen_none [] ks e none = refl
   risen_none (x ∷ es) ks e none = absurd (omega (arith, ap length e, none))
 
-pub mementos_risen : (ms : List Memento) (n : ℕ) → Rises memento_cmp ms n → length ms ≤ n → is_sorted memento_cmp (set.marked ms) ≡ true
-mementos_risen ms n rises le = elim ms as (λ ms. Rises memento_cmp ms n → length ms ≤ n → is_sorted memento_cmp (set.marked ms) ≡ true) [
+pub mementos_risen : (ms : List Memento) (n : ℕ) → Rises memento_cmp ms n → length ms ≤ n → is_sorted memento_cmp (set.as_keys ms) ≡ true
+mementos_risen ms n rises le = elim ms as (λ ms. Rises memento_cmp ms n → length ms ≤ n → is_sorted memento_cmp (set.as_keys ms) ≡ true) [
   | [] ↦ λ rises le. refl
-  | m ∷ ms ↦ λ rises le. risen memento_cmp memento_cmp_total (set.marked (m ∷ ms)) (m ∷ ms) n m (firsts memento_cmp_total memento_cmp_exact (m ∷ ms)) rises le
+  | m ∷ ms ↦ λ rises le. risen memento_cmp memento_cmp_total (set.as_keys (m ∷ ms)) (m ∷ ms) n m (firsts memento_cmp_total memento_cmp_exact (m ∷ ms)) rises le
 ] rises le
 
-pub mementos_fallen : (ms : List Memento) (k : ℕ) (a b : Memento) → 0 < k → k < length ms → a ≡ get_or ms (k - 1) a → b ≡ get_or ms k b → (memento_cmp a b ≡ Less → ⊥) → is_sorted memento_cmp (set.marked ms) ≡ false
+pub mementos_fallen : (ms : List Memento) (k : ℕ) (a b : Memento) → 0 < k → k < length ms → a ≡ get_or ms (k - 1) a → b ≡ get_or ms k b → (memento_cmp a b ≡ Less → ⊥) → is_sorted memento_cmp (set.as_keys ms) ≡ false
 mementos_fallen ms k a b some lt at next differ =
-    fallen memento_cmp (set.marked ms) ms k a (firsts memento_cmp_total memento_cmp_exact ms) some lt (λ less. differ (subst (λ y. memento_cmp a y ≡ Less) (same_default ms k a b lt ∙ sym next) (subst (λ x. memento_cmp x (get_or ms k a) ≡ Less) (sym at) less)))
+    fallen memento_cmp (set.as_keys ms) ms k a (firsts memento_cmp_total memento_cmp_exact ms) some lt (λ less. differ (subst (λ y. memento_cmp a y ≡ Less) (same_default ms k a b lt ∙ sym next) (subst (λ x. memento_cmp x (get_or ms k a) ≡ Less) (sym at) less)))
   where
     same_default : {A : Type 0} (xs : List A) (k : ℕ) (a b : A) → k < length xs → get_or xs k a ≡ get_or xs k b
     same_default [] k a b lt = absurd (omega arith)
@@ -85,8 +85,8 @@ pub rows_more : (rows : List Row) (k : ℕ) (a b : Row) → 0 < k → k < length
 rows_more rows k a b some lt at next less rises = all_adjacent_more (map row_key rows) (λ x y. key_cmp x y ≡ Less) k some rises (λ d. row_keys rows k a b some lt at next d ∙ less)
 
 -- mementos that rise stand in order
-pub rise_in_order : (ms : List Memento) → is_sorted memento_cmp (set.marked ms) ≡ true → IsStrictlySortedBy memento_cmp ms
-rise_in_order ms h = subst (IsStrictlySortedBy memento_cmp) (firsts memento_cmp_total memento_cmp_exact ms) (keys_rise memento_cmp (set.marked ms) (subst T (sym h) tt))
+pub rise_in_order : (ms : List Memento) → is_sorted memento_cmp (set.as_keys ms) ≡ true → IsStrictlySortedBy memento_cmp ms
+rise_in_order ms h = subst (IsStrictlySortedBy memento_cmp) (firsts memento_cmp_total memento_cmp_exact ms) (keys_rise memento_cmp (set.as_keys ms) (subst T (sym h) tt))
 
 pub less_is : (r : Ordering) (b : Bool) → b ≡ is_lt r → b ≡ true → r ≡ Less
 less_is r b e h = less_from r (subst T (sym h ∙ e) tt)

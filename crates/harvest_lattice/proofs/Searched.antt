@@ -1,6 +1,6 @@
 -- What a binary search finds in a list of mementos in order, and when every memento of a list is in another.
-use Rattle.std.proofs.Common.{◌≡◌, ℕ, suc, ◌+◌, ◌<◌, Bool, true, false, ◌||◌, ◌&&◌, length, get_or, List, [], ◌∷◌, Result, Ok, Err, is_ok, inl, inr, refl, sym, ap, ◌∙◌, arith}
-use Rattle.std.specs.declared.cmp.Ordering.TheVariants.{Less, Greater}
+use Rattle.std.proofs.Common.{◌≡◌, ℕ, suc, ◌+◌, ◌<◌, Bool, true, false, ◌||◌, ◌&&◌, length, get_or, take, ◌++◌, subst, List, [], ◌∷◌, Result, Ok, Err, is_ok, inl, inr, refl, sym, ap, ◌∙◌, arith}
+use Rattle.std.specs.declared.cmp.Ordering.TheVariants.{Less, Equal, Greater}
 use Rattle.std.specs.List.{list_any, list_all}
 use Rattle.std.specs.List.Sorted.{IsStrictlySortedBy, IsSortedBy, IsSearchInRange, IsBinarySearchResult}
 use Rattle.std.specs.Ordering.{eq_by_cmp, is_lt, is_eq, ordering_reverse}
@@ -13,7 +13,9 @@ use Rattle.memento_time.specs.Mementos.{memento_cmp}
 use Rattle.memento_time.proofs.MementoLemmas.{memento_cmp_total, memento_cmp_exact}
 use Rattle.memento_time.specs.declared.mementos.Memento.{Memento}
 use Rattle.harvest_lattice.specs.Sets as set
-use Rattle.harvest_lattice.specs.Lattice.{IsSubset}
+use Rattle.harvest_lattice.specs.Lattice.{Mementos, IsSubset}
+use Rattle.harvest_lattice.proofs.UnitedLemmas.{above_front_of}
+use Rattle.std.specs.FinMap.{contains_key-keys}
 use Rattle.harvest_lattice.proofs.Sets.{contains-from_list}
 
 contains_is : (xs : List Memento) (m : Memento) → set.contains (set.from_list {R = memento_cmp} xs) m ≡ list_any (eq_by_cmp memento_cmp m) xs
@@ -22,7 +24,7 @@ contains_is = contains-from_list memento_cmp_total memento_cmp_exact
 greater : (a b : Memento) → memento_cmp a b ≡ Less → memento_cmp b a ≡ Greater
 greater a b h = memento_cmp_total.antisymm b a ∙ ap ordering_reverse h
 
-less : (a b : Memento) → memento_cmp a b ≡ Greater → memento_cmp b a ≡ Less
+pub less : (a b : Memento) → memento_cmp a b ≡ Greater → memento_cmp b a ≡ Less
 less a b h = memento_cmp_total.antisymm b a ∙ ap ordering_reverse h
 
 steps : (xs : List Memento) → IsStrictlySortedBy memento_cmp xs → IsSortedBy (λ a b. is_lt (memento_cmp a b)) xs
@@ -61,8 +63,21 @@ all_from p (x ∷ xs) h =
     (λ i. h x (ap (λ o. is_eq o || list_any (eq_by_cmp memento_cmp x) xs) (tied_itself memento_cmp_total x)) i && list_all p xs)
     ∙ all_from p xs (λ m any. h m (elim (eq_by_cmp memento_cmp m x) as (λ b. (b || list_any (eq_by_cmp memento_cmp m) xs) ≡ true) [ true ↦ refl | false ↦ any ]))
 
-pub subset_from_all : (xs ys : List Memento) → list_all (λ m. set.contains (set.from_list {R = memento_cmp} ys) m) xs ≡ true → IsSubset (set.from_list xs) (set.from_list ys)
-subset_from_all xs ys all m had = all_any (λ m. set.contains (set.from_list {R = memento_cmp} ys) m) xs all m (sym (contains_is xs m) ∙ had)
+pub subset_from_all : (s t : Mementos) → list_all (λ m. set.contains t m) (set.items s) ≡ true → IsSubset s t
+subset_from_all s t all m had = all_any (λ m. set.contains t m) (set.items s) all m (sym (contains_key-keys s m) ∙ had)
 
-pub all_from_subset : (xs ys : List Memento) → IsSubset (set.from_list xs) (set.from_list ys) → list_all (λ m. set.contains (set.from_list {R = memento_cmp} ys) m) xs ≡ true
-all_from_subset xs ys sub = all_from (λ m. set.contains (set.from_list {R = memento_cmp} ys) m) xs (λ m any. sub m (contains_is xs m ∙ any))
+pub all_from_subset : (s t : Mementos) → IsSubset s t → list_all (λ m. set.contains t m) (set.items s) ≡ true
+all_from_subset s t sub = all_from (λ m. set.contains t m) (set.items s) (λ m any. sub m (contains_key-keys s m ∙ any))
+
+-- ---- what is below a memento
+
+-- what stands in front of the place where it is
+pub front_of_found : (xs : List Memento) (m : Memento) (at : ℕ) → IsStrictlySortedBy memento_cmp xs → at < length xs → ((d : Memento) → memento_cmp (get_or xs at d) m ≡ Equal) → IsStrictlySortedBy memento_cmp (take at xs ++ m ∷ [])
+front_of_found xs m at h in_range here = above_front_of xs at m h (λ k d lt _.
+    subst (λ n. memento_cmp (get_or xs k d) n ≡ Less) (memento_cmp_exact (get_or xs at d) m (here d)) (Less-from_sorted memento_cmp xs k at d h lt in_range))
+
+-- what stands in front of the place where it would go
+pub front_of_gap : (xs : List Memento) (m : Memento) (at : ℕ) → IsStrictlySortedBy memento_cmp xs → IsBinarySearchResult (λ y. memento_cmp y m) xs (Err at) → IsStrictlySortedBy memento_cmp (take at xs ++ m ∷ [])
+front_of_gap xs m at h parted =
+    let point = parted (searchable_from_sorted memento_cmp_total (λ x. x) xs m (steps xs h)) in
+    above_front_of xs at m h (λ k d lt in_range. point.0 k d (omega arith) lt)

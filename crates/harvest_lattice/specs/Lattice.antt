@@ -64,12 +64,8 @@ abbrev pub join : Entries → Entries → Entries
 join x y = join_by join_kept x y
 
 -- what a join with x has at the key of an entry
-abbrev pub joined_kept : Entries → Key × Kept → Kept
-joined_kept x e = unwrap_or (join_values join_kept (map.get x e.0) (Some e.1)) e.1
-
--- an entry as it stands in the join
-abbrev pub joined_with : Entries → Key × Kept → Key × Kept
-joined_with x e = (e.0, joined_kept x e)
+abbrev pub join_at : Entries → Key × Kept → Kept
+join_at x e = unwrap_or (join_values join_kept (map.get x e.0) (Some e.1)) e.1
 
 -- an entry as a pair of its revision and its mementos
 abbrev pub coded_kept : Coded Kept

@@ -2,6 +2,7 @@
 use Rattle.std.specs.Prelude.{◌≡◌, ◌⊎◌, ◌++◌, ◌==◌, true, cond, map, List, [], ◌∷◌, Option, Some, None, IfSome}
 use Rattle.std.specs.FinMap as fmap
 use Rattle.harvest_lattice.specs.Sets as set
+use Rattle.std.specs.Option.{MatchOption}
 use Rattle.harvest_lattice.specs.Lattice.{Mementos, Key, Kept, Entries, IsAtMostAt, join}
 use Rattle.harvest_lattice.specs.Rows.{row_entry}
 use Rattle.harvest_lattice.specs.declared.row.Row.{Row}
@@ -28,7 +29,11 @@ abbrev pub news_at : Option Kept → Kept → Kept
 news_at None e = e
 news_at (Some a) e = record { revision = e.revision; mementos = cond (a.revision == e.revision) (set.minus e.mementos a.mementos) e.mementos }
 
--- the entry's news comes behind the rows, unless the state has at least as much at its key
+-- the news of an entry, or none where the state has at least as much at its key
+abbrev pub IsNewsOf : Entries → Key × Kept → Option Kept → Type 0
+IsNewsOf x e news = MatchOption news (IsAtMostAt x e) (λ n. (n ≡ news_at (fmap.get x e.0) e.1) × (IsAtMostAt x e → ⊥))
+
+-- the entry's news comes behind the rows, if there is any
 abbrev pub IsNoted : Entries → Key × Kept → List Row → List Row → Type 0
 IsNoted x e old new =
     ((map row_entry new ≡ map row_entry old ++ (e.0, news_at (fmap.get x e.0) e.1) ∷ []) × (IsAtMostAt x e → ⊥)) ⊎ ((new ≡ old) × IsAtMostAt x e)

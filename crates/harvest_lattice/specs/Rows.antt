@@ -1,14 +1,15 @@
 -- Rows as the entries of a state.
-use Rattle.std.specs.Prelude.{◌≡◌, ℕ, ◌⊎◌, ◌++◌, ◌<◌, ◌≤◌, Bool, cond, T, List, [], ◌∷◌, map, length, slice_index_or, Option, Some, None}
-use Rattle.std.specs.declared.cmp.Ordering.TheVariants.{Less}
+use Rattle.std.specs.Prelude.{◌≡◌, ℕ, Bool, cond, T, List, map, Option, Some, None, IsSome}
 use Rattle.std.specs.Option.{option_map}
 use Rattle.std.specs.Borrow.{Bor}
 use Rattle.std.specs.FinMap as fmap
 use Rattle.memento_time.specs.Mementos.{memento_cmp}
 use Rattle.memento_time.specs.declared.mementos.Memento.{Memento}
 use Rattle.harvest_lattice.specs.Sets as set
-use Rattle.harvest_lattice.specs.Lattice.{Key, key_cmp, Kept, Entries, IsAtMostAt, joined_with}
+use Rattle.harvest_lattice.specs.Lattice.{Key, key_cmp, Kept, Entries}
+use Rattle.harvest_lattice.specs.declared.backup.Backup.{Backup}
 use Rattle.harvest_lattice.specs.declared.row.Row.{Row}
+use Rattle.std.specs.List.{AllByRecursion}
 
 -- the archive and original of a row
 abbrev pub row_key : Row → Key
@@ -16,29 +17,23 @@ row_key row = (row.archive, row.original)
 
 -- a row as an entry
 abbrev pub row_entry : Row → Key × Kept
-row_entry row = (row_key row, row.latest)
+row_entry row = (row_key row, row.entry)
 
 -- the rows' keys rise
 abbrev pub RowsRise : List Row → Type 0
 RowsRise rows = T (fmap.is_sorted key_cmp (map row_entry rows))
 
--- a state with these entries put over its own
-abbrev pub put_all : List (Key × Kept) → Entries → Entries
-put_all [] x = x
-put_all (e ∷ es) x = fmap.insert (put_all es x) e.0 e.1
-
--- the entry, as it stands in the join, comes behind the rows, unless the state has at least as much at its key
-abbrev pub IsStaged : Entries → Key × Kept → List Row → List Row → Type 0
-IsStaged x e old new =
-    (map row_entry new ≡ map row_entry old ++ joined_with x e ∷ []) ⊎ ((new ≡ old) × IsAtMostAt x e)
-
 -- mementos that stand in their order, none twice
 abbrev pub mementos_rise : List Memento → Bool
-mementos_rise ms = fmap.is_sorted memento_cmp (set.marked ms)
+mementos_rise ms = fmap.is_sorted memento_cmp (set.as_keys ms)
 
 -- the keys stand in order, each once
 abbrev pub keys_rise : List (Key × Kept) → Bool
 keys_rise es = fmap.is_sorted key_cmp es
+
+-- the set of these mementos, where they stand in order
+abbrev pub mementos_with : List Memento → Option (set.Set memento_cmp)
+mementos_with ms = cond (mementos_rise ms) (Some (set.from_list ms)) None
 
 -- these mementos at the revision, where they stand in order
 abbrev pub kept_with : ℕ → List Memento → Option Kept
@@ -49,25 +44,33 @@ abbrev pub entry_with : Key → ℕ → List Memento → Option (Key × Kept)
 entry_with k r ms = option_map (λ kept. (k, kept)) (kept_with r ms)
 
 -- an entry as a walk over a state lends it
-abbrev pub lent_entry : (List ℕ × Bor (List ℕ)) × Kept → Key × Kept
-lent_entry e = ((e.0.0, e.0.1.now), e.1)
+abbrev pub lent_entry : (List ℕ × Bor (List ℕ)) × Bor Kept → Key × Kept
+lent_entry e = ((e.0.0, e.0.1.now), e.1.now)
 
 -- the map of these entries, where they stand in order
 abbrev pub map_with : List (Key × Kept) → Option Entries
 map_with es = cond (keys_rise es) (Some (fmap.from_entries es)) None
 
--- the row at a place has the key
-pub record IsPlaceOf (rows : List Row) (key : Key) (at : ℕ) : Type 0 where
-  pub in_range : at < length rows
-  pub here : (row : Row) → row_key (slice_index_or rows at row) ≡ key
+-- the archive and original of a backup
+abbrev pub backup_key : Backup → Key
+backup_key backup = (backup.archive, backup.original)
 
--- the key goes at a place: lesser keys before it, and greater keys from it on
-pub record IsGapFor (rows : List Row) (key : Key) (at : ℕ) : Type 0 where
-  pub in_range : at ≤ length rows
-  pub before : (k : ℕ) (row : Row) → k < at → key_cmp (row_key (slice_index_or rows k row)) key ≡ Less
-  pub after : (k : ℕ) (row : Row) → at ≤ k → k < length rows → key_cmp key (row_key (slice_index_or rows k row)) ≡ Less
+-- a backup as its key and what stood there
+abbrev pub backup_entry : Backup → Key × Option Kept
+backup_entry backup = (backup_key backup, backup.entry)
 
--- what is put at a key, or else what was there
-abbrev pub or_else : Option Kept → Option Kept → Option Kept
-or_else None was = was
-or_else (Some put) was = Some put
+-- what stood before takes the place of what stands
+abbrev pub put_back : Option Kept → Option Kept → Option Kept
+put_back None now = None
+put_back (Some before) None = None
+put_back (Some before) (Some now) = Some before
+
+-- what a state has at a row's key
+abbrev pub back_up : Entries → Row → Key × Option Kept
+back_up x row = (row_key row, fmap.get x (row_key row))
+
+-- the backups are of x, from which the state differs at their keys alone, and has all keys of x
+pub record IsBackedUp (x now : Entries) (backups : List (Key × Option Kept)) : Type 0 where
+  pub elsewhere : (k : Key) → fmap.find key_cmp k backups ≡ None → fmap.get now k ≡ fmap.get x k
+  pub stay : (k : Key) → IsSome (fmap.get x k) → IsSome (fmap.get now k)
+  pub stood : AllByRecursion (λ b. b.1 ≡ fmap.get x b.0) backups

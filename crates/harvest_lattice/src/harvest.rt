@@ -2,9 +2,13 @@
 ghost use Rattle.std.specs.Prelude.{◌≡◌, ◌<◌, ◌≤◌, IfOk, IsErrOf, Some, length};
 ghost use Rattle.memento_time.specs.Mementos.{memento_cmp};
 ghost use Rattle.harvest_lattice.specs.Faults.{words_of};
+ghost use Rattle.harvest_lattice.specs.Knowledge.{key_of};
+ghost use Rattle.harvest_lattice.specs.Rows.{row_entry};
 ghost use Rattle.harvest_lattice.specs.Sets as set;
 
-use crate::latest::Latest;
+use crate::entry::Entry;
+use crate::mementos::Mementos;
+use crate::row::Row;
 use memento_time::{ArchiveName, Memento, NoMemory, Original};
 use std::error::Error;
 use std::fmt;
@@ -46,7 +50,7 @@ impl From<NoMemory> for HarvestFault {
 pub struct Harvest {
     archive: ArchiveName,
     original: Original,
-    latest: Latest,
+    entry: Entry,
 }
 
 impl Model for Harvest {
@@ -56,7 +60,7 @@ impl Model for Harvest {
 
     ghost coded = { coded_harvested };
 
-    ghost view = { λ h. record { archive = h.archive; original = h.original; revision = h.latest.revision; mementos = h.latest.mementos } };
+    ghost view = { λ h. record { archive = h.archive; original = h.original; revision = h.entry.revision; mementos = h.entry.mementos } };
 }
 
 impl Harvest {
@@ -71,18 +75,18 @@ impl Harvest {
         mementos: Vec<Memento>,
     ) -> Result<Harvest, HarvestFault>
         ensures kept { IfOk result (λ h. h ≡ record { archive = archive; original = original.now; revision = revision; mementos = set.from_list mementos.items }) }
-        ensures few { IfOk result (λ h. length (set.items h.mementos) ≤ 100000) }
-        ensures too_many { IsErrOf result HarvestFault.TooMany → 100000 < length (set.items (set.from_list {R = memento_cmp} mementos.items)) }
+        ensures few { IfOk result (λ h. length (set.items h.mementos) ≤ Harvest.MAX_MEMENTOS) }
+        ensures too_many { IsErrOf result HarvestFault.TooMany → Harvest.MAX_MEMENTOS < length (set.items (set.from_list {R = memento_cmp} mementos.items)) }
     {
         let original = original.try_clone()?;
-        let latest = Latest::of(revision, mementos);
-        if latest.len() > Harvest::MAX_MEMENTOS {
+        let mementos = Mementos::of(mementos);
+        if mementos.len() > Harvest::MAX_MEMENTOS {
             return Err(HarvestFault::TooMany);
         }
         Ok(Harvest {
             archive,
             original,
-            latest,
+            entry: Entry::new(revision, mementos)?,
         })
     }
 
@@ -104,33 +108,46 @@ impl Harvest {
     pub fn revision(&self) -> u64
         ensures { result ≡ self.now.revision }
     {
-        self.latest.revision()
+        self.entry.revision()
     }
 
     /// Each once, by datetime, then by URI.
     pub fn mementos(&self) -> &[Memento]
         ensures { result.now ≡ set.items self.now.mementos }
     {
-        self.latest.mementos()
+        self.entry.mementos()
     }
 
     // What a state of this harvest alone has of its archive and original.
-    pub(crate) fn latest(&self) -> &Latest
+    pub(crate) fn entry(&self) -> &Entry
         ensures { result.now ≡ record { revision = self.now.revision; mementos = self.now.mementos } }
     {
-        &self.latest
+        &self.entry
     }
 
-    /// The same harvest once more.
+    // The one row of a state of this harvest alone.
+    pub(crate) fn row(&self) -> Result<Row, NoMemory>
+        ensures { IfOk result (λ row. row_entry row ≡ (key_of self.now, record { revision = self.now.revision; mementos = self.now.mementos })) }
+    {
+        let original = self.original.try_clone()?;
+        let entry = self.entry.try_clone()?;
+        Ok(Row {
+            archive: self.archive,
+            original,
+            entry,
+        })
+    }
+
+    /// A copy.
     pub fn try_clone(&self) -> Result<Harvest, NoMemory>
         ensures { IfOk result (λ copy. copy ≡ self.now) }
     {
         let original = self.original.try_clone()?;
-        let latest = self.latest.try_clone()?;
+        let entry = self.entry.try_clone()?;
         Ok(Harvest {
             archive: self.archive,
             original,
-            latest,
+            entry,
         })
     }
 }

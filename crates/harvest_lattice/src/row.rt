@@ -1,11 +1,12 @@
-//! Entries of a state, owned and lent.
+//! Rows: entries with their keys.
 ghost use Rattle.std.specs.Prelude.{◌≡◌, IfOk, map as map_list};
 ghost use Rattle.std.specs.Option.{option_map};
 ghost use Rattle.harvest_lattice.specs.Sets as set;
 ghost use Rattle.harvest_lattice.specs.Lattice.{key_cmp};
 ghost use Rattle.harvest_lattice.specs.Rows.{keys_rise, row_entry, row_key, entry_with};
 
-use crate::latest::Latest;
+use crate::entry::Entry;
+use crate::mementos::Mementos;
 use memento_time::{ArchiveName, Memento, NoMemory, Original};
 use std::cmp::Ordering;
 use std::marker::Model;
@@ -15,7 +16,7 @@ use std::marker::Model;
 pub struct Row {
     pub archive: ArchiveName,
     pub original: Original,
-    pub latest: Latest,
+    pub entry: Entry,
 }
 
 impl Row {
@@ -25,15 +26,18 @@ impl Row {
         original: Original,
         revision: u64,
         mementos: Vec<Memento>,
-    ) -> Option<Row>
-        ensures { option_map row_entry result ≡ entry_with (archive, original) revision mementos.items }
+    ) -> Result<Option<Row>, NoMemory>
+        ensures { IfOk result (λ row. option_map row_entry row ≡ entry_with (archive, original) revision mementos.items) }
     {
-        let latest = Latest::new(revision, mementos)?;
-        Some(Row {
+        let Some(mementos) = Mementos::of_sorted(mementos) else {
+            return Ok(None);
+        };
+        let entry = Entry::new(revision, mementos)?;
+        Ok(Some(Row {
             archive,
             original,
-            latest,
-        })
+            entry,
+        }))
     }
 
     /// The archive of the entry.
@@ -51,67 +55,23 @@ impl Row {
     }
 
     /// The entry.
-    pub fn entry(&self) -> Entry<'_>
-        ensures { result ≡ self.now.latest }
+    pub fn entry(&self) -> &Entry
+        ensures { result.now ≡ self.now.entry }
     {
-        Entry::new(&self.latest)
+        &self.entry
     }
 
-    /// The same row once more.
+    /// A copy.
     pub fn try_clone(&self) -> Result<Row, NoMemory>
         ensures { IfOk result (λ copy. copy ≡ self.now) }
     {
         let original = self.original.try_clone()?;
-        let latest = self.latest.try_clone()?;
+        let entry = self.entry.try_clone()?;
         Ok(Row {
             archive: self.archive,
             original,
-            latest,
+            entry,
         })
-    }
-}
-
-/// What a state has of one archive and original.
-#[derive(Debug, Drop)]
-pub struct Entry<'a> {
-    latest: &'a Latest,
-}
-
-impl<'a> Model for Entry<'a> {
-    ghost use Rattle.harvest_lattice.specs.Lattice.{Kept, coded_kept};
-
-    ghost Value = { Kept };
-
-    ghost coded = { coded_kept };
-
-    ghost view = { λ e. e.latest.now };
-}
-
-impl<'a> Entry<'a> {
-    pub(crate) fn new(latest: &'a Latest) -> Entry<'a>
-        ensures { result ≡ latest.now }
-    {
-        Entry { latest }
-    }
-
-    /// The latest revision.
-    pub fn revision(&self) -> u64
-        ensures { result ≡ self.now.revision }
-    {
-        self.latest.revision()
-    }
-
-    /// Each once, by datetime, then by URI.
-    pub fn mementos(&self) -> &'a [Memento]
-        ensures { result.now ≡ set.items self.now.mementos }
-    {
-        self.latest.mementos()
-    }
-
-    pub(crate) fn latest(&self) -> &'a Latest
-        ensures { result.now ≡ self.now }
-    {
-        self.latest
     }
 }
 

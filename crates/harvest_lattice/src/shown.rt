@@ -6,13 +6,13 @@ ghost use Rattle.harvest_lattice.specs.Sets as set;
 ghost use Rattle.harvest_lattice.specs.Knowledge.{shown_of};
 ghost use Rattle.harvest_lattice.specs.Shelves.{entries_of};
 
-use crate::mementos::{append_copies, in_order};
+use crate::mementos::{Mementos, append_copies};
 use crate::shelves::Shelves;
 use memento_time::{Memento, NoMemory, Original};
 use std::alloc::Global;
 
 // The mementos of an original in every archive, each once, in order.
-pub fn shown_in(
+pub fn collect_shown(
     shelves: &Shelves,
     alloc: Global,
     original: &Original,
@@ -22,9 +22,9 @@ pub fn shown_in(
 {
     let mut all = Vec::new(alloc);
     for (_, shelf) in shelves {
-        if let Some(latest) = shelf.held(original) {
-            append_copies(&mut all, latest.mementos())?;
+        if let Some(entry) = shelf.get(original) {
+            append_copies(&mut all, entry.mementos())?;
         }
     }
-    Ok(in_order(all))
+    Ok(Mementos::of(all).into_vec())
 }

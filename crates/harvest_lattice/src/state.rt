@@ -1,18 +1,20 @@
 //! States: of each archive and original the latest revision and its mementos.
-ghost use Rattle.std.specs.Prelude.{◌≡◌, ◌<◌, ◌∷◌, [], ◌↔◌, IsTrue, OnOk, OnErr, IfOk, Some, slice_get, map as map_list};
+ghost use Rattle.std.specs.Prelude.{◌≡◌, ◌≤◌, ◌<◌, ◌∷◌, [], ◌↔◌, IsTrue, IsSome, OnOk, OnErr, IfOk, Some, None, cond, length, slice_get, option_copied, map as map_list};
+ghost use Rattle.std.specs.Ordering.{eq_by_cmp};
 ghost use Rattle.std.specs.FinMap as map;
 ghost use Rattle.harvest_lattice.specs.Sets as set;
-ghost use Rattle.harvest_lattice.specs.Lattice.{AtMost, IsAtMostAt, join, joined_kept, joined_with};
+ghost use Rattle.harvest_lattice.specs.Lattice.{Entries, Key, key_cmp, AtMost, IsAtMostAt, join, join_at};
 ghost use Rattle.harvest_lattice.specs.Knowledge.{lat, shown_of};
-ghost use Rattle.harvest_lattice.specs.News.{IsNews, IsNoted, news_at};
-ghost use Rattle.harvest_lattice.specs.Rows.{row_entry, map_with, put_all, RowsRise, IsStaged};
+ghost use Rattle.harvest_lattice.specs.News.{IsNews, IsNewsOf, IsNoted};
+ghost use Rattle.harvest_lattice.specs.Rows.{row_key, row_entry, backup_key, backup_entry, put_back, map_with, RowsRise, IsBackedUp, back_up};
 
+use crate::backup::Backup;
 use crate::changes::Changes;
+use crate::entry::Entry;
 use crate::harvest::Harvest;
-use crate::latest::Latest;
-use crate::row::{Entry, Row, rows_rise};
-use crate::shelves::{Shelves, fill_all, held, make_rooms};
-use crate::shown::shown_in;
+use crate::row::{Row, rows_rise};
+use crate::shelves::{Shelves, entry_at, join_row, restore};
+use crate::shown::collect_shown;
 use crate::walk::Rows;
 use memento_time::{ArchiveName, Memento, NoMemory, Original};
 use std::alloc::Global;
@@ -21,7 +23,8 @@ use std::marker::Model;
 
 /// For each archive and original the latest revision, with its mementos.
 ///
-/// Where memory is refused, nothing has changed: all room is made before the first change.
+/// Where memory is refused, nothing has changed: what a call had begun is taken out again, and a state holds its
+/// entries and nothing else.
 #[derive(Debug, Drop)]
 pub struct State {
     alloc: Global,
@@ -66,61 +69,32 @@ impl State {
             return Ok(None);
         }
         let mut state = State::new(alloc);
-        state.put_rows(rows)?;
+        state.join_rows(rows)?;
         Ok(Some(state))
     }
 
     /// Takes a harvest: of its archive and original only the greatest revision stays, and
     /// harvests of one revision are united.
     ///
-    /// Takes time in the size of the harvest and of the entry that it changes, and logarithmic
-    /// in the number of keys.
+    /// Takes time in the size of the harvest, logarithmic in the number of keys, and at one revision in how many
+    /// mementos of the entry stand behind the first that comes.
     pub fn merge(&mut self, harvest: &Harvest) -> Result<(), NoMemory>
         ensures ok { OnOk result (self.new ≡ join self.old (lat (harvest.now ∷ []))) }
         ensures err { OnErr result (self.new ≡ self.old) }
     {
-        let rows = self.merged_rows(harvest)?;
-        self.put_rows(rows)
-    }
-
-    // The row of a harvest as it stands in the join, if it changes something here.
-    pub(crate) fn merged_rows(&self, harvest: &Harvest) -> Result<Vec<Row>, NoMemory>
-        ensures put { IfOk result (λ rows. put_all (map_list row_entry rows.items) self.now ≡ join self.now (lat (harvest.now ∷ []))) }
-        ensures rise { IfOk result (λ rows. RowsRise rows.items) }
-    {
-        let mut rows = Vec::new(self.alloc);
-        self.stage(
-            &mut rows,
-            harvest.archive(),
-            harvest.original(),
-            harvest.latest(),
-        )?;
-        Ok(rows)
+        let row = harvest.row()?;
+        self.join_row(row)
     }
 
     /// Takes all that another state has. What stands here alone isn't touched.
     ///
-    /// Takes time in the size of the other's entries and of those here at their keys. What an entry
-    /// of the other doesn't change isn't copied.
+    /// Takes time in the size of the other's entries and of those here that it changes.
     pub fn join(&mut self, other: &State) -> Result<(), NoMemory>
         ensures ok { OnOk result (self.new ≡ join self.old other.now) }
         ensures err { OnErr result (self.new ≡ self.old) }
     {
-        let rows = self.joined_rows(other)?;
-        self.put_rows(rows)
-    }
-
-    // The rows of another state that change something here, as they stand in the join.
-    pub(crate) fn joined_rows(&self, other: &State) -> Result<Vec<Row>, NoMemory>
-        ensures put { IfOk result (λ rows. put_all (map_list row_entry rows.items) self.now ≡ join self.now other.now) }
-        ensures rise { IfOk result (λ rows. RowsRise rows.items) }
-    {
-        let mut rows = Vec::new(self.alloc);
-        for row in other.rows() {
-            let ((archive, original), entry) = row;
-            self.stage(&mut rows, archive, original, entry.latest())?;
-        }
-        Ok(rows)
+        let changes = self.changes(other)?;
+        self.put(changes)
     }
 
     /// What comes with another state and is news to this one. Nothing here is changed.
@@ -130,7 +104,7 @@ impl State {
         let mut rows = Vec::new(self.alloc);
         for row in other.rows() {
             let ((archive, original), entry) = row;
-            self.note(&mut rows, archive, original, entry.latest())?;
+            self.note(&mut rows, archive, original, entry)?;
         }
         Ok(Changes::of(rows))
     }
@@ -144,7 +118,7 @@ impl State {
             &mut rows,
             harvest.archive(),
             harvest.original(),
-            harvest.latest(),
+            harvest.entry(),
         )?;
         Ok(Changes::of(rows))
     }
@@ -155,107 +129,133 @@ impl State {
         rows: &mut Vec<Row>,
         archive: ArchiveName,
         original: &Original,
-        latest: &Latest,
+        entry: &Entry,
     ) -> Result<(), NoMemory>
-        ensures { OnOk result (IsNoted self.now ((archive, original.now), latest.now) rows.old.items rows.new.items) }
+        ensures { OnOk result (IsNoted self.now ((archive, original.now), entry.now) rows.old.items rows.new.items) }
     {
-        if !self.has_at_least(archive, original, latest) {
-            let latest = self.news(archive, original, latest)?;
+        if let Some(entry) = self.news(archive, original, entry)? {
             let original = original.try_clone()?;
             rows.push(Row {
                 archive,
                 original,
-                latest,
+                entry,
             })?;
         }
         Ok(())
     }
 
+    // The part of an entry that is news here, if there is any.
     fn news(
         &self,
         archive: ArchiveName,
         original: &Original,
-        latest: &Latest,
-    ) -> Result<Latest, NoMemory>
-        ensures { IfOk result (λ l. l ≡ news_at (map.get self.now (archive, original.now)) latest.now) }
+        entry: &Entry,
+    ) -> Result<Option<Entry>, NoMemory>
+        ensures { IfOk result (IsNewsOf self.now ((archive, original.now), entry.now)) }
     {
-        match self.entry(archive, original) {
-            Some(entry) => latest.news(self.alloc, entry.latest()),
-            None => latest.try_clone(),
+        let Some(standing) = self.entry(archive, original) else {
+            return Ok(Some(entry.try_clone()?));
+        };
+        if entry.le(standing) {
+            return Ok(None);
         }
+        Ok(Some(entry.news(standing)?))
     }
 
     /// Takes changes in: what stands at their keys is joined with them.
+    ///
+    /// Takes time in the size of the changes and of what stands at their keys; of a single one just in what `merge`
+    /// says of a harvest.
     pub fn put(&mut self, changes: Changes) -> Result<(), NoMemory>
         ensures ok { OnOk result (self.new ≡ join self.old changes) }
         ensures err { OnErr result (self.new ≡ self.old) }
     {
-        match State::of_rows(self.alloc, changes.into_rows())? {
-            Some(other) => self.join(&other),
-            None => Ok(()),
+        let rows = changes.into_rows();
+        if rows.len() < 2 {
+            return self.join_rows(rows);
+        }
+        let backups = self.back_up(&rows)?;
+        match self.join_rows(rows) {
+            Ok(()) => Ok(()),
+            Err(refused) => {
+                self.restore_all(backups);
+                Err(refused)
+            }
         }
     }
 
-    // Adds what stands in the join with an entry, unless that stands here already.
-    fn stage(
-        &self,
-        rows: &mut Vec<Row>,
-        archive: ArchiveName,
-        original: &Original,
-        latest: &Latest,
-    ) -> Result<(), NoMemory>
-        ensures { OnOk result (IsStaged self.now ((archive, original.now), latest.now) rows.old.items rows.new.items) }
+    // Joins rows with what stands at their keys. Where memory is refused, this may have been done for some.
+    fn join_rows(&mut self, rows: Vec<Row>) -> Result<(), NoMemory>
+        requires { RowsRise rows.items }
+        ensures ok { OnOk result (self.new ≡ join self.old (map.from_entries (map_list row_entry rows.items))) }
+        ensures elsewhere { (k : Key)
+            → map.find key_cmp k (map_list row_entry rows.items) ≡ None → map.get self.new k ≡ map.get self.old k }
+        ensures stay { (k : Key) → IsSome (map.get self.old k) → IsSome (map.get self.new k) }
+        ensures err { length rows.items ≤ 1 → OnErr result (self.new ≡ self.old) }
     {
-        if !self.has_at_least(archive, original, latest) {
-            rows.push(self.joined_row(archive, original, latest)?)?;
+        for row in rows {
+            self.join_row(row)?;
         }
         Ok(())
     }
 
-    // What stands in the join with an entry.
-    fn joined_row(
-        &self,
-        archive: ArchiveName,
-        original: &Original,
-        latest: &Latest,
-    ) -> Result<Row, NoMemory>
-        ensures { IfOk result (λ row. row_entry row ≡ joined_with self.now ((archive, original.now), latest.now)) }
+    fn join_row(&mut self, row: Row) -> Result<(), NoMemory>
+        ensures ok { OnOk result (self.new ≡ map.insert self.old (row_key row) (join_at self.old (row_entry row))) }
+        ensures err { OnErr result (self.new ≡ self.old) }
     {
-        let latest = self.joined_latest(archive, original, latest)?;
-        let original = original.try_clone()?;
-        Ok(Row {
-            archive,
+        // No memory has room for more keys than a usize counts.
+        let Some(more) = self.len.checked_add(1) else {
+            return Err(NoMemory);
+        };
+        let fresh = join_row(&mut self.shelves, self.alloc, row)?;
+        if fresh {
+            self.len = more;
+        }
+        Ok(())
+    }
+
+    // What stands at the rows' keys.
+    fn back_up(&self, rows: &[Row]) -> Result<Vec<Backup>, NoMemory>
+        ensures { IfOk result (λ backups. map_list backup_entry backups.items ≡ map_list (back_up self.now) rows.now) }
+    {
+        let mut backups = Vec::with_capacity(self.alloc, rows.len())?;
+        for row in rows {
+            backups.push(self.backup(row)?)?;
+        }
+        Ok(backups)
+    }
+
+    fn backup(&self, row: &Row) -> Result<Backup, NoMemory>
+        ensures { IfOk result (λ backup. backup_entry backup ≡ back_up self.now row.now) }
+    {
+        let original = row.original.try_clone()?;
+        let entry = match self.entry(row.archive, &row.original) {
+            Some(entry) => Some(entry.try_clone()?),
+            None => None,
+        };
+        Ok(Backup {
+            archive: row.archive,
             original,
-            latest,
+            entry,
         })
     }
 
-    fn joined_latest(
-        &self,
-        archive: ArchiveName,
-        original: &Original,
-        latest: &Latest,
-    ) -> Result<Latest, NoMemory>
-        ensures { IfOk result (λ l. l ≡ joined_kept self.now ((archive, original.now), latest.now)) }
+    fn restore_all(&mut self, mut backups: Vec<Backup>)
+        ensures { (x : Entries) → IsBackedUp x self.old (map_list backup_entry backups.items) → self.new ≡ x }
     {
-        match held(&self.shelves, archive, original) {
-            Some(mine) => mine.joined(self.alloc, latest),
-            None => latest.try_clone(),
+        while let Some(backup) = backups.pop() {
+            self.restore(backup);
         }
     }
 
-    // Puts the rows over what stands at their keys. The room is made before the first change.
-    fn put_rows(&mut self, rows: Vec<Row>) -> Result<(), NoMemory>
-        ensures ok { OnOk result (self.new ≡ put_all (map_list row_entry rows.items) self.old) }
-        ensures err { OnErr result (self.new ≡ self.old) }
+    // Puts back what stood at a key.
+    fn restore(&mut self, backup: Backup)
+        ensures { (k : Key)
+            → map.get self.new k ≡ cond (eq_by_cmp key_cmp k (backup_key backup)) (put_back backup.entry (map.get self.old k)) (map.get self.old k) }
     {
-        make_rooms(&mut self.shelves, self.alloc, &rows)?;
-        // No memory has room for more keys than a usize counts.
-        if self.len.checked_add(rows.len()).is_none() {
-            return Err(NoMemory);
+        if restore(&mut self.shelves, backup) {
+            self.len -= 1;
         }
-        self.len += fill_all(&mut self.shelves, rows);
-        Ok(())
     }
 
     /// Whether each entry here is at most the other's of its archive and original: of a lesser
@@ -265,39 +265,37 @@ impl State {
     {
         for row in self.rows() {
             let ((archive, original), entry) = row;
-            if !other.has_at_least(archive, original, entry.latest()) {
+            if !other.has_at_least(archive, original, entry) {
                 return false;
             }
         }
         true
     }
 
-    fn has_at_least(&self, archive: ArchiveName, original: &Original, latest: &Latest) -> bool
-        ensures { IsTrue result ↔ IsAtMostAt self.now ((archive, original.now), latest.now) }
+    fn has_at_least(&self, archive: ArchiveName, original: &Original, entry: &Entry) -> bool
+        ensures { IsTrue result ↔ IsAtMostAt self.now ((archive, original.now), entry.now) }
     {
         match self.entry(archive, original) {
-            Some(entry) => latest.le(entry.latest()),
+            Some(standing) => entry.le(standing),
             None => false,
         }
     }
 
-    /// The same state once more.
+    /// A copy.
     pub fn try_clone(&self) -> Result<State, NoMemory>
         ensures { IfOk result (λ copy. copy ≡ self.now) }
     {
         let mut copy = State::new(self.alloc);
-        copy.join(self)?;
+        let changes = copy.changes(self)?;
+        copy.join_rows(changes.into_rows())?;
         Ok(copy)
     }
 
     /// Takes time logarithmic in the number of keys.
-    pub fn entry(&self, archive: ArchiveName, original: &Original) -> Option<Entry<'_>>
-        ensures { result ≡ map.get self.now (archive, original.now) }
+    pub fn entry(&self, archive: ArchiveName, original: &Original) -> Option<&Entry>
+        ensures { option_copied result ≡ map.get self.now (archive, original.now) }
     {
-        match held(&self.shelves, archive, original) {
-            Some(latest) => Some(Entry::new(latest)),
-            None => None,
-        }
+        entry_at(&self.shelves, archive, original)
     }
 
     /// How many archives and originals have an entry.
@@ -319,8 +317,10 @@ impl State {
         requires { k < map.len self.now }
         ensures { slice_get (map.keys self.now) k ≡ Some (result.0, result.1.now) }
     {
-        let (key, _) = self.rows().nth(k).unwrap();
-        key
+        match self.rows().nth(k) {
+            Some((key, _)) => key,
+            None => unreachable!(),
+        }
     }
 
     /// The entries by archive, then original.
@@ -336,7 +336,6 @@ impl State {
     pub fn shown(&self, original: &Original) -> Result<Vec<Memento>, NoMemory>
         ensures { IfOk result (λ list. list.items ≡ set.items (shown_of self.now original.now)) }
     {
-        let list = shown_in(&self.shelves, self.alloc, original)?;
-        Ok(list)
+        collect_shown(&self.shelves, self.alloc, original)
     }
 }

@@ -1,4 +1,6 @@
 //! Sockets that take connections.
+ghost use Rattle.std.specs.Prelude.{◌≡◌, ◌⊎◌, IfErr};
+
 use crate::faults::EdgeFault;
 use std::alloc::AllocGlobal;
 use std::net::{Net, ToSocketAddrs};
@@ -17,7 +19,9 @@ pub struct Bound {
 
 impl Bound {
     /// The port that was bound.
-    pub fn port(&self) -> u16 {
+    pub fn port(&self) -> u16
+        ensures { result ≡ self.now.port }
+    {
         self.port
     }
 }
@@ -26,6 +30,7 @@ impl Bound {
 pub fn bind<R>(rt: &R, address: &str) -> Result<Bound, EdgeFault>
 where
     R: Clock + Net + RandomSource + AllocGlobal,
+    ensures cause { IfErr result (λ fault. (fault ≡ EdgeFault.Bind) ⊎ (fault ≡ EdgeFault.NoMemory)) }
 {
     let runtime = LocalRuntime::new(rt).map_err(|error| EdgeFault::of_binding(&error))?;
     let addresses = address

@@ -20,7 +20,8 @@ use std::time::Clock;
 use tokio::io::{AsyncRead, AsyncWrite};
 use tokio::net;
 use tokio::runtime::LocalRuntime;
-use url::{ParseError, Position, Url};
+use url::{Position, Url};
+use url_texts::read_url;
 
 /// What is fetched by GET over a fresh connection; a body over `most` bytes is TooLong. An https URL is Failed.
 pub(crate) fn get<R>(rt: &R, url: &str, most: usize) -> Result<Answer, FetchFault>
@@ -29,10 +30,8 @@ where
     ensures { IfOk result (λ answer. length answer.body ≤ most) }
 {
     let alloc = rt.alloc();
-    let address = match Url::parse(alloc, url) {
-        Ok(address) => address,
-        Err(ParseError::OutOfMemory | ParseError::Overflow) => return Err(FetchFault::NoMemory),
-        Err(_) => return Err(FetchFault::Failed),
+    let Some(address) = read_url(alloc, url).map_err(|_| FetchFault::NoMemory)? else {
+        return Err(FetchFault::Failed);
     };
     let request = request_for(alloc, url, &address)?;
     let mut runtime = LocalRuntime::new(rt).map_err(|error| fault_of(&error))?;

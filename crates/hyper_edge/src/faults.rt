@@ -1,5 +1,5 @@
 //! Why a call at the edge gives nothing.
-ghost use Rattle.std.specs.Prelude.{◌≡◌, Some};
+ghost use Rattle.std.specs.Prelude.{◌≡◌, ◌⊎◌, Some};
 ghost use Rattle.hyper_edge.specs.Faults.{edge_words, form_words, pull_words, respond_words};
 
 use harvester::FetchFault;
@@ -158,12 +158,20 @@ impl From<FormFault> for RespondFault {
 }
 
 impl From<AllocError> for EdgeFault {
+    ghost use Rattle.hyper_edge.specs.declared.faults.EdgeFault.TheVariants.{NoMemory as OutOfMemory};
+
+    ghost from_gives = { λ _ fault. fault ≡ OutOfMemory };
+
     fn from(_refused: AllocError) -> EdgeFault {
         EdgeFault::NoMemory
     }
 }
 
 impl From<NoMemory> for EdgeFault {
+    ghost use Rattle.hyper_edge.specs.declared.faults.EdgeFault.TheVariants.{NoMemory as OutOfMemory};
+
+    ghost from_gives = { λ _ fault. fault ≡ OutOfMemory };
+
     fn from(_refused: NoMemory) -> EdgeFault {
         EdgeFault::NoMemory
     }
@@ -171,7 +179,9 @@ impl From<NoMemory> for EdgeFault {
 
 impl EdgeFault {
     /// Why an address wasn't bound.
-    pub(crate) fn of_binding(error: &io::Error) -> EdgeFault {
+    pub(crate) fn of_binding(error: &io::Error) -> EdgeFault
+        ensures { (result ≡ EdgeFault.Bind) ⊎ (result ≡ EdgeFault.NoMemory) }
+    {
         match error.kind() {
             io::ErrorKind::OutOfMemory => EdgeFault::NoMemory,
             _ => EdgeFault::Bind,
@@ -179,7 +189,9 @@ impl EdgeFault {
     }
 
     /// Why no connection was accepted.
-    pub(crate) fn of_accepting(error: &io::Error) -> EdgeFault {
+    pub(crate) fn of_accepting(error: &io::Error) -> EdgeFault
+        ensures { (result ≡ EdgeFault.Accept) ⊎ (result ≡ EdgeFault.NoMemory) }
+    {
         match error.kind() {
             io::ErrorKind::OutOfMemory => EdgeFault::NoMemory,
             _ => EdgeFault::Accept,
@@ -188,6 +200,11 @@ impl EdgeFault {
 }
 
 impl From<FetchFault> for PullFault {
+    ghost use Rattle.std.specs.Prelude.{◌≢◌};
+    ghost use Rattle.hyper_edge.specs.declared.faults.PullFault.TheVariants.{Status};
+
+    ghost from_gives = { λ _ fault. fault ≢ Status 200 };
+
     fn from(fault: FetchFault) -> PullFault {
         match fault {
             FetchFault::Failed => PullFault::Failed,
@@ -198,6 +215,11 @@ impl From<FetchFault> for PullFault {
 }
 
 impl From<StateFault> for PullFault {
+    ghost use Rattle.std.specs.Prelude.{◌≢◌};
+    ghost use Rattle.hyper_edge.specs.declared.faults.PullFault.TheVariants.{Status};
+
+    ghost from_gives = { λ _ fault. fault ≢ Status 200 };
+
     fn from(fault: StateFault) -> PullFault {
         match fault {
             StateFault::TooLong | StateFault::NotState => PullFault::BadState,

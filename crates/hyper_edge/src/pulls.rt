@@ -1,4 +1,7 @@
 //! Pulls the states of peers.
+ghost use Rattle.std.specs.Prelude.{◌≢◌, ◌≤◌, IfErr, IfOk, length};
+ghost use Rattle.replica_exchange.specs.StateText.{IsState, state_text};
+
 use crate::exchanges::get;
 use crate::faults::PullFault;
 use harvest_lattice::State;
@@ -17,6 +20,9 @@ const MAX_STATE: usize = 268_435_456;
 pub fn pull_state<R>(rt: &R, peer: &Clean) -> Result<State, PullFault>
 where
     R: Wait + Clock + Net<Listener = TcpListener, Stream = TcpStream> + RandomSource + AllocGlobal,
+    ensures state { IfOk result IsState }
+    ensures bounded { IfOk result (λ state. length (state_text state) ≤ 268435456) }
+    ensures status { IfErr result (λ fault. fault ≢ PullFault.Status 200) }
 {
     let alloc = rt.alloc();
     let url = state_url(alloc, peer)?;
@@ -28,7 +34,9 @@ where
     Ok(state)
 }
 
-fn state_url(alloc: Global, peer: &Clean) -> Result<String, PullFault> {
+fn state_url(alloc: Global, peer: &Clean) -> Result<String, PullFault>
+    ensures { IfErr result (λ fault. fault ≢ PullFault.Status 200) }
+{
     let Ok(base) = str::from_utf8(peer.as_bytes()) else {
         return Err(PullFault::Failed);
     };

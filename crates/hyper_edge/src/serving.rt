@@ -1,4 +1,6 @@
 //! Serves a gate over a socket.
+ghost use Rattle.std.specs.Prelude.{◌≡◌, ◌≤◌, ◌⊎◌, IfErr, IfOk};
+
 use crate::answers::Answers;
 use crate::binding::Bound;
 use crate::faults::EdgeFault;
@@ -30,6 +32,8 @@ pub fn serve_gate<R, G>(
 where
     R: Wait + Clock + RandomSource + AllocGlobal + Clone + Drop,
     G: Answers,
+    ensures counted { IfOk result (λ faults. faults ≤ connections) }
+    ensures cause { IfErr result (λ fault. (fault ≡ EdgeFault.Accept) ⊎ (fault ≡ EdgeFault.NoMemory)) }
 {
     let keys = RandomState::new(rt).map_err(|error| EdgeFault::of_accepting(&error))?;
     let timers = bound.runtime.handle().time().clone()?;
@@ -61,6 +65,7 @@ where
     G: Answers,
     I: AsyncRead + AsyncWrite,
     T: Timer,
+    ensures { IfErr result (λ fault. (fault ≡ EdgeFault.Accept) ⊎ (fault ≡ EdgeFault.NoMemory)) }
 {
     let connection = http.serve_connection(stream, service);
     let ended = runtime

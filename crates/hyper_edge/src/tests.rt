@@ -54,12 +54,12 @@ impl Answers for Echo {
 fn fetch_from_echo<R>(rt: &R, refuses: bool) -> Result<Answer, Fail>
 where
     R: Wait
-        + Threads
-        + Abort
         + Clock
         + Net<Listener = TcpListener, Stream = TcpStream>
         + RandomSource
         + AllocGlobal
+        + Threads
+        + Abort
         + Sync
         + Clone
         + Drop,

@@ -62,11 +62,11 @@ fn unquote(alloc: Global, text: &[u8]) -> Result<Vec<u8>, AllocError>
 }
 
 /// The bytes that a value says: a part of the text, or a copy where something in it is escaped.
-pub(crate) fn shown(
+pub(crate) fn value_bytes(
     alloc: Global,
     value: Option<ValueSpan<'_>>,
 ) -> Result<CowSlice<'_, u8, Global>, AllocError>
-    ensures { IfOk result (λ shown. cow_slice_items shown
+    ensures { IfOk result (λ bytes. cow_slice_items bytes
         ≡ value_or_empty (option_map meant_bytes value.entry)) }
 {
     match value {
@@ -77,7 +77,7 @@ pub(crate) fn shown(
 }
 
 /// The first parameter of this name.
-pub(crate) fn first_named<'a>(text: &'a [u8], name: &[u8]) -> Option<ParamSpan<'a>>
+pub(crate) fn find_param<'a>(text: &'a [u8], name: &[u8]) -> Option<ParamSpan<'a>>
     ensures none { IfNone result (first_value name.now (params_of text.now) ≡ None) }
     ensures some { IfSome result (λ found. first_value name.now (params_of text.now)
         ≡ Some (value_or_empty (option_map meant_bytes found.value))) }

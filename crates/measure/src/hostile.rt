@@ -1,10 +1,10 @@
 //! Taking in the state that another replica sent.
-use anyhow::{Result, bail};
+use anyhow::Result;
 use memento_index::{Index, Merge};
 use replica_exchange::read_state;
 use std::alloc::Global;
 
-/// Reads the text so many times, and has an index of nothing absorb each state that it is.
+/// Reads the text `count` times, and has an index of nothing absorb each state that it is.
 pub(crate) fn read_and_absorb<R: Print + AllocGlobal>(
     rt: &R,
     text: &[u8],
@@ -12,10 +12,7 @@ pub(crate) fn read_and_absorb<R: Print + AllocGlobal>(
 ) -> Result<()> {
     let alloc: Global = rt.alloc();
     for _ in 0..count {
-        let state = match read_state(alloc, text) {
-            Ok(state) => state,
-            Err(fault) => bail!("{fault}"),
-        };
+        let state = read_state(alloc, text)?;
         let mut index = Index::new(alloc);
         index.absorb(&Merge::State(state))?;
         let keys = index.state().len();

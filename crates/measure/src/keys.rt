@@ -1,5 +1,5 @@
 //! Merging many keys, one by one.
-use anyhow::{Context, Result, bail};
+use anyhow::{Context, Result};
 use harvest_lattice::{Harvest, State};
 use memento_time::{ArchiveName, Clean, Memento, Moment, Original};
 use std::alloc::Global;
@@ -7,20 +7,11 @@ use std::alloc::Global;
 /// The harvest of one memento of the original of this number.
 fn harvest(alloc: Global, archive: ArchiveName, number: u32) -> Result<Harvest> {
     let text = format!(in alloc; "http://a.example/{number}")?;
-    let original = match Original::new(alloc, text.as_bytes()) {
-        Ok(original) => original,
-        Err(fault) => bail!("{fault}"),
-    };
-    let uri = match Clean::new(alloc, text.as_bytes()) {
-        Ok(uri) => uri,
-        Err(fault) => bail!("{fault}"),
-    };
+    let original = Original::new(alloc, text.as_bytes())?;
+    let uri = Clean::new(alloc, text.as_bytes())?;
     let at = Moment::from_secs(u64::from(number)).context("too late")?;
     let mementos = vec![in alloc; Memento { at, uri }]?;
-    match Harvest::new(archive, &original, 1, mementos) {
-        Ok(harvest) => Ok(harvest),
-        Err(fault) => bail!("{fault}"),
-    }
+    Ok(Harvest::new(archive, &original, 1, mementos)?)
 }
 
 /// Merges one memento for each of `count` originals into a state, and prints how many keys it has then.

@@ -1,5 +1,5 @@
 //! Reading the links of a page.
-use anyhow::{Result, bail};
+use anyhow::Result;
 use link_format::{Links, read_links};
 use std::alloc::{AllocError, Global};
 
@@ -34,10 +34,7 @@ fn counts_of(links: &Links<'_>) -> Result<Counts, AllocError> {
 pub(crate) fn read<R: Print + AllocGlobal>(rt: &R, page: &[u8], count: u32) -> Result<()> {
     let alloc: Global = rt.alloc();
     for _ in 0..count {
-        let links = match read_links(alloc, page) {
-            Ok(links) => links,
-            Err(fault) => bail!("{fault}"),
-        };
+        let links = read_links(alloc, page)?;
         let Counts {
             links,
             targets,

@@ -1,5 +1,5 @@
 //! Filling an index, to see how much memory it takes.
-use anyhow::{Context, Result, bail};
+use anyhow::{Context, Result};
 use harvest_lattice::Harvest;
 use memento_index::{Index, Merge};
 use memento_time::{ArchiveName, Clean, Memento, Moment, Original};
@@ -7,44 +7,36 @@ use std::alloc::Global;
 
 const ARCHIVES: [&str; 3] = ["one.example", "other.example", "third.example"];
 
-/// So many mementos from a number on, with addresses of 60 bytes.
+/// `count` mementos from a number on, with addresses of 60 bytes.
 fn mementos(alloc: Global, first: u32, count: u32) -> Result<Vec<Memento>> {
     let mut list = Vec::new(alloc);
     for number in first..first.saturating_add(count) {
         let text = format!(in alloc;
             "http://web.archive.example/20010203040506/http://a.ex/{number:06}"
         )?;
-        let uri = match Clean::new(alloc, text.as_bytes()) {
-            Ok(uri) => uri,
-            Err(fault) => bail!("{fault}"),
-        };
+        let uri = Clean::new(alloc, text.as_bytes())?;
         let at = Moment::from_secs(u64::from(number)).context("too late")?;
         list.push(Memento { at, uri })?;
     }
     Ok(list)
 }
 
-/// An index of so many mementos, ten of each original, three of them from each of three archives and the tenth from
+/// An index of `count` mementos, ten of each original, three of them from each of three archives and the tenth from
 /// the last. Prints how many keys it has then.
 pub(crate) fn fill<R: Print + AllocGlobal>(rt: &R, count: u32) -> Result<()> {
     let alloc: Global = rt.alloc();
     let mut index = Index::new(alloc);
     for number in 0..count / 10 {
         let text = format!(in alloc; "http://a.example/{number}")?;
-        let original = match Original::new(alloc, text.as_bytes()) {
-            Ok(original) => original,
-            Err(fault) => bail!("{fault}"),
-        };
+        let original = Original::new(alloc, text.as_bytes())?;
         let mut first = number * 10;
         for name in ARCHIVES {
             let archive = ArchiveName::new(name.as_bytes()).context("no name")?;
             let share = if name == "third.example" { 4 } else { 3 };
             let list = mementos(alloc, first, share)?;
             first = first.saturating_add(share);
-            match Harvest::new(archive, &original, 1, list) {
-                Ok(harvest) => index.absorb(&Merge::Harvest(harvest))?,
-                Err(fault) => bail!("{fault}"),
-            }
+            let harvest = Harvest::new(archive, &original, 1, list)?;
+            index.absorb(&Merge::Harvest(harvest))?;
         }
     }
     let keys = index.state().len();

@@ -1,5 +1,5 @@
 //! Reading what a page says.
-use anyhow::{Result, bail};
+use anyhow::Result;
 use std::alloc::Global;
 use timemap_reader::read_page;
 
@@ -7,10 +7,7 @@ use timemap_reader::read_page;
 pub(crate) fn read<R: Print + AllocGlobal>(rt: &R, body: &[u8], count: u32) -> Result<()> {
     let alloc: Global = rt.alloc();
     for _ in 0..count {
-        let page = match read_page(alloc, "http://arc.example/list", body) {
-            Ok(page) => page,
-            Err(fault) => bail!("{fault}"),
-        };
+        let page = read_page(alloc, "http://arc.example/list", body)?;
         let mementos = page.mementos.as_slice().len();
         let further = page.further.as_slice().len();
         let dropped = page.dropped;

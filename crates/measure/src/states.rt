@@ -1,5 +1,5 @@
 //! Reading and writing the text of a state.
-use anyhow::{Result, bail};
+use anyhow::Result;
 use replica_exchange::{read_state, write_state};
 use std::alloc::Global;
 
@@ -11,10 +11,7 @@ pub(crate) fn read_and_write<R: Print + AllocGlobal>(
 ) -> Result<()> {
     let alloc: Global = rt.alloc();
     for _ in 0..count {
-        let state = match read_state(alloc, text) {
-            Ok(state) => state,
-            Err(fault) => bail!("{fault}"),
-        };
+        let state = read_state(alloc, text)?;
         let written = write_state(alloc, &state)?.len();
         println!(rt; "{written}")?;
     }

@@ -62,7 +62,7 @@ fn pages(alloc: Global) -> Result<MemoryFetch> {
     Ok(fetch)
 }
 
-/// Walks over the pages so many times.
+/// Walks over the pages `count` times.
 pub(crate) fn walk_pages<R>(rt: &R, count: u32) -> Result<()>
 where
     R: Print
@@ -105,7 +105,7 @@ where
     Ok(mementos)
 }
 
-/// Fetches and reads the same pages so many times, and does no more with them.
+/// Fetches and reads the same pages `count` times, and does no more with them.
 pub(crate) fn read_pages<R>(rt: &R, count: u32) -> Result<()>
 where
     R: Print

@@ -1,9 +1,8 @@
 -- Two columns of one length.
-use Rattle.std.proofs.Common.{◌≡◌, ℕ, suc, List, [], ◌∷◌, ◌++◌, map, length, refl, sym, ap, ◌∙◌, arith}
+use Rattle.std.proofs.Common.{◌≡◌, ℕ, suc, List, [], ◌∷◌, ◌++◌, length, refl, ap, arith}
 use Rattle.memento_time.specs.declared.mementos.Memento.{Memento}
 use Rattle.memento_index.specs.Counts.{mementos_of}
 use Rattle.memento_index.specs.Tallies.{beside}
-use Rattle.memento_index.specs.declared.counted.Counted.{Counted}
 
 pub beside-append : (ms : List Memento) (ns : List ℕ) (m : Memento) (n : ℕ) → length ms ≡ length ns → beside (ms ++ m ∷ []) (ns ++ n ∷ []) ≡ beside ms ns ++ record { memento = m; count = n } ∷ []
 beside-append [] [] m n h = refl

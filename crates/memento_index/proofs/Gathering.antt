@@ -10,51 +10,52 @@ use Rattle.std.specs.BTreeMap.{is_at}
 use Rattle.std.specs.Option.{MatchOption}
 use Rattle.std.specs.Cmp.{eq_by_cmp_equiv, Equal-is, tied_itself}
 use Rattle.std.specs.Cmp.Lexicographic.{nat_list_cmp_total}
-use Rattle.std.proofs.lemmas.Bool.{true≢false, cases_lt, eq-eqb}
+use Rattle.std.proofs.lemmas.Bool.{cases_lt}
 use Rattle.std.proofs.lemmas.Bool.Decides.{nat_tests}
 use Rattle.std.proofs.lemmas.List.{take_more}
 use Rattle.std.specs.List.{list_any, slice_get}
 use Rattle.memento_time.specs.Mementos.{text_cmp, memento_cmp}
 use Rattle.memento_time.specs.declared.mementos.Memento.{Memento}
-use Rattle.memento_time.proofs.MementoLemmas.{memento_cmp_total, memento_cmp_exact}
+use Rattle.memento_time.proofs.MementoLemmas.{memento_cmp_exact}
 use Rattle.harvest_lattice.specs.Sets as set
-use Rattle.harvest_lattice.specs.Lattice.{Key, Kept, Mementos, Entries, IsAtMostAt, KeptAtMost, join_kept, joined_kept}
+use Rattle.harvest_lattice.specs.Lattice.{Key, Kept, Mementos, Entries, IsAtMostAt, KeptAtMost, join_at}
 use Rattle.harvest_lattice.specs.News.{AreApart, IsFresh, IsNews}
 use Rattle.harvest_lattice.specs.Rows.{row_entry}
 use Rattle.harvest_lattice.specs.declared.row.Row.{Row}
 use Rattle.harvest_lattice.proofs.Sets.{items_sorted}
 use Rattle.harvest_lattice.proofs.Entries.{contains-join_kept}
-use Rattle.harvest_lattice.proofs.RowLemmas.{joined_there, joined_alone, map_push}
+use Rattle.harvest_lattice.proofs.RowLemmas.{map_push}
+use Rattle.memento_index.proofs.Puts.{joined_there, joined_alone}
 use Rattle.harvest_lattice.proofs.ShelfLemmas.{same_text}
 use Rattle.harvest_lattice.proofs.Walked.{value_at}
 use Rattle.memento_index.specs.declared.counted.Step.{Step}
-use Rattle.memento_index.specs.Counts.{once, held, begun, ceased}
+use Rattle.memento_index.specs.Counts.{once, occurrences, beginnings, endings}
 use Rattle.memento_index.specs.Showing.{shows_one, showing_by, shown_before, shown_after}
 use Rattle.memento_index.specs.Lists.{StepLists, steps_of, AreNews, IsNewsAt, IsShifted, AreGathered}
 
 -- ---- a set's members in order stand once each
 
-none_held : (m : Memento) (ms : List Memento) → AllByRecursion (λ n. memento_cmp m n ≡ Less) ms → held ms m ≡ 0
+none_held : (m : Memento) (ms : List Memento) → AllByRecursion (λ n. memento_cmp m n ≡ Less) ms → occurrences ms m ≡ 0
 none_held m [] h = refl
 none_held m (n ∷ ms) h =
     let rest = none_held m ms h.1 in
     let not : once m n ≡ 0 = ap (λ o. cond (is_eq o) 1 0) h.0 in
     omega (arith, rest, not)
 
-held_any : (ms : List Memento) → IsStrictlySortedBy memento_cmp ms → (m : Memento) → held ms m ≡ cond (list_any (eq_by_cmp memento_cmp m) ms) 1 0
+held_any : (ms : List Memento) → IsStrictlySortedBy memento_cmp ms → (m : Memento) → occurrences ms m ≡ cond (list_any (eq_by_cmp memento_cmp m) ms) 1 0
 unfolding IsStrictlySortedBy
 held_any [] h m = refl
 held_any (n ∷ ms) h m =
     let rest = held_any ms h.1 m in
-    elim (eq_by_cmp memento_cmp m n) as (λ b. eq_by_cmp memento_cmp m n ≡ b → cond b 1 0 + held ms m ≡ cond (b || list_any (eq_by_cmp memento_cmp m) ms) 1 0) [
+    elim (eq_by_cmp memento_cmp m n) as (λ b. eq_by_cmp memento_cmp m n ≡ b → cond b 1 0 + occurrences ms m ≡ cond (b || list_any (eq_by_cmp memento_cmp m) ms) 1 0) [
       | true ↦ λ t.
           let same : m ≡ n = memento_cmp_exact m n ((Equal-is (memento_cmp m n)).0 t) in
-          let none : held ms m ≡ 0 = ap (held ms) same ∙ none_held n ms h.0 in
+          let none : occurrences ms m ≡ 0 = ap (occurrences ms) same ∙ none_held n ms h.0 in
           omega (arith, none)
       | false ↦ λ _. omega (arith, rest)
     ] refl
 
-pub held_items : (s : Mementos) (m : Memento) → held (set.items s) m ≡ cond (set.contains s m) 1 0
+pub held_items : (s : Mementos) (m : Memento) → occurrences (set.items s) m ≡ cond (set.contains s m) 1 0
 held_items s m = held_any (set.items s) (items_sorted memento_cmp s) m ∙ ap (λ b. cond b 1 0) (sym (fmap.contains_key-keys s m))
 
 -- ---- what an entry makes of the one that stands at its key
@@ -69,9 +70,9 @@ newer a e false true lt = grind (arith, nat_tests)
 newer a e false false lt = grind (arith, nat_tests)
 
 -- beside what is held at its revision
-pub comes_beside : (x : Entries) (e : Key × Kept) (a : Kept) → fmap.get x e.0 ≡ Some a → a.revision ≡ e.1.revision → IsNewsAt x e → (m : Memento) → shows_one (Some (joined_kept x e)) m + 0 ≡ shows_one (fmap.get x e.0) m + held (set.items e.1.mementos) m
+pub comes_beside : (x : Entries) (e : Key × Kept) (a : Kept) → fmap.get x e.0 ≡ Some a → a.revision ≡ e.1.revision → IsNewsAt x e → (m : Memento) → shows_one (Some (join_at x e)) m + 0 ≡ shows_one (fmap.get x e.0) m + occurrences (set.items e.1.mementos) m
 comes_beside x e a there same news m =
-    let joined : set.contains (joined_kept x e).mementos m ≡ (set.contains a.mementos m || set.contains e.1.mementos m) = ap (λ (k : Kept). set.contains k.mementos m) (joined_there x e a there) ∙ (contains-join_kept a e.1 m ∙ united a.revision e.1.revision (set.contains a.mementos m) (set.contains e.1.mementos m) same) in
+    let joined : set.contains (join_at x e).mementos m ≡ (set.contains a.mementos m || set.contains e.1.mementos m) = ap (λ (k : Kept). set.contains k.mementos m) (joined_there x e a there) ∙ (contains-join_kept a e.1 m ∙ united a.revision e.1.revision (set.contains a.mementos m) (set.contains e.1.mementos m) same) in
     let apart : AreApart a.mementos e.1.mementos = (subst (λ (o : Option Kept). IfSome o (λ k. k.revision ≡ e.1.revision → AreApart k.mementos e.1.mementos)) there news.1) same in
     let after = ap (λ b. cond {A = ℕ} b 1 0) joined in
     let before = ap (λ (o : Option Kept). shows_one o m) there in
@@ -84,38 +85,38 @@ comes_beside x e a there same news m =
     sum_of false q apart = omega arith
 
 -- or in the place of what is held at a lesser one
-pub takes_place : (x : Entries) (e : Key × Kept) (a : Kept) → fmap.get x e.0 ≡ Some a → (a.revision ≡ e.1.revision → ⊥) → IsNewsAt x e → (m : Memento) → shows_one (Some (joined_kept x e)) m + held (set.items a.mementos) m ≡ shows_one (fmap.get x e.0) m + held (set.items e.1.mementos) m
+pub takes_place : (x : Entries) (e : Key × Kept) (a : Kept) → fmap.get x e.0 ≡ Some a → (a.revision ≡ e.1.revision → ⊥) → IsNewsAt x e → (m : Memento) → shows_one (Some (join_at x e)) m + occurrences (set.items a.mementos) m ≡ shows_one (fmap.get x e.0) m + occurrences (set.items e.1.mementos) m
 takes_place x e a there other news m =
     let lt : a.revision < e.1.revision = elim (cases_lt a.revision e.1.revision) [
       | inl lt ↦ lt
       | inr ge ↦ absurd (news.0 (subst (λ (o : Option Kept). MatchOption o ⊥ (λ b. KeptAtMost e.1 b)) (sym there) (record { revision = ge; mementos = λ same. absurd (other (sym same)) })))
     ] in
-    let joined : set.contains (joined_kept x e).mementos m ≡ set.contains e.1.mementos m = ap (λ (k : Kept). set.contains k.mementos m) (joined_there x e a there) ∙ (contains-join_kept a e.1 m ∙ newer a.revision e.1.revision (set.contains a.mementos m) (set.contains e.1.mementos m) lt) in
+    let joined : set.contains (join_at x e).mementos m ≡ set.contains e.1.mementos m = ap (λ (k : Kept). set.contains k.mementos m) (joined_there x e a there) ∙ (contains-join_kept a e.1 m ∙ newer a.revision e.1.revision (set.contains a.mementos m) (set.contains e.1.mementos m) lt) in
     let after = ap (λ b. cond {A = ℕ} b 1 0) joined in
     let before = ap (λ (o : Option Kept). shows_one o m) there in
     omega (arith, after, before, held_items e.1.mementos m, held_items a.mementos m)
 
 -- or where nothing is held
-pub comes_alone : (x : Entries) (e : Key × Kept) → fmap.get x e.0 ≡ None → (m : Memento) → shows_one (Some (joined_kept x e)) m + 0 ≡ shows_one (fmap.get x e.0) m + held (set.items e.1.mementos) m
+pub comes_alone : (x : Entries) (e : Key × Kept) → fmap.get x e.0 ≡ None → (m : Memento) → shows_one (Some (join_at x e)) m + 0 ≡ shows_one (fmap.get x e.0) m + occurrences (set.items e.1.mementos) m
 comes_alone x e none m =
-    let after : shows_one (Some (joined_kept x e)) m ≡ shows_one (Some e.1) m = ap (λ (k : Kept). shows_one (Some k) m) (joined_alone x e none) in
+    let after : shows_one (Some (join_at x e)) m ≡ shows_one (Some e.1) m = ap (λ (k : Kept). shows_one (Some k) m) (joined_alone x e none) in
     let before = ap (λ (o : Option Kept). shows_one o m) none in
     omega (arith, after, before, held_items e.1.mementos m)
 
 -- ---- steps added
 
-begun-append : (ss ts : List Step) (m : Memento) → begun (ss ++ ts) m ≡ begun ss m + begun ts m
-begun-append [] ts m = omega arith
-begun-append (s ∷ ss) ts m = let rest = begun-append ss ts m in omega (arith, rest)
+beginnings-append : (ss ts : List Step) (m : Memento) → beginnings (ss ++ ts) m ≡ beginnings ss m + beginnings ts m
+beginnings-append [] ts m = omega arith
+beginnings-append (s ∷ ss) ts m = let rest = beginnings-append ss ts m in omega (arith, rest)
 
-ceased-append : (ss ts : List Step) (m : Memento) → ceased (ss ++ ts) m ≡ ceased ss m + ceased ts m
-ceased-append [] ts m = omega arith
-ceased-append (s ∷ ss) ts m = let rest = ceased-append ss ts m in omega (arith, rest)
+endings-append : (ss ts : List Step) (m : Memento) → endings (ss ++ ts) m ≡ endings ss m + endings ts m
+endings-append [] ts m = omega arith
+endings-append (s ∷ ss) ts m = let rest = endings-append ss ts m in omega (arith, rest)
 
-pub shifted : (x : Entries) (e : Key × Kept) (old more new : List Step) (before after : List Memento) → new ≡ old ++ more → ((m : Memento) → begun more m + held before m ≡ ceased more m + held after m) → ((m : Memento) → ceased more m ≤ held before m) → ((m : Memento) → shows_one (Some (joined_kept x e)) m + held before m ≡ shows_one (fmap.get x e.0) m + held after m) → ((m : Memento) → held before m ≤ shows_one (fmap.get x e.0) m) → IsShifted x e old new
+pub shifted : (x : Entries) (e : Key × Kept) (old more new : List Step) (before after : List Memento) → new ≡ old ++ more → ((m : Memento) → beginnings more m + occurrences before m ≡ endings more m + occurrences after m) → ((m : Memento) → endings more m ≤ occurrences before m) → ((m : Memento) → shows_one (Some (join_at x e)) m + occurrences before m ≡ shows_one (fmap.get x e.0) m + occurrences after m) → ((m : Memento) → occurrences before m ≤ shows_one (fmap.get x e.0) m) → IsShifted x e old new
 shifted x e old more new before after is counts shown replaced within = record {
-  counts = λ m. omega (arith, counts m, replaced m, within m, shown m, ap (λ (ss : List Step). begun ss m) is, ap (λ (ss : List Step). ceased ss m) is, begun-append old more m, ceased-append old more m);
-  shown = λ m. omega (arith, within m, shown m, ap (λ (ss : List Step). ceased ss m) is, ceased-append old more m);
+  counts = λ m. omega (arith, counts m, replaced m, within m, shown m, ap (λ (ss : List Step). beginnings ss m) is, ap (λ (ss : List Step). endings ss m) is, beginnings-append old more m, endings-append old more m);
+  shown = λ m. omega (arith, within m, shown m, ap (λ (ss : List Step). endings ss m) is, endings-append old more m);
 }
 
 -- ---- steps taken out and put back
@@ -135,8 +136,8 @@ by-append kept (e ∷ es) fs o m = let rest = by-append kept es fs o m in omega 
 
 pub none_gathered : (x : Entries) (all : StepLists) → ((o : List ℕ) → steps_of all o ≡ []) → AreGathered x [] all
 none_gathered x all none = record {
-  counts = λ o m. let steps = none o in omega (arith, ap (λ (ss : List Step). begun ss m) steps, ap (λ (ss : List Step). ceased ss m) steps);
-  shown = λ o m. omega (arith, ap (λ (ss : List Step). ceased ss m) (none o));
+  counts = λ o m. let steps = none o in omega (arith, ap (λ (ss : List Step). beginnings ss m) steps, ap (λ (ss : List Step). endings ss m) steps);
+  shown = λ o m. omega (arith, ap (λ (ss : List Step). endings ss m) (none o));
 }
 
 pub one_more_gathered : (x : Entries) (es : List (Key × Kept)) (e : Key × Kept) (was now : StepLists) → AreGathered x es was → IsShifted x e (steps_of was e.0.1) (steps_of now e.0.1) → ((o : List ℕ) → eq_by_cmp text_cmp e.0.1 o ≡ false → steps_of now o ≡ steps_of was o) → AreGathered x (es ++ e ∷ []) now
@@ -151,35 +152,35 @@ one_more_gathered x es e was now gathered here others = record {
     before-append : (o : List ℕ) (m : Memento) → shown_before x (es ++ e ∷ []) o m ≡ shown_before x es o m + (cond (eq_by_cmp text_cmp e.0.1 o) (shows_one (fmap.get x e.0) m) 0 + 0)
     before-append o m = by-append (λ f. fmap.get x f.0) es (e ∷ []) o m ∙ ap (λ b. shown_before x es o m + (cond b (shows_one (fmap.get x e.0) m) 0 + 0)) (alike o)
 
-    after-append : (o : List ℕ) (m : Memento) → shown_after x (es ++ e ∷ []) o m ≡ shown_after x es o m + (cond (eq_by_cmp text_cmp e.0.1 o) (shows_one (Some (joined_kept x e)) m) 0 + 0)
-    after-append o m = by-append (λ f. Some (joined_kept x f)) es (e ∷ []) o m ∙ ap (λ b. shown_after x es o m + (cond b (shows_one (Some (joined_kept x e)) m) 0 + 0)) (alike o)
+    after-append : (o : List ℕ) (m : Memento) → shown_after x (es ++ e ∷ []) o m ≡ shown_after x es o m + (cond (eq_by_cmp text_cmp e.0.1 o) (shows_one (Some (join_at x e)) m) 0 + 0)
+    after-append o m = by-append (λ f. Some (join_at x f)) es (e ∷ []) o m ∙ ap (λ b. shown_after x es o m + (cond b (shows_one (Some (join_at x e)) m) 0 + 0)) (alike o)
 
-    counts : (o : List ℕ) (m : Memento) → begun (steps_of now o) m + (shown_before x es o m + (cond (eq_by_cmp text_cmp e.0.1 o) (shows_one (fmap.get x e.0) m) 0 + 0)) ≡ ceased (steps_of now o) m + (shown_after x es o m + (cond (eq_by_cmp text_cmp e.0.1 o) (shows_one (Some (joined_kept x e)) m) 0 + 0))
+    counts : (o : List ℕ) (m : Memento) → beginnings (steps_of now o) m + (shown_before x es o m + (cond (eq_by_cmp text_cmp e.0.1 o) (shows_one (fmap.get x e.0) m) 0 + 0)) ≡ endings (steps_of now o) m + (shown_after x es o m + (cond (eq_by_cmp text_cmp e.0.1 o) (shows_one (Some (join_at x e)) m) 0 + 0))
     counts o m =
-        elim (eq_by_cmp text_cmp e.0.1 o) as (λ b. eq_by_cmp text_cmp e.0.1 o ≡ b → begun (steps_of now o) m + (shown_before x es o m + (cond b (shows_one (fmap.get x e.0) m) 0 + 0)) ≡ ceased (steps_of now o) m + (shown_after x es o m + (cond b (shows_one (Some (joined_kept x e)) m) 0 + 0))) [
+        elim (eq_by_cmp text_cmp e.0.1 o) as (λ b. eq_by_cmp text_cmp e.0.1 o ≡ b → beginnings (steps_of now o) m + (shown_before x es o m + (cond b (shows_one (fmap.get x e.0) m) 0 + 0)) ≡ endings (steps_of now o) m + (shown_after x es o m + (cond b (shows_one (Some (join_at x e)) m) 0 + 0))) [
           | true ↦ λ t.
               let at : IsShifted x e (steps_of was o) (steps_of now o) = subst (λ p. IsShifted x e (steps_of was p) (steps_of now p)) (same_text e.0.1 o t) here in
               omega (arith, at.counts m, gathered.counts o m)
           | false ↦ λ f.
               let same = others o f in
-              omega (arith, gathered.counts o m, ap (λ (ss : List Step). begun ss m) same, ap (λ (ss : List Step). ceased ss m) same)
+              omega (arith, gathered.counts o m, ap (λ (ss : List Step). beginnings ss m) same, ap (λ (ss : List Step). endings ss m) same)
         ] refl
 
-    shown : (o : List ℕ) (m : Memento) → ceased (steps_of now o) m ≤ shown_before x es o m + (cond (eq_by_cmp text_cmp e.0.1 o) (shows_one (fmap.get x e.0) m) 0 + 0)
+    shown : (o : List ℕ) (m : Memento) → endings (steps_of now o) m ≤ shown_before x es o m + (cond (eq_by_cmp text_cmp e.0.1 o) (shows_one (fmap.get x e.0) m) 0 + 0)
     shown o m =
-        elim (eq_by_cmp text_cmp e.0.1 o) as (λ b. eq_by_cmp text_cmp e.0.1 o ≡ b → ceased (steps_of now o) m ≤ shown_before x es o m + (cond b (shows_one (fmap.get x e.0) m) 0 + 0)) [
+        elim (eq_by_cmp text_cmp e.0.1 o) as (λ b. eq_by_cmp text_cmp e.0.1 o ≡ b → endings (steps_of now o) m ≤ shown_before x es o m + (cond b (shows_one (fmap.get x e.0) m) 0 + 0)) [
           | true ↦ λ t.
               let at : IsShifted x e (steps_of was o) (steps_of now o) = subst (λ p. IsShifted x e (steps_of was p) (steps_of now p)) (same_text e.0.1 o t) here in
               omega (arith, at.shown m, gathered.shown o m)
           | false ↦ λ f.
               let same = others o f in
-              omega (arith, gathered.shown o m, ap (λ (ss : List Step). ceased ss m) same)
+              omega (arith, gathered.shown o m, ap (λ (ss : List Step). endings ss m) same)
         ] refl
 
-    both : (o : List ℕ) (m : Memento) → begun (steps_of now o) m + (shown_before x es o m + (cond (eq_by_cmp text_cmp e.0.1 o) (shows_one (fmap.get x e.0) m) 0 + 0)) ≡ ceased (steps_of now o) m + (shown_after x es o m + (cond (eq_by_cmp text_cmp e.0.1 o) (shows_one (Some (joined_kept x e)) m) 0 + 0)) → begun (steps_of now o) m + shown_before x (es ++ e ∷ []) o m ≡ ceased (steps_of now o) m + shown_after x (es ++ e ∷ []) o m
+    both : (o : List ℕ) (m : Memento) → beginnings (steps_of now o) m + (shown_before x es o m + (cond (eq_by_cmp text_cmp e.0.1 o) (shows_one (fmap.get x e.0) m) 0 + 0)) ≡ endings (steps_of now o) m + (shown_after x es o m + (cond (eq_by_cmp text_cmp e.0.1 o) (shows_one (Some (join_at x e)) m) 0 + 0)) → beginnings (steps_of now o) m + shown_before x (es ++ e ∷ []) o m ≡ endings (steps_of now o) m + shown_after x (es ++ e ∷ []) o m
     both o m h = omega (arith, h, before-append o m, after-append o m)
 
-    less : (o : List ℕ) (m : Memento) → ceased (steps_of now o) m ≤ shown_before x es o m + (cond (eq_by_cmp text_cmp e.0.1 o) (shows_one (fmap.get x e.0) m) 0 + 0) → ceased (steps_of now o) m ≤ shown_before x (es ++ e ∷ []) o m
+    less : (o : List ℕ) (m : Memento) → endings (steps_of now o) m ≤ shown_before x es o m + (cond (eq_by_cmp text_cmp e.0.1 o) (shows_one (fmap.get x e.0) m) 0 + 0) → endings (steps_of now o) m ≤ shown_before x (es ++ e ∷ []) o m
     less o m h = omega (arith, h, before-append o m)
 
 -- ---- each row is news

@@ -2,6 +2,7 @@ pub mod Choice
 pub mod ListLemmas
 pub mod Halves
 pub mod Places
+pub mod Puts
 pub mod Showing
 pub mod Tallies
 pub mod Listed

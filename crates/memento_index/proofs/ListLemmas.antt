@@ -1,12 +1,10 @@
 -- The lists of an index.
-use Rattle.std.proofs.Common.{◌≡◌, ℕ, ◌+◌, ◌≤◌, Bool, true, false, cond, length, List, [], ◌∷◌, Option, Some, None, is_some, IsSome, IfSome, unwrap_or, ◌⊎◌, inl, inr, refl, sym, ap, subst, ◌∙◌, arith}
+use Rattle.std.proofs.Common.{◌≡◌, ℕ, ◌+◌, ◌≤◌, true, false, cond, length, List, [], ◌∷◌, Option, Some, None, is_some, IfSome, unwrap_or, ◌⊎◌, inl, inr, refl, sym, ap, subst, ◌∙◌, arith}
 use Rattle.std.specs.Map.{lookup, keys_of}
-use Rattle.std.specs.List.{AllByRecursion}
 use Rattle.std.specs.List.Sorted.{IsStrictlySortedBy}
 use Rattle.std.specs.Ordering.{eq_by_cmp, is_eq}
 use Rattle.std.specs.Cmp.{eq_by_cmp_equiv, tied_itself}
 use Rattle.std.specs.Cmp.Lexicographic.{nat_list_cmp_total}
-use Rattle.std.specs.declared.cmp.Ordering.TheVariants.{Less}
 use Rattle.std.specs.BTreeMap as tree
 use Rattle.std.specs.BTreeMap.{is_at}
 use Rattle.std.specs.FinMap as fmap
@@ -22,12 +20,12 @@ use Rattle.harvest_lattice.proofs.Entries.{same_mementos}
 use Rattle.harvest_lattice.proofs.ShelfLemmas.{same_text, none_after}
 use Rattle.memento_index.specs.declared.counted.Counted.{Counted}
 use Rattle.memento_index.specs.declared.counted.Step.{Step}
-use Rattle.memento_index.specs.Counts.{IsTally, count_of, begun, ceased, mementos_of, IsRecounted}
-use Rattle.memento_index.specs.Showing.{showing, showing_by, shown_before, shown_after}
+use Rattle.memento_index.specs.Counts.{IsTally, count_of, beginnings, mementos_of, IsRecounted}
+use Rattle.memento_index.specs.Showing.{showing, showing_by}
 use Rattle.memento_index.specs.Tallies.{Tallied}
 use Rattle.memento_index.specs.Lists.{Lists, StepLists, tally_in, tally_of, steps_of, Grows, HasRoom, HaveRoom, CanCount, IsCounted, AreGathered}
 use Rattle.memento_index.proofs.Showing.{join_shows, before-le, showing-le, shown_counts, not_shown_counts}
-use Rattle.memento_index.proofs.Tallies.{begun-le}
+use Rattle.memento_index.proofs.Tallies.{beginnings-le}
 use Rattle.memento_index.proofs.Listed.{tally_lists}
 
 -- a set is that of its own members in order
@@ -231,10 +229,10 @@ module _ (x news : Entries) (all : StepLists) (lists made : Lists) (counted : Is
     few = λ m. omega (arith, counts_made o m, showing-le x o m, few (tree.get text_cmp all o) (tree.get text_cmp made o) m (room o));
   }
     where
-      few : (s : Option (List Step)) (t : Option Tallied) (m : Memento) → IfSome s (λ steps. HasRoom keys t spare (length steps)) → keys + begun (unwrap_or s []) m ≤ 18446744073709551615
+      few : (s : Option (List Step)) (t : Option Tallied) (m : Memento) → IfSome s (λ steps. HasRoom keys t spare (length steps)) → keys + beginnings (unwrap_or s []) m ≤ 18446744073709551615
       few None t m h = omega arith
       few (Some steps) None m h = absurd h
-      few (Some steps) (Some t) m h = let most = h.2 in omega (arith, begun-le steps m, most)
+      few (Some steps) (Some t) m h = let most = h.2 in omega (arith, beginnings-le steps m, most)
 
   -- and once they are, the counts are those of the join
   pub counted_after : (y : Entries) (after : Lists) → y ≡ join x news → ((o : List ℕ) → IsRecounted (tally_of made o) (steps_of all o) (tally_of after o)) → IsCounted y after

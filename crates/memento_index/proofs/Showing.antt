@@ -1,24 +1,21 @@
 -- How many archives show a memento, before and after entries are joined.
-use Rattle.std.proofs.Common.{◌≡◌, ℕ, suc, ◌+◌, ◌<◌, ◌≤◌, Bool, true, false, cond, ◌&&◌, ◌||◌, map, length, List, [], ◌∷◌, ◌++◌, Option, Some, None, refl, sym, ap, subst, ◌∙◌, arith}
+use Rattle.std.proofs.Common.{◌≡◌, ℕ, ◌+◌, ◌<◌, ◌≤◌, Bool, true, false, cond, ◌&&◌, ◌||◌, map, length, List, [], ◌∷◌, Option, Some, None, refl, sym, ap, ◌∙◌, arith}
 use Rattle.std.specs.Prelude.{T}
-use Rattle.std.specs.declared.cmp.Ordering.{Ordering}
 use Rattle.std.specs.declared.cmp.Ordering.TheVariants.{Less, Equal, Greater}
 use Rattle.std.specs.List.{list_any}
 use Rattle.std.specs.Ordering.{eq_by_cmp, is_eq, is_lt}
-use Rattle.std.specs.Cmp.{IsTotalOrder}
 use Rattle.std.specs.FinMap as fmap
 use Rattle.std.specs.FinMap.Entries.{below_all, by_order, put}
 use Rattle.std.proofs.lemmas.Bool.{true≢false}
 use Rattle.memento_time.specs.Mementos.{text_cmp, memento_cmp}
 use Rattle.memento_time.specs.declared.mementos.Memento.{Memento}
 use Rattle.harvest_lattice.specs.Sets as set
-use Rattle.harvest_lattice.specs.Lattice.{Key, key_cmp, Kept, Entries, Mementos, join, joined_kept, joined_with}
+use Rattle.harvest_lattice.specs.Lattice.{Key, key_cmp, Kept, Entries, join}
 use Rattle.harvest_lattice.specs.Knowledge.{shown_of}
-use Rattle.harvest_lattice.specs.Rows.{put_all, or_else}
 use Rattle.harvest_lattice.proofs.Sets.{two_parts, both_parts, less_from, contains-empty}
 use Rattle.harvest_lattice.proofs.Entries.{key_cmp_total, key_cmp_exact}
-use Rattle.harvest_lattice.proofs.Knowledge.{contains-shown_of, same_key, below_none}
-use Rattle.harvest_lattice.proofs.RowLemmas.{get-put_all, put_joined, joined_sorted}
+use Rattle.harvest_lattice.proofs.Knowledge.{contains-shown_of, below_none}
+use Rattle.memento_index.proofs.Puts.{put_all, or_else, joined_with, get-put_all, put_joined, joined_sorted}
 use Rattle.memento_index.specs.Showing.{shows_one, showing_by, showing, shown_before, shown_after}
 
 -- one where the original is the entry's

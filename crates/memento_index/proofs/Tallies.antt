@@ -10,7 +10,7 @@ use Rattle.std.proofs.lemmas.List.{reverse-append}
 use Rattle.memento_time.specs.Mementos.{memento_cmp}
 use Rattle.memento_time.specs.declared.mementos.Memento.{Memento}
 use Rattle.memento_time.proofs.MementoLemmas.{memento_cmp_total, memento_cmp_exact}
-use Rattle.memento_index.specs.Counts.{whole, once, count_of, AreBelow, AreAbove, IsTally, begun, ceased, held}
+use Rattle.memento_index.specs.Counts.{whole, once, count_of, AreBelow, AreAbove, IsTally, beginnings, endings, occurrences}
 use Rattle.std.proofs.lemmas.List.{at_drop_more}
 use Rattle.std.proofs.lemmas.List.Sorted.{sum_by-IsPermutation}
 use Rattle.std.specs.List.{sum_by}
@@ -187,73 +187,73 @@ counts_last m a b old r p is x =
 
 -- ---- many steps
 
-pub begun-push : (ss : List Step) (s : Step) (x : Memento) → begun (ss ++ s ∷ []) x ≡ begun ss x + cond s.begins (once x s.memento) 0
-begun-push [] s x = omega arith
-begun-push (t ∷ ss) s x = let h = begun-push ss s x in omega (arith, h)
+pub beginnings-push : (ss : List Step) (s : Step) (x : Memento) → beginnings (ss ++ s ∷ []) x ≡ beginnings ss x + cond s.begins (once x s.memento) 0
+beginnings-push [] s x = omega arith
+beginnings-push (t ∷ ss) s x = let h = beginnings-push ss s x in omega (arith, h)
 
-pub ceased-push : (ss : List Step) (s : Step) (x : Memento) → ceased (ss ++ s ∷ []) x ≡ ceased ss x + cond s.begins 0 (once x s.memento)
-ceased-push [] s x = omega arith
-ceased-push (t ∷ ss) s x = let h = ceased-push ss s x in omega (arith, h)
+pub endings-push : (ss : List Step) (s : Step) (x : Memento) → endings (ss ++ s ∷ []) x ≡ endings ss x + cond s.begins 0 (once x s.memento)
+endings-push [] s x = omega arith
+endings-push (t ∷ ss) s x = let h = endings-push ss s x in omega (arith, h)
 
 pub once_itself : (m : Memento) → once m m ≡ 1
 once_itself m = ap (λ o. cond (is_eq o) 1 0) (tied_itself memento_cmp_total m)
 
 -- what is still to be counted of the steps, and what is counted now
 pub record IsBetween (all rest : List Step) (old now : List Counted) : Type 0 where
-  pub counts : (x : Memento) → count_of now x + (begun rest x + ceased all x) ≡ count_of old x + (begun all x + ceased rest x)
-  pub shown : (x : Memento) → ceased rest x ≤ count_of now x
-  pub few : (x : Memento) → count_of now x + begun rest x ≤ 18446744073709551615
+  pub counts : (x : Memento) → count_of now x + (beginnings rest x + endings all x) ≡ count_of old x + (beginnings all x + endings rest x)
+  pub shown : (x : Memento) → endings rest x ≤ count_of now x
+  pub few : (x : Memento) → count_of now x + beginnings rest x ≤ 18446744073709551615
 
-pub begun_step : (all ss rest : List Step) (s : Step) (old now after : List Counted) → ss ≡ rest ++ s ∷ [] → s.begins ≡ true → IsBetween all ss old now → ((x : Memento) → count_of after x ≡ count_of now x + once x s.memento) → IsBetween all rest old after
+pub begun_step : (all ss rest : List Step) (s : Step) (old now after : List Counted) → ss ≡ s ∷ rest → s.begins ≡ true → IsBetween all ss old now → ((x : Memento) → count_of after x ≡ count_of now x + once x s.memento) → IsBetween all rest old after
 begun_step all ss rest s old now after is begins between more = record {
   counts = λ x. omega (arith, between.counts x, more x, begun_is x, ceased_is x);
   shown = λ x. omega (arith, between.shown x, more x, ceased_is x);
   few = λ x. omega (arith, between.few x, more x, begun_is x);
 }
   where
-    begun_is : (x : Memento) → begun ss x ≡ begun rest x + once x s.memento
-    begun_is x = ap (λ (ts : List Step). begun ts x) is ∙ (begun-push rest s x ∙ ap (λ b. begun rest x + cond b (once x s.memento) 0) begins)
+    begun_is : (x : Memento) → beginnings ss x ≡ once x s.memento + beginnings rest x
+    begun_is x = ap (λ (ts : List Step). beginnings ts x) is ∙ ap (λ b. cond b (once x s.memento) 0 + beginnings rest x) begins
 
-    ceased_is : (x : Memento) → ceased ss x ≡ ceased rest x + 0
-    ceased_is x = ap (λ (ts : List Step). ceased ts x) is ∙ (ceased-push rest s x ∙ ap (λ b. ceased rest x + cond b 0 (once x s.memento)) begins)
+    ceased_is : (x : Memento) → endings ss x ≡ 0 + endings rest x
+    ceased_is x = ap (λ (ts : List Step). endings ts x) is ∙ ap (λ b. cond b 0 (once x s.memento) + endings rest x) begins
 
-pub ceased_step : (all ss rest : List Step) (s : Step) (old now after : List Counted) → ss ≡ rest ++ s ∷ [] → s.begins ≡ false → IsBetween all ss old now → ((x : Memento) → count_of after x + once x s.memento ≡ count_of now x) → IsBetween all rest old after
+pub ceased_step : (all ss rest : List Step) (s : Step) (old now after : List Counted) → ss ≡ s ∷ rest → s.begins ≡ false → IsBetween all ss old now → ((x : Memento) → count_of after x + once x s.memento ≡ count_of now x) → IsBetween all rest old after
 ceased_step all ss rest s old now after is begins between less = record {
   counts = λ x. omega (arith, between.counts x, less x, begun_is x, ceased_is x);
   shown = λ x. omega (arith, between.shown x, less x, ceased_is x);
   few = λ x. omega (arith, between.few x, less x, begun_is x);
 }
   where
-    begun_is : (x : Memento) → begun ss x ≡ begun rest x + 0
-    begun_is x = ap (λ (ts : List Step). begun ts x) is ∙ (begun-push rest s x ∙ ap (λ b. begun rest x + cond b (once x s.memento) 0) begins)
+    begun_is : (x : Memento) → beginnings ss x ≡ 0 + beginnings rest x
+    begun_is x = ap (λ (ts : List Step). beginnings ts x) is ∙ ap (λ b. cond b (once x s.memento) 0 + beginnings rest x) begins
 
-    ceased_is : (x : Memento) → ceased ss x ≡ ceased rest x + once x s.memento
-    ceased_is x = ap (λ (ts : List Step). ceased ts x) is ∙ (ceased-push rest s x ∙ ap (λ b. ceased rest x + cond b 0 (once x s.memento)) begins)
+    ceased_is : (x : Memento) → endings ss x ≡ once x s.memento + endings rest x
+    ceased_is x = ap (λ (ts : List Step). endings ts x) is ∙ ap (λ b. cond b 0 (once x s.memento) + endings rest x) begins
 
 -- the step in turn begins, so there is room to count it
-pub may_begin : (all ss rest : List Step) (s : Step) (old now : List Counted) → ss ≡ rest ++ s ∷ [] → s.begins ≡ true → IsBetween all ss old now → count_of now s.memento < 18446744073709551615
+pub may_begin : (all ss rest : List Step) (s : Step) (old now : List Counted) → ss ≡ s ∷ rest → s.begins ≡ true → IsBetween all ss old now → count_of now s.memento < 18446744073709551615
 may_begin all ss rest s old now is begins between =
     let few = between.few s.memento in
-    let push = ap (λ (ts : List Step). begun ts s.memento) is ∙ (begun-push rest s s.memento ∙ ap (λ b. begun rest s.memento + cond b (once s.memento s.memento) 0) begins) in
+    let push = ap (λ (ts : List Step). beginnings ts s.memento) is ∙ ap (λ b. cond b (once s.memento s.memento) 0 + beginnings rest s.memento) begins in
     omega (arith, few, push, once_itself s.memento)
 
 -- or it ceases, and it is counted
-pub may_cease : (all ss rest : List Step) (s : Step) (old now : List Counted) → ss ≡ rest ++ s ∷ [] → s.begins ≡ false → IsBetween all ss old now → 0 < count_of now s.memento
+pub may_cease : (all ss rest : List Step) (s : Step) (old now : List Counted) → ss ≡ s ∷ rest → s.begins ≡ false → IsBetween all ss old now → 0 < count_of now s.memento
 may_cease all ss rest s old now is begins between =
     let shown = between.shown s.memento in
-    let push = ap (λ (ts : List Step). ceased ts s.memento) is ∙ (ceased-push rest s s.memento ∙ ap (λ b. ceased rest s.memento + cond b 0 (once s.memento s.memento)) begins) in
+    let push = ap (λ (ts : List Step). endings ts s.memento) is ∙ ap (λ b. cond b 0 (once s.memento s.memento) + endings rest s.memento) begins in
     omega (arith, shown, push, once_itself s.memento)
 
 -- ---- a walk over two lists
 
-pub held_drop : (xs : List Memento) (i : ℕ) (d x : Memento) → i < length xs → held (drop i xs) x ≡ once x (get_or xs i d) + held (drop (i + 1) xs) x
-held_drop xs i d x lt = at_drop_more (λ (ys : List Memento). held ys x) xs i d lt
+pub held_drop : (xs : List Memento) (i : ℕ) (d x : Memento) → i < length xs → occurrences (drop i xs) x ≡ once x (get_or xs i d) + occurrences (drop (i + 1) xs) x
+held_drop xs i d x lt = at_drop_more (λ (ys : List Memento). occurrences ys x) xs i d lt
 
-pub begun_by : (old new : List Step) (m : Memento) (b : Bool) → new ≡ old ++ record { memento = m; begins = b } ∷ [] → (x : Memento) → begun new x ≡ begun old x + cond b (once x m) 0
-begun_by old new m b is x = ap (λ (ss : List Step). begun ss x) is ∙ begun-push old (record { memento = m; begins = b }) x
+pub begun_by : (old new : List Step) (m : Memento) (b : Bool) → new ≡ old ++ record { memento = m; begins = b } ∷ [] → (x : Memento) → beginnings new x ≡ beginnings old x + cond b (once x m) 0
+begun_by old new m b is x = ap (λ (ss : List Step). beginnings ss x) is ∙ beginnings-push old (record { memento = m; begins = b }) x
 
-pub ceased_by : (old new : List Step) (m : Memento) (b : Bool) → new ≡ old ++ record { memento = m; begins = b } ∷ [] → (x : Memento) → ceased new x ≡ ceased old x + cond b 0 (once x m)
-ceased_by old new m b is x = ap (λ (ss : List Step). ceased ss x) is ∙ ceased-push old (record { memento = m; begins = b }) x
+pub ceased_by : (old new : List Step) (m : Memento) (b : Bool) → new ≡ old ++ record { memento = m; begins = b } ∷ [] → (x : Memento) → endings new x ≡ endings old x + cond b 0 (once x m)
+ceased_by old new m b is x = ap (λ (ss : List Step). endings ss x) is ∙ endings-push old (record { memento = m; begins = b }) x
 
 -- ---- steps in another order
 
@@ -263,26 +263,26 @@ begins_one x s = cond s.begins (once x s.memento) 0
 ceases_one : Memento → Step → ℕ
 ceases_one x s = cond s.begins 0 (once x s.memento)
 
-begun_sum : (ss : List Step) (x : Memento) → begun ss x ≡ sum_by (begins_one x) ss
+begun_sum : (ss : List Step) (x : Memento) → beginnings ss x ≡ sum_by (begins_one x) ss
 unfolding begins_one
 begun_sum [] x = refl
 begun_sum (s ∷ ss) x = ap (λ n. cond s.begins (once x s.memento) 0 + n) (begun_sum ss x) ∙ sym (sum_by-cons (begins_one x) s ss)
 
-ceased_sum : (ss : List Step) (x : Memento) → ceased ss x ≡ sum_by (ceases_one x) ss
+ceased_sum : (ss : List Step) (x : Memento) → endings ss x ≡ sum_by (ceases_one x) ss
 unfolding ceases_one
 ceased_sum [] x = refl
 ceased_sum (s ∷ ss) x = ap (λ n. cond s.begins 0 (once x s.memento) + n) (ceased_sum ss x) ∙ sym (sum_by-cons (ceases_one x) s ss)
 
-pub begun-IsPermutation : (ss ts : List Step) (x : Memento) → IsPermutation ss ts → begun ts x ≡ begun ss x
-begun-IsPermutation ss ts x h = begun_sum ts x ∙ (sum_by-IsPermutation (begins_one x) ss ts h ∙ sym (begun_sum ss x))
+pub beginnings-IsPermutation : (ss ts : List Step) (x : Memento) → IsPermutation ss ts → beginnings ts x ≡ beginnings ss x
+beginnings-IsPermutation ss ts x h = begun_sum ts x ∙ (sum_by-IsPermutation (begins_one x) ss ts h ∙ sym (begun_sum ss x))
 
-pub ceased-IsPermutation : (ss ts : List Step) (x : Memento) → IsPermutation ss ts → ceased ts x ≡ ceased ss x
-ceased-IsPermutation ss ts x h = ceased_sum ts x ∙ (sum_by-IsPermutation (ceases_one x) ss ts h ∙ sym (ceased_sum ss x))
+pub endings-IsPermutation : (ss ts : List Step) (x : Memento) → IsPermutation ss ts → endings ts x ≡ endings ss x
+endings-IsPermutation ss ts x h = ceased_sum ts x ∙ (sum_by-IsPermutation (ceases_one x) ss ts h ∙ sym (ceased_sum ss x))
 
 -- no step begins more than one
-pub begun-le : (ss : List Step) (x : Memento) → begun ss x ≤ length ss
-begun-le [] x = omega arith
-begun-le (s ∷ ss) x = let rest = begun-le ss x in let one = one-le s.begins (eq_by_cmp memento_cmp x s.memento) in omega (arith, rest, one)
+pub beginnings-le : (ss : List Step) (x : Memento) → beginnings ss x ≤ length ss
+beginnings-le [] x = omega arith
+beginnings-le (s ∷ ss) x = let rest = beginnings-le ss x in let one = one-le s.begins (eq_by_cmp memento_cmp x s.memento) in omega (arith, rest, one)
   where
     one-le : (a b : Bool) → cond a (cond b 1 0) 0 ≤ 1
     one-le true true = omega arith

@@ -39,21 +39,21 @@ IsTally [] = Unit {0}
 IsTally (e ∷ es) = (0 < e.count) × AreAbove e.memento es × IsTally es
 
 -- how many archives begin to show a memento
-abbrev pub begun : List Step → Memento → ℕ
-begun [] x = 0
-begun (s ∷ ss) x = cond s.begins (once x s.memento) 0 + begun ss x
+abbrev pub beginnings : List Step → Memento → ℕ
+beginnings [] x = 0
+beginnings (s ∷ ss) x = cond s.begins (once x s.memento) 0 + beginnings ss x
 
 -- and how many cease to
-abbrev pub ceased : List Step → Memento → ℕ
-ceased [] x = 0
-ceased (s ∷ ss) x = cond s.begins 0 (once x s.memento) + ceased ss x
+abbrev pub endings : List Step → Memento → ℕ
+endings [] x = 0
+endings (s ∷ ss) x = cond s.begins 0 (once x s.memento) + endings ss x
 
 -- how often a memento stands in a list: once at most, where the list is in order
-abbrev pub held : List Memento → Memento → ℕ
-held [] x = 0
-held (m ∷ ms) x = once x m + held ms x
+abbrev pub occurrences : List Memento → Memento → ℕ
+occurrences [] x = 0
+occurrences (m ∷ ms) x = once x m + occurrences ms x
 
 -- what becomes of a list by these steps
 pub record IsRecounted (old : List Counted) (steps : List Step) (new : List Counted) : Type 0 where
   pub tally : IsTally new
-  pub counts : (m : Memento) → count_of new m + ceased steps m ≡ count_of old m + begun steps m
+  pub counts : (m : Memento) → count_of new m + endings steps m ≡ count_of old m + beginnings steps m

@@ -5,7 +5,7 @@ use Rattle.std.specs.FinMap as fmap
 use Rattle.memento_time.specs.Mementos.{text_cmp}
 use Rattle.memento_time.specs.declared.mementos.Memento.{Memento}
 use Rattle.harvest_lattice.specs.Sets as set
-use Rattle.harvest_lattice.specs.Lattice.{Key, Kept, Entries, joined_kept}
+use Rattle.harvest_lattice.specs.Lattice.{Key, Kept, Entries, join_at}
 
 -- 1 where an entry is there and shows the memento
 abbrev pub shows_one : Option Kept → Memento → ℕ
@@ -27,4 +27,4 @@ shown_before x es o m = showing_by (λ e. fmap.get x e.0) es o m
 
 -- and how many show it when the entries are joined
 abbrev pub shown_after : Entries → List (Key × Kept) → List ℕ → Memento → ℕ
-shown_after x es o m = showing_by (λ e. Some (joined_kept x e)) es o m
+shown_after x es o m = showing_by (λ e. Some (join_at x e)) es o m

@@ -5,7 +5,7 @@
 // none before it. Nothing here takes memory: the caller has made room.
 ghost use Rattle.std.specs.Prelude.{◌≡◌, ◌+◌, ◌<◌, ◌≤◌, [], ◌++◌, Some, IfSome, option_to_list, reverse, vec_len, length};
 ghost use Rattle.memento_time.specs.declared.mementos.Memento.{Memento as AMemento};
-ghost use Rattle.memento_index.specs.Counts.{whole, once, count_of, AreBelow, AreAbove, IsTally, begun, ceased, IsRecounted};
+ghost use Rattle.memento_index.specs.Counts.{whole, once, count_of, AreBelow, AreAbove, IsTally, beginnings, endings, IsRecounted};
 
 use crate::counted::{Counted, Step};
 use crate::tally::Tally;
@@ -120,20 +120,21 @@ pub fn settle(list: &mut Tally, lifted: &mut Tally)
 
 // Counts what archives begin and cease to show.
 //
-// It moves each memento of the list that isn't below the first of the steps' twice, and touches none below it.
+// It moves each memento of the list that isn't below the first of the steps' twice, and touches none below it but the
+// last.
 pub fn recount(list: &mut Tally, lifted: &mut Tally, mut steps: Vec<Step>)
     requires tally { IsTally list.old.entries }
     requires settled { lifted.old.entries ≡ [] }
     requires list_room { length list.old.entries + vec_len steps ≤ list.old.room }
     requires lifted_room { length list.old.entries + vec_len steps ≤ lifted.old.room }
-    requires shown { (m : AMemento) → ceased steps.items m ≤ count_of list.old.entries m }
-    requires few { (m : AMemento) → count_of list.old.entries m + begun steps.items m ≤ 18446744073709551615 }
+    requires shown { (m : AMemento) → endings steps.items m ≤ count_of list.old.entries m }
+    requires few { (m : AMemento) → count_of list.old.entries m + beginnings steps.items m ≤ 18446744073709551615 }
     ensures recounted { IsRecounted list.old.entries steps.items list.new.entries }
     ensures lifted_room { lifted.old.room ≤ lifted.new.room }
     ensures settled { lifted.new.entries ≡ [] }
 {
     steps.sort_unstable();
-    while let Some(step) = steps.pop() {
+    for step in steps {
         if step.begins {
             count_in(list, lifted, step.memento);
         } else {

@@ -6,9 +6,9 @@ ghost use Rattle.std.specs.Ordering.{eq_by_cmp};
 ghost use Rattle.memento_time.specs.Mementos.{text_cmp};
 ghost use Rattle.memento_time.specs.declared.mementos.Memento.{Memento as AMemento};
 ghost use Rattle.harvest_lattice.specs.Sets as set;
-ghost use Rattle.harvest_lattice.specs.Lattice.{joined_kept};
+ghost use Rattle.harvest_lattice.specs.Lattice.{join_at};
 ghost use Rattle.harvest_lattice.specs.Rows.{row_entry, row_key};
-ghost use Rattle.memento_index.specs.Counts.{held};
+ghost use Rattle.memento_index.specs.Counts.{occurrences};
 ghost use Rattle.memento_index.specs.Showing.{shows_one};
 ghost use Rattle.memento_index.specs.Lists.{steps_of, AreNews, IsNewsAt, IsShifted, AreGathered};
 
@@ -66,16 +66,24 @@ fn push_steps(
     requires { IsNewsAt state.now (row_entry row.now) }
     ensures { OnOk result (IsShifted state.now (row_entry row.now) steps.old.items steps.new.items) }
 {
-    let mut more = steps_between(alloc, replaced(state, row), row.entry().mementos())?;
+    let mut more = steps_between(
+        alloc,
+        mementos_to_replace(state, row),
+        row.entry().mementos(),
+    )?;
+    if steps.is_empty() {
+        *steps = more;
+        return Ok(());
+    }
     steps.append(&mut more)?;
     Ok(())
 }
 
 // The mementos in whose place those of a row stand: none where they come beside what is held.
-fn replaced<'a>(state: &'a State, row: &Row) -> &'a [Memento]
+fn mementos_to_replace<'a>(state: &'a State, row: &Row) -> &'a [Memento]
     requires { IsNewsAt state.now (row_entry row.now) }
-    ensures replaced { (m : AMemento) → shows_one (Some (joined_kept state.now (row_entry row.now))) m + held result.now m ≡ shows_one (map.get state.now (row_key row.now)) m + held (set.items row.now.latest.mementos) m }
-    ensures held { (m : AMemento) → held result.now m ≤ shows_one (map.get state.now (row_key row.now)) m }
+    ensures replaced { (m : AMemento) → shows_one (Some (join_at state.now (row_entry row.now))) m + occurrences result.now m ≡ shows_one (map.get state.now (row_key row.now)) m + occurrences (set.items row.now.entry.mementos) m }
+    ensures held { (m : AMemento) → occurrences result.now m ≤ shows_one (map.get state.now (row_key row.now)) m }
 {
     match state.entry(row.archive(), row.original()) {
         Some(entry) => {

@@ -81,10 +81,10 @@ impl Index {
         ensures list { result.now ≡ set.items (shown_of self.now original.now) }
         ensures stands { (hs : List Harvested) → self.now ≡ lat hs → result.now ≡ set.items (shown hs original.now) }
     {
-        self.listed(original)
+        self.list_of(original)
     }
 
-    fn listed(&self, original: &Original) -> &[Memento]
+    fn list_of(&self, original: &Original) -> &[Memento]
         ensures { result.now ≡ set.items (shown_of self.now original.now) }
     {
         match self.lists.get(original) {

@@ -18,8 +18,8 @@ pub type Lists = BTreeMap<Original, Tally>;
 // What begins and ceases to be shown of each original.
 pub type StepLists = BTreeMap<Original, Items<Step>>;
 
-// Makes room in the list of each original for its steps, and room to lift the longest of these lists. No count of so
-// many keys and the steps is too large.
+// Makes room in the list of each original for its steps, and room to lift the longest of these lists. No count of the
+// keys and the steps is too large.
 pub fn make_rooms(
     lists: &mut Lists,
     lifted: &mut Tally,
@@ -50,7 +50,7 @@ fn make_room(
     ensures lifted_room { lifted.old.room ≤ lifted.new.room }
     ensures made { OnOk result (HasRoom keys (tree.get text_cmp lists.new original.now) lifted.new.room more) }
 {
-    // No memory has room for so many.
+    // No memory has room for that many.
     if keys.checked_add(more).is_none() {
         return Err(NoMemory);
     }

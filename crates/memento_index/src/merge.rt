@@ -16,7 +16,7 @@ pub enum Merge {
 impl Merge {
     ghost use Rattle.memento_index.specs.Merges.{adds_of};
 
-    /// The same merge once more.
+    /// A copy.
     pub fn try_clone(&self) -> Result<Merge, NoMemory>
         ensures { IfOk result (λ copy. copy ≡ self.now) }
     {

@@ -1,4 +1,4 @@
-//! The plain index, for tests alone: a state, from which each list is made anew.
+//! The plain index, for tests alone: a state, which makes each list when it is asked for.
 use crate::merge::Merge;
 use harvest_lattice::State;
 use memento_time::{Memento, NoMemory, Original};

@@ -2,7 +2,7 @@
 ghost use Rattle.std.specs.Prelude.{◌≡◌, ◌+◌, ◌<◌, ◌≤◌, ◌⊎◌, IfOk, length, slice_index_or};
 ghost use Rattle.std.specs.declared.cmp.Ordering.TheVariants.{Less as IsLess, Equal as IsEqual, Greater as IsGreater};
 ghost use Rattle.memento_time.specs.declared.mementos.Memento.{Memento as AMemento};
-ghost use Rattle.memento_index.specs.Counts.{begun, ceased, held};
+ghost use Rattle.memento_index.specs.Counts.{beginnings, endings, occurrences};
 
 use crate::counted::Step;
 use memento_time::{Memento, NoMemory};
@@ -32,8 +32,8 @@ pub fn steps_between(
     before: &[Memento],
     after: &[Memento],
 ) -> Result<Vec<Step>, NoMemory>
-    ensures counts { IfOk result (λ steps. (m : AMemento) → begun steps.items m + held before.now m ≡ ceased steps.items m + held after.now m) }
-    ensures shown { IfOk result (λ steps. (m : AMemento) → ceased steps.items m ≤ held before.now m) }
+    ensures counts { IfOk result (λ steps. (m : AMemento) → beginnings steps.items m + occurrences before.now m ≡ endings steps.items m + occurrences after.now m) }
+    ensures shown { IfOk result (λ steps. (m : AMemento) → endings steps.items m ≤ occurrences before.now m) }
 {
     let mut steps = Vec::new(alloc);
     let mut i = 0;

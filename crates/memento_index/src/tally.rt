@@ -52,7 +52,7 @@ impl Tally {
         self.mementos.len()
     }
 
-    // Makes room for so many more, and gives the length that the list may then have.
+    // Makes room for more mementos, and gives the length that the list may then have.
     pub fn reserve(&mut self, more: usize) -> Result<usize, NoMemory>
         ensures entries { self.new.entries ≡ self.old.entries }
         ensures room { self.old.room ≤ self.new.room }

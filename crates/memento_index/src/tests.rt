@@ -25,12 +25,21 @@ fn memento(alloc: Global, capture: Capture) -> Result<Memento, Fail> {
     })
 }
 
-fn mementos(alloc: Global, captures: &[Capture]) -> Result<Vec<Memento>, Fail> {
-    let mut list = Vec::new(alloc);
+fn push_mementos(alloc: Global, list: &mut Vec<Memento>, captures: &[Capture]) -> Result<(), Fail> {
     for capture in captures {
         list.push(memento(alloc, *capture)?)?;
     }
+    Ok(())
+}
+
+fn mementos(alloc: Global, captures: &[Capture]) -> Result<Vec<Memento>, Fail> {
+    let mut list = Vec::new(alloc);
+    push_mementos(alloc, &mut list, captures)?;
     Ok(list)
+}
+
+fn are(alloc: Global, list: &[Memento], captures: &[Capture]) -> Result<bool, Fail> {
+    Ok(list == mementos(alloc, captures)?.as_slice())
 }
 
 fn archive(name: &str) -> Result<ArchiveName, Fail> {
@@ -38,192 +47,285 @@ fn archive(name: &str) -> Result<ArchiveName, Fail> {
     Ok(archive)
 }
 
+fn harvest_of(
+    alloc: Global,
+    name: &str,
+    original: &[u8],
+    revision: u64,
+    list: Vec<Memento>,
+) -> Result<Harvest, Fail> {
+    let archive = archive(name)?;
+    let original = Original::new(alloc, original)?;
+    let harvest = Harvest::new(archive, &original, revision, list)?;
+    Ok(harvest)
+}
+
+const ROOT: &[u8] = b"http://a.example/";
+
+fn root(alloc: Global) -> Result<Original, Fail> {
+    let root = Original::new(alloc, ROOT)?;
+    Ok(root)
+}
+
+// What an archive had of the root.
 fn harvest(
     alloc: Global,
     name: &str,
     revision: u64,
     captures: &[Capture],
 ) -> Result<Harvest, Fail> {
-    let original = Original::new(alloc, b"http://a.example/")?;
-    let list = mementos(alloc, captures)?;
-    let harvest = Harvest::new(archive(name)?, &original, revision, list)?;
-    Ok(harvest)
+    harvest_of(alloc, name, ROOT, revision, mementos(alloc, captures)?)
+}
+
+fn absorb(index: &mut Index, merge: &Merge) -> Result<(), Fail> {
+    index.absorb(merge)?;
+    Ok(())
+}
+
+fn take(
+    alloc: Global,
+    index: &mut Index,
+    name: &str,
+    revision: u64,
+    captures: &[Capture],
+) -> Result<(), Fail> {
+    let merge = Merge::Harvest(harvest(alloc, name, revision, captures)?);
+    absorb(index, &merge)
+}
+
+fn take_all(
+    alloc: Global,
+    index: &mut Index,
+    harvests: &[(&str, u64, &[Capture])],
+) -> Result<(), Fail> {
+    for (name, revision, captures) in harvests {
+        take(alloc, index, *name, *revision, *captures)?;
+    }
+    Ok(())
 }
 
 // What an index lists after these harvests.
 fn indexed(alloc: Global, harvests: &[(&str, u64, &[Capture])]) -> Result<Index, Fail> {
     let mut index = Index::new(alloc);
-    for (name, revision, captures) in harvests {
-        index.absorb(&Merge::Harvest(harvest(alloc, *name, *revision, *captures)?))?;
-    }
+    take_all(alloc, &mut index, harvests)?;
     Ok(index)
+}
+
+// Whether the index lists these of the root.
+fn lists(alloc: Global, index: &Index, captures: &[Capture]) -> Result<bool, Fail> {
+    let root = root(alloc)?;
+    are(alloc, index.list(&root), captures)
+}
+
+fn is_found(alloc: Global, found: Option<&Memento>, wanted: Option<Capture>) -> Result<bool, Fail> {
+    match wanted {
+        Some(capture) => Ok(found == Some(&memento(alloc, capture)?)),
+        None => Ok(found.is_none()),
+    }
+}
+
+// Whether this is the memento of the root that is nearest to a second.
+fn is_nearest(
+    alloc: Global,
+    index: &Index,
+    second: u64,
+    wanted: Option<Capture>,
+) -> Result<bool, Fail> {
+    let asked = Moment::from_secs(second).ok_or("a second")?;
+    let root = root(alloc)?;
+    is_found(alloc, index.nearest(&root, asked), wanted)
+}
+
+fn is_latest(alloc: Global, index: &Index, wanted: Option<Capture>) -> Result<bool, Fail> {
+    let root = root(alloc)?;
+    is_found(alloc, index.latest(&root), wanted)
 }
 
 #[test]
 fn only_the_greatest_revision_counts(rt: HostRuntime) -> Result<(), Fail> {
     let alloc = rt.alloc();
-    let root = Original::new(alloc, b"http://a.example/")?;
     let mut index = indexed(alloc, &[("a1", 7, &[FIRST]), ("a1", 3, &[SECOND])])?;
-    let asked = Moment::from_secs(946_771_200).ok_or("a second")?;
-    let first = mementos(alloc, &[FIRST])?;
-    assert!(rt; index.list(&root) == first.as_slice());
-    assert!(rt; index.nearest(&root, asked) == first.first());
-    index.absorb(&Merge::Harvest(harvest(alloc, "a1", 8, &[])?))?;
-    assert!(rt; index.list(&root).is_empty());
-    assert!(rt; index.nearest(&root, asked).is_none());
-    assert!(rt; index.latest(&root).is_none());
+    assert!(rt; lists(alloc, &index, &[FIRST])?);
+    assert!(rt; is_nearest(alloc, &index, 946_771_200, Some(FIRST))?);
+    take(alloc, &mut index, "a1", 8, &[])?;
+    assert!(rt; lists(alloc, &index, &[])?);
+    assert!(rt; is_nearest(alloc, &index, 946_771_200, None)?);
+    assert!(rt; is_latest(alloc, &index, None)?);
     Ok(())
 }
 
 #[test]
 fn harvests_of_one_revision_are_united(rt: HostRuntime) -> Result<(), Fail> {
     let alloc = rt.alloc();
-    let root = Original::new(alloc, b"http://a.example/")?;
-    let all = mementos(alloc, &[FIRST, SECOND, THIRD])?;
     let one = indexed(alloc, &[("a1", 1, &[FIRST]), ("a1", 1, &[THIRD, SECOND])])?;
+    assert!(rt; lists(alloc, &one, &[FIRST, SECOND, THIRD])?);
     let other = indexed(alloc, &[("a1", 1, &[THIRD, SECOND]), ("a1", 1, &[FIRST])])?;
-    assert!(rt; one.list(&root) == all.as_slice());
-    assert!(rt; other.list(&root) == all.as_slice());
+    assert!(rt; lists(alloc, &other, &[FIRST, SECOND, THIRD])?);
     Ok(())
+}
+
+// Whether the state shows these of the root.
+fn shows(alloc: Global, state: &State, captures: &[Capture]) -> Result<bool, Fail> {
+    let root = root(alloc)?;
+    let shown = state.shown(&root)?;
+    are(alloc, &shown, captures)
+}
+
+fn copy_shows(alloc: Global, state: &State, captures: &[Capture]) -> Result<bool, Fail> {
+    let copy = state.try_clone()?;
+    shows(alloc, &copy, captures)
 }
 
 #[test]
 fn another_archive_still_shows_it(rt: HostRuntime) -> Result<(), Fail> {
     let alloc = rt.alloc();
-    let root = Original::new(alloc, b"http://a.example/")?;
-    let first = mementos(alloc, &[FIRST])?;
     let mut index = indexed(
         alloc,
         &[("a1", 1, &[FIRST]), ("b1", 1, &[FIRST]), ("a1", 2, &[])],
     )?;
-    assert!(rt; index.list(&root) == first.as_slice());
-    let copy = index.state().try_clone()?;
-    assert!(rt; copy.shown(&root)?.as_slice() == first.as_slice());
-    index.absorb(&Merge::Harvest(harvest(alloc, "b1", 2, &[])?))?;
-    assert!(rt; index.list(&root).is_empty());
+    assert!(rt; lists(alloc, &index, &[FIRST])?);
+    assert!(rt; copy_shows(alloc, index.state(), &[FIRST])?);
+    take(alloc, &mut index, "b1", 2, &[])?;
+    assert!(rt; lists(alloc, &index, &[])?);
     Ok(())
 }
 
 #[test]
 fn archives_are_listed_as_one(rt: HostRuntime) -> Result<(), Fail> {
     let alloc = rt.alloc();
-    let root = Original::new(alloc, b"http://a.example/")?;
     let index = indexed(
         alloc,
         &[("b1", 1, &[FIRST, SECOND]), ("a1", 1, &[FIRST, THIRD])],
     )?;
-    let all = mementos(alloc, &[FIRST, SECOND, THIRD])?;
-    assert!(rt; index.list(&root) == all.as_slice());
+    assert!(rt; lists(alloc, &index, &[FIRST, SECOND, THIRD])?);
     Ok(())
 }
 
 #[test]
 fn nearest_and_latest(rt: HostRuntime) -> Result<(), Fail> {
     let alloc = rt.alloc();
-    let root = Original::new(alloc, b"http://a.example/")?;
     let index = indexed(alloc, &[("a1", 1, &[FIRST, SECOND, THIRD])])?;
-    let first = memento(alloc, FIRST)?;
-    let second = memento(alloc, SECOND)?;
-    let cases = [
-        (0, &first),
-        (946_771_200, &first),
-        (253_402_300_799, &second),
-    ];
-    for (asked, named) in cases {
-        let asked = Moment::from_secs(asked).ok_or("a second")?;
-        assert!(rt; index.nearest(&root, asked) == Some(named));
-    }
-    assert!(rt; index.latest(&root) == Some(&second));
+    assert!(rt; is_nearest(alloc, &index, 0, Some(FIRST))?);
+    assert!(rt; is_nearest(alloc, &index, 946_771_200, Some(FIRST))?);
+    assert!(rt; is_nearest(alloc, &index, 253_402_300_799, Some(SECOND))?);
+    assert!(rt; is_latest(alloc, &index, Some(SECOND))?);
     Ok(())
 }
 
 #[test]
 fn the_ends_of_revisions_and_seconds(rt: HostRuntime) -> Result<(), Fail> {
     let alloc = rt.alloc();
-    let root = Original::new(alloc, b"http://a.example/")?;
     let ends: [Capture; 2] = [(0, b'1'), (253_402_300_799, b'2')];
     let index = indexed(
         alloc,
         &[("a1", u64::MAX, &ends), ("a1", u64::MAX - 1, &[FIRST])],
     )?;
-    let both = mementos(alloc, &ends)?;
-    assert!(rt; index.list(&root) == both.as_slice());
-    let middle = Moment::from_secs(126_701_150_399).ok_or("a second")?;
-    assert!(rt; index.nearest(&root, middle) == both.first());
+    assert!(rt; lists(alloc, &index, &ends)?);
+    assert!(rt; is_nearest(alloc, &index, 126_701_150_399, Some(ends[0]))?);
     Ok(())
+}
+
+fn take_copy(index: &mut Index, merge: &Merge) -> Result<(), Fail> {
+    let copy = merge.try_clone()?;
+    absorb(index, &copy)
 }
 
 #[test]
 fn a_merge_of_a_harvest_is_copied(rt: HostRuntime) -> Result<(), Fail> {
     let alloc = rt.alloc();
-    let root = Original::new(alloc, b"http://a.example/")?;
-    let merge = Merge::Harvest(harvest(alloc, "a1", 7, &[FIRST])?);
     let mut index = Index::new(alloc);
-    index.absorb(&merge.try_clone()?)?;
-    assert!(rt; index.list(&root) == mementos(alloc, &[FIRST])?.as_slice());
+    take_copy(
+        &mut index,
+        &Merge::Harvest(harvest(alloc, "a1", 7, &[FIRST])?),
+    )?;
+    assert!(rt; lists(alloc, &index, &[FIRST])?);
     Ok(())
+}
+
+fn state_of_two(alloc: Global, one: &Harvest, other: &Harvest) -> Result<State, Fail> {
+    let mut state = State::new(alloc);
+    state.merge(one)?;
+    state.merge(other)?;
+    Ok(state)
+}
+
+fn merge_of_two_archives(alloc: Global) -> Result<Merge, Fail> {
+    let second = harvest(alloc, "b1", 1, &[SECOND])?;
+    let first = harvest(alloc, "a1", 1, &[FIRST])?;
+    Ok(Merge::State(state_of_two(alloc, &second, &first)?))
 }
 
 #[test]
 fn a_merge_of_a_state_is_copied(rt: HostRuntime) -> Result<(), Fail> {
     let alloc = rt.alloc();
-    let root = Original::new(alloc, b"http://a.example/")?;
-    let mut state = State::new(alloc);
-    state.merge(&harvest(alloc, "b1", 1, &[SECOND])?)?;
-    state.merge(&harvest(alloc, "a1", 1, &[FIRST])?)?;
     let mut index = Index::new(alloc);
-    let merge = Merge::State(state);
-    index.absorb(&merge.try_clone()?)?;
-    assert!(rt; index.list(&root) == mementos(alloc, &[FIRST, SECOND])?.as_slice());
+    take_copy(&mut index, &merge_of_two_archives(alloc)?)?;
+    assert!(rt; lists(alloc, &index, &[FIRST, SECOND])?);
     assert!(rt; index.state().len() == 2);
     Ok(())
+}
+
+// Whether the state has an entry of the root of this archive.
+fn knows(alloc: Global, state: &State, name: &str) -> Result<bool, Fail> {
+    let archive = archive(name)?;
+    let root = root(alloc)?;
+    Ok(state.entry(archive, &root).is_some())
+}
+
+// Takes a harvest, and tells whether memory for the merge was given.
+fn is_taken(
+    alloc: Global,
+    index: &mut Index,
+    name: &str,
+    revision: u64,
+    captures: &[Capture],
+) -> Result<bool, Fail> {
+    let merge = Merge::Harvest(harvest(alloc, name, revision, captures)?);
+    Ok(index.absorb(&merge).is_ok())
 }
 
 // To be run with each allocation of the merge refused in turn.
 #[test]
 fn a_refused_merge_changes_nothing(rt: HostRuntime) -> Result<(), Fail> {
     let alloc = rt.alloc();
-    let root = Original::new(alloc, b"http://a.example/")?;
-    let first = mementos(alloc, &[FIRST])?;
-    let both = mementos(alloc, &[FIRST, SECOND])?;
     let mut index = indexed(alloc, &[("a1", 1, &[FIRST])])?;
-    let second = harvest(alloc, "b1", 2, &[SECOND])?;
-    match index.absorb(&Merge::Harvest(second)) {
-        Ok(()) => {
-            assert!(rt; index.list(&root) == both.as_slice());
-            assert!(rt; index.state().len() == 2);
-        }
-        Err(_) => {
-            assert!(rt; index.list(&root) == first.as_slice());
-            assert!(rt; index.state().len() == 1);
-            assert!(rt; index.state().entry(archive("b1")?, &root).is_none());
-        }
+    if is_taken(alloc, &mut index, "b1", 2, &[SECOND])? {
+        assert!(rt; lists(alloc, &index, &[FIRST, SECOND])?);
+        assert!(rt; index.state().len() == 2);
+    } else {
+        assert!(rt; lists(alloc, &index, &[FIRST])?);
+        assert!(rt; index.state().len() == 1);
+        assert!(rt; !knows(alloc, index.state(), "b1")?);
     }
     Ok(())
 }
 
-// The place that is found in the list of an original, and how many datetimes were asked for.
+// The place that is found, and how many datetimes were asked for.
 fn probe(index: &Index, original: &Original, asked: Moment) -> (Option<usize>, u64) {
     let mut probed = Probed::new(index.list(original));
     let place = nearest_in(&mut probed, asked);
     (place, probed.probes())
 }
 
+// The same in the list of the root.
+fn probe_root(alloc: Global, index: &Index, second: u64) -> Result<(Option<usize>, u64), Fail> {
+    let asked = Moment::from_secs(second).ok_or("a second")?;
+    let root = root(alloc)?;
+    Ok(probe(index, &root, asked))
+}
+
 #[test]
 fn nearest_in_asks_few_datetimes(rt: HostRuntime) -> Result<(), Fail> {
     let alloc = rt.alloc();
-    let root = Original::new(alloc, b"http://a.example/")?;
+    let (place, probes) = probe_root(alloc, &Index::new(alloc), SECOND.0)?;
+    assert!(rt; place.is_none());
+    assert!(rt; probes <= 2);
     let index = indexed(alloc, &[("a1", 1, &[FIRST, SECOND, THIRD])])?;
-    let second = Moment::from_secs(SECOND.0).ok_or("a second")?;
-    let middle = Moment::from_secs(946_771_200).ok_or("a second")?;
-    for (asked, named) in [(second, 1), (middle, 0)] {
-        let (place, probes) = probe(&index, &root, asked);
+    for (second, named) in [(SECOND.0, 1), (946_771_200, 0)] {
+        let (place, probes) = probe_root(alloc, &index, second)?;
         assert!(rt; place == Some(named));
         assert!(rt; probes <= 6);
     }
-    let (place, probes) = probe(&Index::new(alloc), &root, second);
-    assert!(rt; place.is_none());
-    assert!(rt; probes <= 2);
     let list = mementos(alloc, &[FIRST, SECOND])?;
     assert!(rt; Probed::new(&list).len() == 2);
     Ok(())
@@ -251,33 +353,88 @@ impl Generator {
 
 const ARCHIVES: [&str; 3] = ["a1", "b1", "c1"];
 
-const ORIGINALS: [&[u8]; 2] = [b"http://a.example/", b"http://b.example/"];
+const ORIGINALS: [&[u8]; 2] = [ROOT, b"http://b.example/"];
 
-// What one of three archives had of one of two originals at a revision from 0 to 9: some of four mementos.
-fn some_harvest(alloc: Global, generator: &mut Generator) -> Result<Harvest, Fail> {
-    let name = ARCHIVES[generator.below(3) as usize];
-    let original = Original::new(alloc, ORIGINALS[generator.below(2) as usize])?;
-    let revision = generator.below(10);
-    let mut list = Vec::new(alloc);
+fn push_some(
+    alloc: Global,
+    generator: &mut Generator,
+    list: &mut Vec<Memento>,
+) -> Result<(), Fail> {
     for capture in [FIRST, SECOND, THIRD, (946_900_000, b'4')] {
         if generator.below(2) == 0 {
             list.push(memento(alloc, capture)?)?;
         }
     }
-    let harvest = Harvest::new(archive(name)?, &original, revision, list)?;
-    Ok(harvest)
+    Ok(())
+}
+
+// What one of three archives had of one of two originals at a revision from 0 to 9: some of four mementos.
+fn some_harvest(alloc: Global, generator: &mut Generator) -> Result<Harvest, Fail> {
+    let name = ARCHIVES[generator.below(3) as usize];
+    let original = ORIGINALS[generator.below(2) as usize];
+    let revision = generator.below(10);
+    let mut list = Vec::new(alloc);
+    push_some(alloc, generator, &mut list)?;
+    harvest_of(alloc, name, original, revision, list)
 }
 
 // A harvest, or a state of two.
 fn some_merge(alloc: Global, generator: &mut Generator) -> Result<Merge, Fail> {
-    let harvest = some_harvest(alloc, generator)?;
+    let one = some_harvest(alloc, generator)?;
     if generator.below(3) > 0 {
-        return Ok(Merge::Harvest(harvest));
+        return Ok(Merge::Harvest(one));
     }
-    let mut state = State::new(alloc);
-    state.merge(&harvest)?;
-    state.merge(&some_harvest(alloc, generator)?)?;
-    Ok(Merge::State(state))
+    let other = some_harvest(alloc, generator)?;
+    Ok(Merge::State(state_of_two(alloc, &one, &other)?))
+}
+
+fn absorb_in_both(index: &mut Index, plain: &mut Plain, merge: &Merge) -> Result<(), Fail> {
+    index.absorb(merge)?;
+    plain.absorb(merge)?;
+    Ok(())
+}
+
+fn take_some(
+    alloc: Global,
+    generator: &mut Generator,
+    index: &mut Index,
+    plain: &mut Plain,
+) -> Result<(), Fail> {
+    let merge = some_merge(alloc, generator)?;
+    absorb_in_both(index, plain, &merge)
+}
+
+fn list_the_same(alloc: Global, index: &Index, plain: &Plain, name: &[u8]) -> Result<bool, Fail> {
+    let original = Original::new(alloc, name)?;
+    Ok(index.list(&original) == plain.list(&original)?.as_slice())
+}
+
+// Whether both list the same of each original after each of 25 merges.
+fn list_the_same_after_merges(
+    alloc: Global,
+    generator: &mut Generator,
+    index: &mut Index,
+    plain: &mut Plain,
+) -> Result<bool, Fail> {
+    let mut same = true;
+    for _ in 0..25 {
+        take_some(alloc, generator, index, plain)?;
+        for name in ORIGINALS {
+            same = same && list_the_same(alloc, index, plain, name)?;
+        }
+    }
+    Ok(same)
+}
+
+// Whether a new index and a new plain one become the same by 25 merges.
+fn become_the_same(alloc: Global, generator: &mut Generator) -> Result<bool, Fail> {
+    let mut index = Index::new(alloc);
+    let mut plain = Plain::new(alloc);
+    Ok(
+        list_the_same_after_merges(alloc, generator, &mut index, &mut plain)?
+            && index.state().le(plain.state())
+            && plain.state().le(index.state()),
+    )
 }
 
 #[test]
@@ -286,20 +443,7 @@ fn a_thousand_merges_make_the_lists_of_the_plain_index(rt: HostRuntime) -> Resul
     let mut generator = Generator { seed: 7 };
     // A new index now and then, since at the greatest revision little changes.
     for _ in 0..40 {
-        let mut index = Index::new(alloc);
-        let mut plain = Plain::new(alloc);
-        for _ in 0..25 {
-            let merge = some_merge(alloc, &mut generator)?;
-            index.absorb(&merge)?;
-            plain.absorb(&merge)?;
-            for name in ORIGINALS {
-                let original = Original::new(alloc, name)?;
-                let list = plain.list(&original)?;
-                assert!(rt; index.list(&original) == list.as_slice());
-            }
-        }
-        assert!(rt; index.state().le(plain.state()));
-        assert!(rt; plain.state().le(index.state()));
+        assert!(rt; become_the_same(alloc, &mut generator)?);
     }
     Ok(())
 }

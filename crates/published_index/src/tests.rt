@@ -11,7 +11,7 @@ use std::sync::Wait;
 use std::sync::atomic::{AtomicU64, Ordering};
 use std::test::Fail;
 use std::thread;
-use std::thread::{Threads, join};
+use std::thread::join;
 use std::time::{Clock, Duration};
 use timegate::{Header, Reply, Request};
 use timemap_writer::Service;
@@ -22,9 +22,6 @@ const DAYS: [u64; 2] = [946_684_800, 946_857_600];
 const FIRST: &[u8] = b"http://m.example/1";
 
 const SECOND: &[u8] = b"http://m.example/2";
-
-/// How often a gate is asked beside a publish.
-const QUESTIONS: u64 = 50;
 
 /// An archive's harvest of one memento of http://a.example/.
 fn harvest(rt: &HostRuntime, archive: &[u8], at: u64, uri: &[u8]) -> Result<Harvest, Fail> {
@@ -94,69 +91,6 @@ fn shown_by(reply: Result<Reply, GateFault>) -> Shown {
         Ok(reply) if reply.status == 302 && location(&reply) == Some(FIRST) => Shown::First,
         _ => Shown::Other,
     }
-}
-
-/// Publishes, and asks a gate that learnt the receipt.
-fn publish_and_ask<R: Wait>(rt: &R, merger: &mut Merger, mut gate: Gate, request: &Request) -> Shown
-    requires { gate.opening ≡ merger.old.opening }
-{
-    match merger.publish(rt) {
-        Ok(receipt) => {
-            gate.learn(receipt);
-            shown_by(gate.answer(request))
-        }
-        Err(_) => Shown::Other,
-    }
-}
-
-/// Asks a gate many times: whether it shows nothing until it shows the memento, and the memento from then on.
-fn goes_on(mut gate: Gate, request: &Request) -> bool {
-    let mut before = Shown::Nothing;
-    for _ in 0..QUESTIONS {
-        let now = shown_by(gate.answer(request));
-        if now == Shown::Other || (before == Shown::First && now == Shown::Nothing) {
-            return false;
-        }
-        before = now;
-    }
-    true
-}
-
-/// Publishes in one thread, whose gate learns the receipt, while a gate that isn't told is asked in another.
-fn publish_beside_a_reader<R: Threads + Wait + Sync>(
-    rt: &R,
-    merger: &mut Merger,
-    informed: Gate,
-    other: Gate,
-    request: &Request,
-) -> (Shown, bool)
-    requires { informed.opening ≡ merger.old.opening }
-{
-    join(
-        rt,
-        move || publish_and_ask(rt, merger, informed, request),
-        move || goes_on(other, request),
-    )
-}
-
-#[test]
-fn a_gate_that_learnt_the_receipt_shows_the_memento_while_another_is_asked(
-    rt: HostRuntime,
-) -> Result<(), Fail> {
-    let asked = timegate_request(&rt)?;
-    let merge = first_merge(&rt)?;
-    let Ok((mut merger, mut gates)) = open(&rt, rt.alloc(), service(&rt)?, 2) else {
-        return Err(Fail::from("not opened"));
-    };
-    let appended = merger.append(&merge);
-    let mut seen = (Shown::Other, false);
-    if let (Some(second), Some(first)) = (gates.pop(), gates.pop()) {
-        seen = publish_beside_a_reader(&rt, &mut merger, second, first, &asked);
-    }
-    merger.close(&rt);
-    assert!(rt; appended.is_ok());
-    assert!(rt; seen == (Shown::First, true));
-    Ok(())
 }
 
 /// The TimeMap of both mementos, written by hand.

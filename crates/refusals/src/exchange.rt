@@ -7,6 +7,15 @@ use std::alloc::Global;
 use timegate::Request;
 use timemap_writer::Service;
 
+// A state of two entries, so that a refusal can fall between them.
+const STATE: &[u8] = b"memento-state 1
+entries 2
+entry b1 1 1 http://a.example/
+946771200 http://m.example/3
+entry c1 1 0 http://a.example/
+end
+";
+
 /// A world, what happens in it, and what its replicas are asked meanwhile.
 #[derive(Drop)]
 pub(crate) struct Exchange {
@@ -26,10 +35,8 @@ pub(crate) fn begin(alloc: Global) -> Result<Exchange> {
 }
 
 fn events(alloc: Global) -> Result<Vec<Event>> {
-    let text =
-        b"memento-state 1\nentries 1\nentry b1 1 1 http://a.example/\n946771200 http://m.example/3\nend\n";
-    let received = Octets::of(Vec::from_slice(alloc, text)?);
-    let cut = Octets::of(Vec::from_slice(alloc, &text[..40])?);
+    let received = Octets::of(Vec::from_slice(alloc, STATE)?);
+    let cut = Octets::of(Vec::from_slice(alloc, &STATE[..40])?);
     Ok(vec![in alloc;
         Event::Take(1, harvest(alloc, 5, 946_684_800, b"http://m.example/1")?),
         Event::Take(2, harvest(alloc, 5, 946_857_600, b"http://m.example/2")?),

@@ -31,7 +31,8 @@ pub record Gives (base : List ℕ) (world : World) (i : ℕ) (q : Request) (r : 
 
 -- the TimeMap of an original, if any memento of it is shown
 abbrev pub timemap_at : List ℕ → Knowledge → List ℕ → Option (List ℕ)
-timemap_at base known original = if length (set.items (shown known original)) == 0 then None else Some (timemap_of base known original)
+timemap_at base known original =
+    if length (set.items (shown known original)) == 0 then None else Some (timemap_of base known original)
 
 -- every request has the same reply from both replicas, and so has every original the same TimeMap, or neither has one
 pub record Agree (base : List ℕ) (world : World) (i j : ℕ) (known other : Knowledge) : Type 0 where
@@ -45,13 +46,19 @@ Shows (Some text) q r = (r.status ≡ 200) × (r.body ≡ (if is_head q then [] 
 
 -- each reply to a request for the TimeMap of an original
 abbrev pub ServesTimeMaps : List ℕ → World → ℕ → Knowledge → Type 0
-ServesTimeMaps base world i known = (q : Request) (original : List ℕ) (r : Reply) → route_of q ≡ TimeMap original → Gives base world i q r → Shows (timemap_at base known original) q r
+ServesTimeMaps base world i known =
+    (q : Request) (original : List ℕ) (r : Reply) → route_of q ≡ TimeMap original → Gives base world i q r
+    → Shows (timemap_at base known original) q r
 
--- each reply to a request to the TimeGate of an original: a 404 where nothing is shown of it, or else a redirect to a memento of its latest harvests than which none of these is nearer
+-- each reply to a request to the TimeGate of an original: a 404 where nothing is shown of it, or else a redirect to a
+-- memento of its latest harvests than which none of these is nearer
 abbrev pub ServesTimeGates : List ℕ → World → ℕ → Knowledge → Type 0
-ServesTimeGates base world i known = (q : Request) (original : List ℕ) (asked : Option ℕ) (r : Reply) → route_of q ≡ TimeGate original asked → Gives base world i q r → IsGateReply known original asked r
+ServesTimeGates base world i known =
+    (q : Request) (original : List ℕ) (asked : Option ℕ) (r : Reply) → route_of q ≡ TimeGate original asked
+    → Gives base world i q r → IsGateReply known original asked r
 
--- a reply to a request to the TimeGate of an original, that names a memento of its latest harvests than which none of these is nearer
+-- a reply to a request to the TimeGate of an original, that names a memento of its latest harvests than which none of
+-- these is nearer
 pub record NamesNearest (known : Knowledge) (q : Request) (r : Reply) : Type 0 where
   pub original : List ℕ
   pub asked : Option ℕ
@@ -60,4 +67,5 @@ pub record NamesNearest (known : Knowledge) (q : Request) (r : Reply) : Type 0 w
 
 -- each redirect
 abbrev pub RedirectsWell : List ℕ → World → ℕ → Knowledge → Type 0
-RedirectsWell base world i known = (q : Request) (r : Reply) → Gives base world i q r → r.status ≡ 302 → NamesNearest known q r
+RedirectsWell base world i known =
+    (q : Request) (r : Reply) → Gives base world i q r → r.status ≡ 302 → NamesNearest known q r

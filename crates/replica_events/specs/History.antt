@@ -39,10 +39,13 @@ pub data Learnt : History → ℕ → Harvested → Type 0 where
       → history ≡ before ++ (Take i h, Ok Taken) ∷ after → NoRestart after i → Learnt history i h
   -- it received the text of a state that has the harvest
   received : {history : History} {i : ℕ} {h : Harvested} (before after : History) (bytes : List ℕ) (state : Entries)
-      → history ≡ before ++ (Receive i bytes, Ok Joined) ∷ after → NoRestart after i → IsText bytes state → Contains (adds state) h → Learnt history i h
+      → history ≡ before ++ (Receive i bytes, Ok Joined) ∷ after → NoRestart after i → IsText bytes state
+      → Contains (adds state) h → Learnt history i h
   -- it was delivered a message whose sender, which may be itself, had learnt the harvest before it sent the message
-  through : {history : History} {i : ℕ} {h : Harvested} (before between after : History) (sender message : ℕ) (sending : Event) → sender_of sending ≡ Some sender
-      → history ≡ before ++ (sending, Ok (Sent message)) ∷ between ++ (Deliver i message, Ok Joined) ∷ after → NoRestart after i
+  through : {history : History} {i : ℕ} {h : Harvested} (before between after : History) (sender message : ℕ)
+      (sending : Event) → sender_of sending ≡ Some sender
+      → history ≡ before ++ (sending, Ok (Sent message)) ∷ between ++ (Deliver i message, Ok Joined) ∷ after
+      → NoRestart after i
       → Learnt before sender h → Learnt history i h
 
 -- the message of this number was sent by a replica that had learnt the harvest

@@ -41,7 +41,8 @@ IsBadState w (Ask i q) = ⊥
 -- no replica has the number; no message has it; the bytes are bad; or memory was refused, which a restart doesn't take
 abbrev pub IsCause : World → Event → Refused → Type 0
 IsCause w event NoReplica = replica w (replica_of event) ≡ None
-IsCause w event NoMessage = HasReplica w (replica_of event) × ((k : ℕ) × (message_of event ≡ Some k) × (message w k ≡ None))
+IsCause w event NoMessage =
+    HasReplica w (replica_of event) × ((k : ℕ) × (message_of event ≡ Some k) × (message w k ≡ None))
 IsCause w event BadState = HasReplica w (replica_of event) × IsBadState w event
 IsCause w event NoMemory = HasReplica w (replica_of event) × ((i : ℕ) → ¬ (event ≡ Restart i))
 

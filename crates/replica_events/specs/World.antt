@@ -93,15 +93,18 @@ Refuses why w answer new = (answer ≡ Err why) × (new ≡ w)
 
 -- the outcome of an event at the replica of this number, if there is one
 abbrev pub AtReplica : World → ℕ → (Replica → Outcome) → Outcome
-AtReplica w i happens answer new = MatchOption (replica w i) (Refuses NoReplica w answer new) (λ r. happens r answer new)
+AtReplica w i happens answer new =
+    MatchOption (replica w i) (Refuses NoReplica w answer new) (λ r. happens r answer new)
 
 -- the outcome of an event with the message of this number, if there is one
 abbrev pub WithMessage : World → ℕ → (Message → Outcome) → Outcome
-WithMessage w k happens answer new = MatchOption (message w k) (Refuses NoMessage w answer new) (λ m. happens m answer new)
+WithMessage w k happens answer new =
+    MatchOption (message w k) (Refuses NoMessage w answer new) (λ m. happens m answer new)
 
 -- the outcome of an event with bytes of at most 268,435,456, or else with more
 abbrev pub IfWithinLimit : List ℕ → Outcome → Outcome → Outcome
-IfWithinLimit bytes happens otherwise answer new = ((length bytes ≤ longest_text) × happens answer new) ⊎ ((longest_text < length bytes) × otherwise answer new)
+IfWithinLimit bytes happens otherwise answer new =
+    ((length bytes ≤ longest_text) × happens answer new) ⊎ ((longest_text < length bytes) × otherwise answer new)
 
 -- the bytes are the text of a state, and at most 268,435,456
 pub record IsText (bytes : List ℕ) (s : Entries) : Type 0 where
@@ -111,7 +114,9 @@ pub record IsText (bytes : List ℕ) (s : Entries) : Type 0 where
 
 -- the outcome of an event with bytes that are the text of a state, or else with others
 abbrev pub IfText : List ℕ → (Entries → Outcome) → Outcome → Outcome
-IfText bytes happens otherwise answer new = ((s : Entries) × IsText bytes s × happens s answer new) ⊎ (((s : Entries) → ¬ IsText bytes s) × otherwise answer new)
+IfText bytes happens otherwise answer new =
+    ((s : Entries) × IsText bytes s × happens s answer new)
+    ⊎ (((s : Entries) → ¬ IsText bytes s) × otherwise answer new)
 
 -- the outcome of an event by which a replica sends what it has taken
 abbrev pub Sends : World → ℕ → Outcome
@@ -122,7 +127,8 @@ abbrev pub Effect : List ℕ → World → Event → Outcome
 Effect base w (Take i h) = AtReplica w i (λ r. Accepts Taken (with_replica w i (taking r (h ∷ []))))
 Effect base w (Send i) = Sends w i
 Effect base w (Deliver i k) =
-    AtReplica w i (λ r. WithMessage w k (λ m. IfWithinLimit m.bytes (Accepts Joined (with_replica w i (taking r m.taken))) (Refuses BadState w)))
+    AtReplica w i (λ r. WithMessage w k (λ m.
+    IfWithinLimit m.bytes (Accepts Joined (with_replica w i (taking r m.taken))) (Refuses BadState w)))
 Effect base w (Receive i bytes) =
     AtReplica w i (λ r. IfText bytes (λ s. Accepts Joined (with_replica w i (taking r (adds s)))) (Refuses BadState w))
 Effect base w (Restart i) = AtReplica w i (λ r. Accepts Restarted (with_replica w i fresh))
@@ -156,7 +162,8 @@ Step base w event answer new = Effect base w event answer new ⊎ RunsOut w even
 -- events one after the other, with one answer to each
 abbrev pub Run : List ℕ → World → List Event → List Answer → World → Type 0
 Run base w [] [] end = end ≡ w
-Run base w (event ∷ events) (answer ∷ answers) end = (mid : World) × Step base w event answer mid × Run base mid events answers end
+Run base w (event ∷ events) (answer ∷ answers) end =
+    (mid : World) × Step base w event answer mid × Run base mid events answers end
 Run base w [] (answer ∷ answers) end = ⊥
 Run base w (event ∷ events) [] end = ⊥
 

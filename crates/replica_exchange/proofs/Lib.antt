@@ -4,3 +4,8 @@ pub mod PartLemmas
 pub mod StateLemmas
 pub mod WritingLemmas
 pub mod EndLemmas
+pub mod StampLemmas
+pub mod DeltaLemmas
+pub mod CursorLemmas
+pub mod ShelfLemmas
+pub mod AbsorbLemmas

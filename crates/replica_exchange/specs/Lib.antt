@@ -4,3 +4,7 @@ pub mod Spelling
 pub mod Parts
 pub mod LineOrder
 pub mod Ends
+pub mod Stamps
+pub mod DeltaText
+pub mod CursorRule
+pub mod StampShelves

@@ -1,10 +1,14 @@
 //! Laws of the definitions.
-ghost use Rattle.std.specs.Prelude.{◌≡◌, map as map_list};
+ghost use Rattle.std.specs.Prelude.{◌≡◌, ℕ, ◌+◌, List, [], ◌∷◌, ◌++◌, length, take, map as map_list};
 ghost use Rattle.std.specs.FinMap as map;
 ghost use Rattle.std.specs.List.Sorted.{IsStrictlySortedBy};
 ghost use Rattle.harvest_lattice.specs.Sets as set;
-ghost use Rattle.harvest_lattice.specs.Lattice.{Entries, Kept};
+ghost use Rattle.harvest_lattice.specs.Lattice.{Entries, Key, Kept, AtMost, join};
+ghost use Rattle.memento_index.specs.declared.merge.Merge.{Merge};
 ghost use Rattle.replica_exchange.specs.StateText.{state_text, IsState};
+ghost use Rattle.replica_exchange.specs.Stamps.{StampedState, IsStamp, IsStamped, IsAbsorbed, state_after, entries_above};
+ghost use Rattle.replica_exchange.specs.declared.delta.Delta.{Delta};
+ghost use Rattle.replica_exchange.specs.DeltaText.{delta_text, IsDelta};
 ghost use Rattle.replica_exchange.specs.LineOrder.{by_archive_then_original, by_second_then_address};
 
 /// No two states have the same text.
@@ -12,9 +16,41 @@ pub fn one_text_of_a_state()
     ensures { (x y : Entries) → IsState x → IsState y → state_text x ≡ state_text y → x ≡ y }
 {}
 
+/// No two deltas have the same text.
+pub fn one_text_of_a_delta()
+    ensures { (x y : Delta) → IsDelta x → IsDelta y → delta_text x ≡ delta_text y → x ≡ y }
+{}
+
 /// In the text of a state the entries stand by archive and then by original, and the mementos of each by second and then
 /// by address, none twice.
 pub fn lines_stand_in_order()
     ensures entries { (x : Entries) → IsStrictlySortedBy by_archive_then_original (map_list (λ e. e.0) (map.entries x)) }
     ensures mementos { (kept : Kept) → IsStrictlySortedBy by_second_then_address (set.items kept.mementos) }
+{}
+
+/// What merges made is one: their state, and the one stamp of each of its entries.
+pub fn one_stamped_state()
+    ensures { (merges : List Merge) (s t : StampedState) → IsStamped merges s → IsStamped merges t → s.incarnation ≡ t.incarnation → s ≡ t }
+{}
+
+/// One merge more gives its number as stamp to the entries that it changes, and leaves the other stamps.
+pub fn one_merge_more()
+    ensures stays { (merges : List Merge) (m : Merge) (k : Key) (n : ℕ) → IsStamp merges k n
+        → map.get (state_after (merges ++ m ∷ [])) k ≡ map.get (state_after merges) k → IsStamp (merges ++ m ∷ []) k n }
+    ensures changes { (merges : List Merge) (m : Merge) (k : Key)
+        → ¬ (map.get (state_after (merges ++ m ∷ [])) k ≡ map.get (state_after merges) k) → IsStamp (merges ++ m ∷ []) k (length merges + 1) }
+{}
+
+/// So what absorbs one merge more is what the merges with it made; and what none made is empty.
+pub fn one_merge_is_absorbed()
+    ensures more { (merges : List Merge) (m : Merge) (s t : StampedState) → IsStamped merges s → IsAbsorbed s m t → IsStamped (merges ++ m ∷ []) t }
+    ensures none { (incarnation : ℕ) → IsStamped [] (record { entries = map.empty; stamps = map.empty; number = 0; incarnation = incarnation }) }
+{}
+
+/// To what is at least the state of the first n merges, the entries above n add just what all the merges do. Above zero
+/// are all entries.
+pub fn deltas_suffice()
+    ensures suffice { (merges : List Merge) (s : StampedState) (n : ℕ) (x : Entries) → IsStamped merges s →
+        AtMost (state_after (take n merges)) x → join x (entries_above s n) ≡ join x (state_after merges) }
+    ensures all { (merges : List Merge) (s : StampedState) → IsStamped merges s → entries_above s 0 ≡ state_after merges }
 {}

@@ -1,13 +1,15 @@
-//! Reading a state from its text.
+//! Reading a state or a delta from its text.
 ghost use Rattle.std.specs.Prelude.{◌≡◌, ◌≤◌, ◌↔◌, [], length, codes, IsTrue, map as map_list, IfOk, IfErr};
 ghost use Rattle.std.specs.Arc.{arc_value};
 ghost use Rattle.harvest_lattice.specs.Rows.{row_entry};
 ghost use Rattle.replica_exchange.specs.StateText.{state_text, IsState};
+ghost use Rattle.replica_exchange.specs.DeltaText.{delta_text, IsDelta};
 ghost use Rattle.replica_exchange.specs.Ends.{IsEndOf};
-ghost use Rattle.replica_exchange.specs.Faults.{IsCause, longest_text};
+ghost use Rattle.replica_exchange.specs.Faults.{IsCause, IsDeltaCause, longest_text};
 ghost use Rattle.replica_exchange.specs.Spelling.{Begins, Refuses, RefusesWhole};
-ghost use Rattle.replica_exchange.specs.Parts.{memento, head, entry, many, listing};
+ghost use Rattle.replica_exchange.specs.Parts.{memento, head, entry, many, listing, stated, span};
 
+use crate::delta::Delta;
 use crate::fault::StateFault;
 use crate::fields::{cut, read_number, read_original, read_uri, skip};
 use harvest_lattice::{Row, State};
@@ -15,7 +17,7 @@ use memento_time::{ArchiveName, Memento, Moment, Original};
 use std::alloc::Global;
 use std::sync::Arc;
 
-/// The most bytes of a state's text.
+/// The most bytes of a state's or a delta's text.
 const MAX_LEN: usize = 268_435_456;
 
 /// A memento's line, and what follows.
@@ -101,10 +103,11 @@ fn read_entry<'a>(
 {
     let (head, rest) = read_head(buffer, text)?;
     let (mementos, rest) = read_mementos(alloc, buffer, head.count, rest)?;
-    let Some(row) = Row::new(head.archive, head.original, head.revision, mementos) else {
-        return Err(StateFault::NotState);
-    };
-    Ok((row, rest))
+    let row = Row::new(head.archive, head.original, head.revision, mementos)?;
+    match row {
+        Some(row) => Ok((row, rest)),
+        None => Err(StateFault::NotState),
+    }
 }
 
 /// `count` entries, and what follows. Nothing is reserved for entries that may not come.
@@ -151,6 +154,23 @@ fn read_listing(alloc: Global, buffer: &Arc<Vec<u8>>, text: &[u8]) -> Result<Vec
     Ok(rows)
 }
 
+/// The state from `entries N` to `end`, after which nothing comes.
+fn read_entries_of_state(
+    alloc: Global,
+    buffer: &Arc<Vec<u8>>,
+    text: &[u8],
+) -> Result<State, StateFault>
+    requires { IsEndOf text.now (arc_value buffer.now).items }
+    ensures found { IfOk result (λ state. Begins stated text.now state []) }
+    ensures refused { IfErr result (λ fault. RefusesWhole stated text.now fault) }
+{
+    let rows = read_listing(alloc, buffer, text)?;
+    match State::of_rows(alloc, rows)? {
+        Some(state) => Ok(state),
+        None => Err(StateFault::NotState),
+    }
+}
+
 /// The state whose text this is. Takes time linear in the text; N and COUNT reserve nothing. The state's addresses and
 /// originals share one copy of the text.
 pub fn read_state(alloc: Global, text: &[u8]) -> Result<State, StateFault>
@@ -164,9 +184,57 @@ pub fn read_state(alloc: Global, text: &[u8]) -> Result<State, StateFault>
     let entries = skip(text, b"memento-state 1\n")?;
     let copy = Vec::from_slice(alloc, text)?;
     let buffer = Arc::new(alloc, copy)?;
-    let rows = read_listing(alloc, &buffer, entries)?;
-    match State::of_rows(alloc, rows)? {
-        Some(state) => Ok(state),
-        None => Err(StateFault::NotState),
+    let state = read_entries_of_state(alloc, &buffer, entries)?;
+    Ok(state)
+}
+
+/// The second line of a delta's text.
+#[derive(Debug, Drop)]
+struct Span {
+    incarnation: u64,
+    start: u64,
+    end: u64,
+}
+
+fn read_span(text: &[u8]) -> Result<(Span, &[u8]), StateFault>
+    ensures found { IfOk result (λ read. let s = read.0 in
+        Begins span text.now (s.incarnation, (s.start, s.end)) read.1.now) }
+    ensures refused { IfErr result (λ fault. Refuses span text.now fault) }
+{
+    let rest = skip(text, b"from ")?;
+    let (incarnation, rest) = read_number(rest, b' ')?;
+    let (start, rest) = read_number(rest, b' ')?;
+    let (end, rest) = read_number(rest, b'\n')?;
+    if start > end {
+        return Err(StateFault::NotState);
     }
+    let span = Span {
+        incarnation,
+        start,
+        end,
+    };
+    Ok((span, rest))
+}
+
+/// The delta whose text this is. Takes time linear in the text; N and COUNT reserve nothing. The addresses and
+/// originals of its state share one copy of the text.
+pub fn read_delta(alloc: Global, text: &[u8]) -> Result<Delta, StateFault>
+    ensures found { IfOk result (λ delta. IsDelta delta × (text.now ≡ delta_text delta)) }
+    ensures within { IfOk result (λ _. length text.now ≤ longest_text) }
+    ensures cause { IfErr result (λ fault. IsDeltaCause fault text.now) }
+{
+    if text.len() > MAX_LEN {
+        return Err(StateFault::TooLong);
+    }
+    let line = skip(text, b"memento-delta 1\n")?;
+    let (span, entries) = read_span(line)?;
+    let copy = Vec::from_slice(alloc, text)?;
+    let buffer = Arc::new(alloc, copy)?;
+    let state = read_entries_of_state(alloc, &buffer, entries)?;
+    Ok(Delta {
+        incarnation: span.incarnation,
+        start: span.start,
+        end: span.end,
+        state,
+    })
 }

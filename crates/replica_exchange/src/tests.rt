@@ -4,8 +4,8 @@ use memento_time::{ArchiveName, Clean, Memento, Moment, Original};
 use std::test::*;
 
 // What a replica holds after one harvest of one page.
-const FIRST: [u8; 136] =
-    *b"memento-state 1\nentries 1\nentry arc.example 7 1 http://a.example/\n946684800 http://arc.example/web/20000101000000/http://a.example/\nend\n";
+const FIRST: &[u8] =
+    b"memento-state 1\nentries 1\nentry arc.example 7 1 http://a.example/\n946684800 http://arc.example/web/20000101000000/http://a.example/\nend\n";
 
 // Two archives whose names begin as a third's, each with originals of their own. By original first the order would be
 // another, and so would it be by the digits of seconds.
@@ -26,6 +26,34 @@ entry a1.b 3 1 http://b.example/
 end
 ";
 
+const EMPTY: &[u8] = b"memento-state 1\nentries 0\nend\n";
+
+fn memento(rt: &HostRuntime, second: u64, uri: &[u8]) -> Result<Memento, Fail> {
+    let at = Moment::from_secs(second).ok_or("no second")?;
+    let uri = Clean::new(rt.alloc(), uri)?;
+    Ok(Memento { at, uri })
+}
+
+fn mementos(rt: &HostRuntime, pairs: &[(u64, &[u8])]) -> Result<Vec<Memento>, Fail> {
+    let mut list = Vec::new(rt.alloc());
+    for (second, uri) in pairs {
+        list.push(memento(rt, *second, uri)?)?;
+    }
+    Ok(list)
+}
+
+fn harvest(
+    rt: &HostRuntime,
+    archive: &[u8],
+    original: &[u8],
+    revision: u64,
+    list: Vec<Memento>,
+) -> Result<Harvest, Fail> {
+    let archive = ArchiveName::new(archive).ok_or("no name")?;
+    let original = Original::new(rt.alloc(), original)?;
+    Ok(Harvest::new(archive, &original, revision, list)?)
+}
+
 /// Takes a harvest.
 fn take(
     rt: &HostRuntime,
@@ -33,82 +61,85 @@ fn take(
     archive: &[u8],
     original: &[u8],
     revision: u64,
-    mementos: &[(u64, &[u8])],
+    pairs: &[(u64, &[u8])],
 ) -> Result<(), Fail> {
-    let mut list = Vec::new(rt.alloc());
-    for (second, uri) in mementos {
-        let at = Moment::from_secs(*second).ok_or("no second")?;
-        let uri = Clean::new(rt.alloc(), uri)?;
-        list.push(Memento { at, uri })?;
-    }
-    let archive = ArchiveName::new(archive).ok_or("no name")?;
-    let original = Original::new(rt.alloc(), original)?;
-    let harvest = Harvest::new(archive, &original, revision, list)?;
+    let harvest = harvest(rt, archive, original, revision, mementos(rt, pairs)?)?;
     state.merge(&harvest)?;
     Ok(())
 }
 
-#[test]
-fn worked_state_both_ways(rt: HostRuntime) -> Result<(), Fail> {
-    let mut state = State::new(rt.alloc());
+fn take_worked(rt: &HostRuntime, state: &mut State) -> Result<(), Fail> {
     let a: &[u8] = b"http://a.example/";
     let b: &[u8] = b"http://b.example/";
     let c: &[u8] = b"http://c.example/";
     let fourth: (u64, &[u8]) = (946_684_800, b"http://m.example/4");
-    take(&rt, &mut state, b"a1.b", b, 3, &[fourth])?;
+    take(rt, state, b"a1.b", b, 3, &[fourth])?;
     let early: [(u64, &[u8]); 2] = [(10, b"http://m.example/5"), (9, b"http://m.example/6")];
-    take(&rt, &mut state, b"a1.b", a, 3, &early)?;
-    take(&rt, &mut state, b"a1-b", a, 7, &[fourth])?;
+    take(rt, state, b"a1.b", a, 3, &early)?;
+    take(rt, state, b"a1-b", a, 7, &[fourth])?;
     let ends: [(u64, &[u8]); 3] = [
         (253_402_300_799, b"http://m.example/3"),
         (253_402_300_799, b"http://m.example/2"),
         (0, b"http://m.example/1"),
     ];
-    take(&rt, &mut state, b"a1", c, u64::MAX, &ends)?;
-    take(&rt, &mut state, b"a1", b, 0, &[])?;
-    let text = write_state(rt.alloc(), &state)?;
-    assert_eq!(rt; text.as_slice(), WORKED);
-    let read = read_state(rt.alloc(), WORKED)?;
-    assert!(rt; state.le(&read) && read.le(&state));
-    let again = write_state(rt.alloc(), &read)?;
-    assert_eq!(rt; again.as_slice(), WORKED);
+    take(rt, state, b"a1", c, u64::MAX, &ends)?;
+    take(rt, state, b"a1", b, 0, &[])
+}
+
+fn take_first(rt: &HostRuntime, state: &mut State) -> Result<(), Fail> {
+    let uri: &[u8] = b"http://arc.example/web/20000101000000/http://a.example/";
+    take(
+        rt,
+        state,
+        b"arc.example",
+        b"http://a.example/",
+        7,
+        &[(946_684_800, uri)],
+    )
+}
+
+fn is_written_as(rt: &HostRuntime, state: &State, text: &[u8]) -> Result<bool, Fail> {
+    Ok(write_state(rt.alloc(), state)?.as_slice() == text)
+}
+
+/// Whether this is the state's text, and is read as a state of so many entries with the same text.
+fn goes_both_ways(
+    rt: &HostRuntime,
+    state: &State,
+    text: &[u8],
+    entries: usize,
+) -> Result<bool, Fail> {
+    let read = read_state(rt.alloc(), text)?;
+    Ok(
+        read.len() == entries
+            && state.le(&read)
+            && read.le(state)
+            && is_written_as(rt, state, text)?
+            && is_written_as(rt, &read, text)?,
+    )
+}
+
+#[test]
+fn worked_state_both_ways(rt: HostRuntime) -> Result<(), Fail> {
+    let mut state = State::new(rt.alloc());
+    take_worked(&rt, &mut state)?;
+    assert!(rt; goes_both_ways(&rt, &state, WORKED, 5)?);
     Ok(())
 }
 
 #[test]
 fn first_state_both_ways(rt: HostRuntime) -> Result<(), Fail> {
-    let mut mementos = Vec::new(rt.alloc());
-    mementos.push(Memento {
-        at: Moment::from_secs(946_684_800).ok_or("a second")?,
-        uri: Clean::new(
-            rt.alloc(),
-            b"http://arc.example/web/20000101000000/http://a.example/",
-        )?,
-    })?;
-    let archive = ArchiveName::new(b"arc.example").ok_or("a name")?;
-    let original = Original::new(rt.alloc(), b"http://a.example/")?;
-    let harvest = Harvest::new(archive, &original, 7, mementos)?;
     let mut state = State::new(rt.alloc());
-    state.merge(&harvest)?;
-    let text = write_state(rt.alloc(), &state)?;
-    assert_eq!(rt; text.as_slice(), FIRST.as_slice());
-    let read = read_state(rt.alloc(), &FIRST)?;
-    assert_eq!(rt; read.len(), 1);
-    let again = write_state(rt.alloc(), &read)?;
-    assert_eq!(rt; again.as_slice(), FIRST.as_slice());
+    take_first(&rt, &mut state)?;
+    assert!(rt; goes_both_ways(&rt, &state, FIRST, 1)?);
     Ok(())
 }
 
 #[test]
 fn empty_state_both_ways(rt: HostRuntime) -> Result<(), Fail> {
-    let text = write_state(rt.alloc(), &State::new(rt.alloc()))?;
-    assert_eq!(rt; text.len(), 30);
-    assert_eq!(rt;
-        text.as_slice(),
-        b"memento-state 1\nentries 0\nend\n".as_slice()
-    );
-    let read = read_state(rt.alloc(), &text)?;
-    assert_eq!(rt; read.len(), 0);
+    assert_eq!(rt; EMPTY.len(), 30);
+    let state = State::new(rt.alloc());
+    assert!(rt; goes_both_ways(&rt, &state, EMPTY, 0)?);
     Ok(())
 }
 

@@ -1,13 +1,18 @@
-//! Writing a state as its text.
-ghost use Rattle.std.specs.Prelude.{◌≡◌, ◌^◌, ◌<◌, ◌++◌, ◌∷◌, [], length, All, IfOk, OnOk};
-ghost use Rattle.std.specs.List.{flat_map};
+//! Writing a state or a delta as its text.
+ghost use Rattle.std.specs.Prelude.{◌≡◌, ◌+◌, ◌^◌, ◌<◌, ◌++◌, ◌∷◌, [], length, All, IfOk, OnOk};
+ghost use Rattle.std.specs.List.{flat_map, filter};
 ghost use Rattle.std.specs.Fmt.{decimal};
 ghost use Rattle.std.specs.FinMap as map;
 ghost use Rattle.memento_time.specs.Mementos.{IsMemento};
 ghost use Rattle.replica_exchange.specs.StateText.{memento_line, entry_line, entry_text, state_text};
 ghost use Rattle.replica_exchange.specs.StateText.{IsEntryLine, IsEntry, IsState};
 ghost use Rattle.harvest_lattice.specs.Sets as set;
+ghost use Rattle.replica_exchange.specs.Stamps.{entries_above, above};
+ghost use Rattle.replica_exchange.specs.CursorRule.{delta_from, start_from};
+ghost use Rattle.replica_exchange.specs.DeltaText.{delta_text, from_line, IsDelta};
 
+use crate::cursor::Cursor;
+use crate::stamped::Stamped;
 use harvest_lattice::{Entry, State};
 use memento_time::{ArchiveName, Memento, NoMemory, Original};
 use std::alloc::{AllocError, Global};
@@ -90,9 +95,106 @@ fn write_entries(out: &mut Vec<u8>, state: &State) -> Result<(), AllocError>
     ensures fits { OnOk result (All IsEntry (map.entries state.now)) }
 {
     for ((archive, original), entry) in state.rows() {
-        write_entry(out, archive, original, &entry)?;
+        write_entry(out, archive, original, entry)?;
     }
     Ok(())
+}
+
+/// One more than the count, if the entry's stamp is above the start.
+fn count_if_above(
+    count: usize,
+    all: usize,
+    stamped: &Stamped,
+    start: u64,
+    archive: ArchiveName,
+    original: &Original,
+    _entry: &Entry,
+) -> usize
+    requires { count < all }
+    ensures { result ≡ count
+        + length (filter (above stamped.now start) (((archive, original.now), _entry.now) ∷ [])) }
+{
+    if !stamped.is_above(archive, original, start) {
+        return count;
+    }
+    count + 1
+}
+
+/// How many entries have a stamp above the start.
+fn count_above(stamped: &Stamped, start: u64) -> u64
+    ensures { result ≡ length (map.entries (entries_above stamped.now start)) }
+{
+    let held = stamped.index().state();
+    let all = held.len();
+    let mut count = 0;
+    for ((archive, original), entry) in held.rows() {
+        count = count_if_above(count, all, stamped, start, archive, original, entry);
+    }
+    count as u64
+}
+
+/// The entry, if its stamp is above the start.
+fn write_if_above(
+    out: &mut Vec<u8>,
+    stamped: &Stamped,
+    start: u64,
+    archive: ArchiveName,
+    original: &Original,
+    entry: &Entry,
+) -> Result<(), AllocError>
+    ensures written { OnOk result (out.new.items ≡ out.old.items
+        ++ flat_map entry_text (filter (above stamped.now start) (((archive, original.now), entry.now) ∷ []))) }
+    ensures fits { OnOk result (All IsEntry (filter (above stamped.now start) (((archive, original.now), entry.now) ∷ []))) }
+{
+    if !stamped.is_above(archive, original, start) {
+        return Ok(());
+    }
+    write_entry(out, archive, original, entry)
+}
+
+/// The entries with a stamp above the start, by archive, then by original.
+fn write_entries_above(out: &mut Vec<u8>, stamped: &Stamped, start: u64) -> Result<(), AllocError>
+    ensures written { OnOk result (out.new.items ≡ out.old.items
+        ++ flat_map entry_text (map.entries (entries_above stamped.now start))) }
+    ensures fits { OnOk result (All IsEntry (map.entries (entries_above stamped.now start))) }
+{
+    for ((archive, original), entry) in stamped.index().state().rows() {
+        write_if_above(out, stamped, start, archive, original, entry)?;
+    }
+    Ok(())
+}
+
+fn write_span(out: &mut Vec<u8>, incarnation: u64, start: u64, end: u64) -> Result<(), AllocError>
+    ensures written { OnOk result (out.new.items ≡ out.old.items ++ from_line incarnation start end) }
+    ensures fits { (incarnation < 2 ^ 64) × (end < 2 ^ 64) }
+{
+    out.extend_from_slice(b"from ")?;
+    write_number(out, incarnation, b' ')?;
+    write_number(out, start, b' ')?;
+    write_number(out, end, b'\n')
+}
+
+/// The text of what the merges after a cursor changed, or of all where there is none of this incarnation.
+///
+/// Takes time linear in the text. Besides, it looks up the stamp of every entry of the state, twice, each time
+/// logarithmic in the number of keys: stamps aren't kept in their own order.
+pub fn write_delta(
+    alloc: Global,
+    stamped: &Stamped,
+    cursor: Option<Cursor>,
+) -> Result<Vec<u8>, NoMemory>
+    ensures written { IfOk result (λ text. text.items ≡ delta_text (delta_from stamped.now cursor)) }
+    ensures fits { IfOk result (λ _. IsDelta (delta_from stamped.now cursor)) }
+{
+    let start = stamped.start_from(cursor);
+    let mut out = Vec::new(alloc);
+    out.extend_from_slice(b"memento-delta 1\n")?;
+    write_span(&mut out, stamped.incarnation(), start, stamped.number())?;
+    out.extend_from_slice(b"entries ")?;
+    write_number(&mut out, count_above(stamped, start), b'\n')?;
+    write_entries_above(&mut out, stamped, start)?;
+    out.extend_from_slice(b"end\n")?;
+    Ok(out)
 }
 
 /// The one text of a state. Takes time linear in the text.

@@ -13,7 +13,7 @@ use Rattle.text_fields.specs.Parts.{Lacks, parted}
 use Rattle.text_fields.proofs.DecimalLemmas.{number_is, decimal_lacks}
 use Rattle.text_fields.proofs.PartLemmas.{parts_are, parts_none_lacks, parts_lacking}
 use Rattle.replica_world.specs.Fields.{◌>>=◌, field, number_field, word_field, is_visible}
-use Rattle.replica_world.specs.Form.{Form, TakeForm, AskForm, Take, Map, Gate, GateAt, Ask, Send, Deliver, Receive, Restart, form_text, IsNumber, IsWord, IsWritten, most_asked, take_of, map_of, gate_at, gate_of, ask_of, send_of, deliver_of, receive_of, restart_of, named, form_of}
+use Rattle.replica_world.specs.Form.{Form, TakeForm, AskForm, Take, Map, Gate, GateAt, Ask, Send, Deliver, Receive, Restart, form_text, IsNumber, IsWord, IsWritten, most_asked, take_of, map_of, gate_at, gate_of, ask_of, send_of, deliver_of, receive_of, restart_of, form_by_word, form_of}
 
 -- ---- one reading after another
 
@@ -240,8 +240,8 @@ restart_laid fields f is =
 by_word : (word name fields : List ℕ) (f : Form) → bytes_eq word name ≡ true → Laid name fields f → Laid word fields f
 by_word word name fields f is laid = (laid.0, (bytes_eq-Decides word name).0 is ∙ laid.1, laid.2)
 
-named_laid : (word fields : List ℕ) (f : Form) → named word fields ≡ Some f → Laid word fields f
-unfolding named
+named_laid : (word fields : List ℕ) (f : Form) → form_by_word word fields ≡ Some f → Laid word fields f
+unfolding form_by_word
 named_laid word fields f = on (bytes_eq word (codes "take")) (bytes_eq word (codes "map")) (bytes_eq word (codes "gate")) (bytes_eq word (codes "ask")) (bytes_eq word (codes "send"))
     (bytes_eq word (codes "deliver")) (bytes_eq word (codes "receive")) (bytes_eq word (codes "restart")) refl refl refl refl refl refl refl refl where
       on : (take map gate ask send deliver receive restart : Bool) → bytes_eq word (codes "take") ≡ take → bytes_eq word (codes "map") ≡ map → bytes_eq word (codes "gate") ≡ gate → bytes_eq word (codes "ask") ≡ ask
@@ -288,8 +288,8 @@ ask_read f w =
     ∙ onward _ _ _ (number_first f.count f.target (omega (arith, w.2)))
     ∙ ap (λ (b : Bool). if b then Some (Ask f) else None) (fits_both (list_all is_visible f.method) f.count w.1.1 w.2)
 
-named_read : (f : Form) → IsWritten f → named (word_of f) (fields_of f) ≡ Some f
-unfolding named map_of gate_of send_of deliver_of receive_of restart_of
+named_read : (f : Form) → IsWritten f → form_by_word (word_of f) (fields_of f) ≡ Some f
+unfolding form_by_word map_of gate_of send_of deliver_of receive_of restart_of
 named_read (Take f) w = take_read f w
 named_read (Map replica original) w = onward _ _ _ (number_first replica original w)
 named_read (Gate replica original) w =
@@ -308,12 +308,12 @@ named_read (Restart replica) w = onward _ _ _ (number_alone replica w)
 pub form_is : (line : List ℕ) → Finds (form_of line) (λ f. IsWritten f × (line ≡ form_text f))
 unfolding form_of
 form_is line f = (there, here) where
-  there : (field line >>= λ word. named word.0 word.1) ≡ Some f → IsWritten f × (line ≡ form_text f)
+  there : (field line >>= λ word. form_by_word word.0 word.1) ≡ Some f → IsWritten f × (line ≡ form_text f)
   there is =
       let word = bound (field line) _ f is in
       let laid = named_laid word.0.0 word.0.1 f word.2 in
       let split = (parts_are 32 line word.0).0 word.1 in
       (laid.0, split.1 ∙ (λ i. laid.1 i ++ 32 ∷ laid.2 i) ∙ sym (form_text-parts f))
 
-  here : IsWritten f × (line ≡ form_text f) → (field line >>= λ word. named word.0 word.1) ≡ Some f
+  here : IsWritten f × (line ≡ form_text f) → (field line >>= λ word. form_by_word word.0 word.1) ≡ Some f
   here (w, is) = onward (field line) _ (word_of f, fields_of f) ((parts_are 32 line (word_of f, fields_of f)).1 (word_lacks f, is ∙ form_text-parts f)) ∙ named_read f w

@@ -18,7 +18,7 @@ use Rattle.replica_events.specs.World.{World, Answer, Effect, RunsOut}
 use Rattle.replica_world.specs.Stands.{Kept, Steps}
 use Rattle.replica_world.specs.Fields.{utf8_text}
 use Rattle.replica_world.specs.Script.{Taking}
-use Rattle.replica_world.specs.Output.{Happens, IsPage, answer_text, taken_line, harvest_of, refused}
+use Rattle.replica_world.specs.Output.{Happens, IsPage, answer_text, taken_line, harvest_of, refusal_text}
 use Rattle.replica_world.specs.Performing.{IsHappening, IsHarvestTaken}
 
 -- any other answer is the event's effect
@@ -79,7 +79,7 @@ harvest_taken_if items old new t original page archive mementos harvest accepted
 -- a page of too many mementos is refused
 pub harvest_too_large_if : {V E : Type 0} (items : V → List ℕ) (old new : Kept) (t : Taking) (original : List ℕ) (page : Page) (archive : List ℕ) (mementos : List Memento) (result : Result V E)
     → SomeIff (Some archive) (IsArchiveName t.archive) t.archive → IsStrictlySortedBy memento_cmp page.mementos → mementos ≡ page.mementos
-    → 100000 < length (set.items (set.from_list {R = memento_cmp} mementos)) → IfOk result (λ text. items text ≡ refused (codes "too many")) → new ≡ old
+    → 100000 < length (set.items (set.from_list {R = memento_cmp} mementos)) → IfOk result (λ text. items text ≡ refusal_text (codes "too many")) → new ≡ old
     → IfOk result (λ text. IsHarvestTaken old t original page (items text) new)
 harvest_too_large_if items old new t original page archive mementos (Err e) name sorted mementos_are many refusal same = tt
 harvest_too_large_if items old new t original page archive mementos (Ok text) name sorted mementos_are many refusal same =

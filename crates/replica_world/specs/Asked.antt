@@ -10,10 +10,13 @@ use Rattle.replica_events.specs.World.{World, Step, Run, start}
 use Rattle.replica_events.specs.History.{LearntAlike}
 use Rattle.replica_events.specs.Agreement.{IsOfTaken}
 
--- the events lead to one world, in which both replicas are asked; where both have learnt the same harvests, their replies are the same
-pub record AgreeAfter (base : List ℕ) (count : ℕ) (events : List Event) (q : Request) (i j : ℕ) (said : Asked) : Type 0 where
+-- the events lead to one world, in which both replicas are asked; where both have learnt the same harvests, their
+-- replies are the same
+pub record AgreeAfter (base : List ℕ) (count : ℕ) (events : List Event) (q : Request) (i j : ℕ)
+    (said : Asked) : Type 0 where
   pub world : World
   pub run : Run base (start count) events said.answers.items world
   pub first : Step base world (Ask i q) said.first world
   pub second : Step base world (Ask j q) said.second world
-  pub learnt : (r s : Reply) → IsOfTaken q → LearntAlike (zip events said.answers.items) i j → said.first ≡ Ok (Replied r) → said.second ≡ Ok (Replied s) → r ≡ s
+  pub learnt : (r s : Reply) → IsOfTaken q → LearntAlike (zip events said.answers.items) i j
+      → said.first ≡ Ok (Replied r) → said.second ≡ Ok (Replied s) → r ≡ s

@@ -43,7 +43,9 @@ most_asked = 16
 
 -- the line of a command
 abbrev pub form_text : Form → List ℕ
-form_text (Take f) = parted (codes "take" ∷ decimal f.replica ∷ f.archive ∷ decimal f.revision ∷ f.address ∷ decimal f.len ∷ f.original ∷ [])
+form_text (Take f) =
+    parted
+    (codes "take" ∷ decimal f.replica ∷ f.archive ∷ decimal f.revision ∷ f.address ∷ decimal f.len ∷ f.original ∷ [])
 form_text (Map replica original) = parted (codes "map" ∷ decimal replica ∷ original ∷ [])
 form_text (Gate replica original) = parted (codes "gate" ∷ decimal replica ∷ original ∷ [])
 form_text (GateAt replica original asked) = parted (codes "gate" ∷ decimal replica ∷ original ∷ asked ∷ [])
@@ -87,7 +89,14 @@ take_of fields = do
   revision ← number_field archive.1
   address ← word_field revision.1
   len ← number_field address.1
-  Some (Take (record { replica = replica.0; archive = archive.0; revision = revision.0; address = address.0; len = len.0; original = len.1 }))
+  Some (Take (record {
+    replica = replica.0;
+    archive = archive.0;
+    revision = revision.0;
+    address = address.0;
+    len = len.0;
+    original = len.1;
+  }))
 
 -- behind `map`
 unfoldable pub map_of : List ℕ → Option Form
@@ -112,7 +121,9 @@ ask_of fields = do
   replica ← number_field fields
   method ← word_field replica.1
   count ← number_field method.1
-  if list_all is_visible method.0 && nat_le count.0 most_asked then Some (Ask (record { replica = replica.0; method = method.0; count = count.0; target = count.1 })) else None
+  if list_all is_visible method.0 && nat_le count.0 most_asked
+      then Some (Ask (record { replica = replica.0; method = method.0; count = count.0; target = count.1 }))
+      else None
 
 -- behind `send`
 unfoldable pub send_of : List ℕ → Option Form
@@ -141,8 +152,8 @@ restart_of fields = do
   Some (Restart replica)
 
 -- by the word that the line begins with
-unfoldable pub named : List ℕ → List ℕ → Option Form
-named word fields =
+unfoldable pub form_by_word : List ℕ → List ℕ → Option Form
+form_by_word word fields =
     if bytes_eq word (codes "take") then take_of fields
     else if bytes_eq word (codes "map") then map_of fields
     else if bytes_eq word (codes "gate") then gate_of fields
@@ -157,4 +168,4 @@ named word fields =
 unfoldable pub form_of : List ℕ → Option Form
 form_of line = do
   word ← field line
-  named word.0 word.1
+  form_by_word word.0 word.1

@@ -30,7 +30,9 @@ pub record IsBehindEmptyLines (text rest : List ℕ) : Type 0 where
 -- lines in turn, and what follows them
 abbrev pub AreLines : ℕ → List ℕ → List (List ℕ) → List ℕ → Type 0
 AreLines zero text lines rest = (lines ≡ []) × (rest ≡ text)
-AreLines (suc count) text lines rest = (line : List ℕ) × (after : List ℕ) × (later : List (List ℕ)) × IsLine text (line, after) × AreLines count after later rest × (lines ≡ line ∷ later)
+AreLines (suc count) text lines rest =
+    (line : List ℕ) × (after : List ℕ) × (later : List (List ℕ)) × IsLine text (line, after)
+    × AreLines count after later rest × (lines ≡ line ∷ later)
 
 -- an event, and nothing more behind its line
 abbrev pub MeansEvent : Event → List ℕ → Command → List ℕ → Type 0
@@ -38,21 +40,34 @@ MeansEvent event after command rest = (command ≡ Step event) × (rest ≡ afte
 
 -- a question that stands in its line
 abbrev pub MeansGet : ℕ → List ℕ → List (List ℕ) → List ℕ → Command → List ℕ → Type 0
-MeansGet replica target asked after command rest = MeansEvent (Ask replica (record { method = codes "GET"; target = target; asked = asked })) after command rest
+MeansGet replica target asked after command rest =
+    MeansEvent (Ask replica (record { method = codes "GET"; target = target; asked = asked })) after command rest
 
 -- what a command's line means, by what follows it
 abbrev pub Means : Form → List ℕ → Command → List ℕ → Type 0
 Means (form.Take f) after command rest =
     (body : List ℕ) × IsBlock f.len after (body, rest)
-    × (command ≡ Take (record { replica = f.replica; archive = f.archive; revision = f.revision; address = f.address; body = body; original = f.original }))
-Means (form.Map replica original) after command rest = MeansGet replica (codes "/timemap/link/" ++ original) [] after command rest
-Means (form.Gate replica original) after command rest = MeansGet replica (codes "/timegate/" ++ original) [] after command rest
-Means (form.GateAt replica original asked) after command rest = MeansGet replica (codes "/timegate/" ++ original) (asked ∷ []) after command rest
+    × (command ≡ Take (record {
+      replica = f.replica;
+      archive = f.archive;
+      revision = f.revision;
+      address = f.address;
+      body = body;
+      original = f.original;
+    }))
+Means (form.Map replica original) after command rest =
+    MeansGet replica (codes "/timemap/link/" ++ original) [] after command rest
+Means (form.Gate replica original) after command rest =
+    MeansGet replica (codes "/timegate/" ++ original) [] after command rest
+Means (form.GateAt replica original asked) after command rest =
+    MeansGet replica (codes "/timegate/" ++ original) (asked ∷ []) after command rest
 Means (form.Ask f) after command rest =
-    (asked : List (List ℕ)) × AreLines f.count after asked rest × (command ≡ Step (Ask f.replica (record { method = f.method; target = f.target; asked = asked })))
+    (asked : List (List ℕ)) × AreLines f.count after asked rest
+    × (command ≡ Step (Ask f.replica (record { method = f.method; target = f.target; asked = asked })))
 Means (form.Send replica) after command rest = MeansEvent (Send replica) after command rest
 Means (form.Deliver replica message) after command rest = MeansEvent (Deliver replica message) after command rest
-Means (form.Receive replica len) after command rest = (bytes : List ℕ) × IsBlock len after (bytes, rest) × (command ≡ Step (Receive replica bytes))
+Means (form.Receive replica len) after command rest =
+    (bytes : List ℕ) × IsBlock len after (bytes, rest) × (command ≡ Step (Receive replica bytes))
 Means (form.Restart replica) after command rest = MeansEvent (Restart replica) after command rest
 
 -- a command at the front of a text: its line, and the block or the lines that follow that
@@ -71,8 +86,12 @@ pub record IsStartAt (text : List ℕ) (begin : Start) (rest : List ℕ) : Type 
   pub most : begin.replicas ≤ 16
   pub service : service_of base ≡ Some begin.base
 
--- a text's commands in turn, each behind the one before and its block or lines; they end at the end of the text, or at a bad line
+-- a text's commands in turn, each behind the one before and its block or lines; they end at the end of the text, or at
+-- a bad line
 abbrev pub IsReadAs : List ℕ → List Command → Option (List ℕ) → Type 0
 IsReadAs text [] None = after_empty_lines text ≡ []
-IsReadAs text [] (Some bad) = (after_empty_lines text ≡ bad) × (0 < length bad) × ((command : Command) (rest : List ℕ) → ¬ IsCommandAt bad command rest)
-IsReadAs text (command ∷ commands) bad = (rest : List ℕ) × IsCommandAt (after_empty_lines text) command rest × IsReadAs rest commands bad
+IsReadAs text [] (Some bad) =
+    (after_empty_lines text ≡ bad) × (0 < length bad)
+    × ((command : Command) (rest : List ℕ) → ¬ IsCommandAt bad command rest)
+IsReadAs text (command ∷ commands) bad =
+    (rest : List ℕ) × IsCommandAt (after_empty_lines text) command rest × IsReadAs rest commands bad

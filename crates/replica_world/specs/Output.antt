@@ -32,12 +32,12 @@ abbrev pub line : List ℕ → List ℕ
 line text = text ++ 10 ∷ []
 
 -- a word and a number
-abbrev pub counted : List ℕ → ℕ → List ℕ
-counted word number = line (word ++ codes " " ++ decimal number)
+abbrev pub number_line : List ℕ → ℕ → List ℕ
+number_line word number = line (word ++ codes " " ++ decimal number)
 
 -- the line that a refused command writes
-abbrev pub refused : List ℕ → List ℕ
-refused why = line (codes "refused " ++ why)
+abbrev pub refusal_text : List ℕ → List ℕ
+refusal_text why = line (codes "refused " ++ why)
 
 -- the line of a header field
 abbrev pub header_line : Header × List ℕ → List ℕ
@@ -45,16 +45,19 @@ header_line h = line (header_name h.0 ++ codes ": " ++ h.1)
 
 -- the status, the header fields in order, and the body behind its length
 abbrev pub reply_text : Reply → List ℕ
-reply_text r = counted (codes "reply") r.status ++ flat_map header_line r.headers ++ counted (codes "body") (length r.body) ++ r.body
+reply_text r =
+    number_line (codes "reply") r.status ++ flat_map header_line r.headers ++ number_line (codes "body") (length r.body)
+    ++ r.body
 
 -- how many mementos and further TimeMaps a page has, and how many links were left out
 abbrev pub taken_line : Page → List ℕ
 taken_line page =
-    line (codes "taken " ++ decimal (length page.mementos) ++ codes " " ++ decimal (length page.further) ++ codes " " ++ decimal page.dropped)
+    line (codes "taken " ++ decimal (length page.mementos) ++ codes " " ++ decimal (length page.further)
+    ++ codes " " ++ decimal page.dropped)
 
 -- out of memory ends a replay, and this line is never written
 abbrev pub refusal_line : Refused → List ℕ
-refusal_line why = refused (words_of why)
+refusal_line why = refusal_text (words_of why)
 
 -- what an event says where it is accepted and says no number and no reply
 abbrev pub accepted_line : Event → List ℕ
@@ -70,7 +73,7 @@ abbrev pub answer_text : List ℕ → Answer → List ℕ
 answer_text accepted (Ok Taken) = accepted
 answer_text accepted (Ok Joined) = accepted
 answer_text accepted (Ok Restarted) = accepted
-answer_text accepted (Ok (Sent count)) = counted (codes "sent") count
+answer_text accepted (Ok (Sent count)) = number_line (codes "sent") count
 answer_text accepted (Ok (Replied reply)) = reply_text reply
 answer_text accepted (Err why) = refusal_line why
 
@@ -85,11 +88,12 @@ fault_words fault.NoMemory = codes "no memory"
 
 -- an event of the world, and what is written of its answer
 abbrev pub Happens : List ℕ → World → List ℕ → Event → List ℕ → World → Type 0
-Happens base world accepted event text next = (answer : Answer) × Effect base world event answer next × (text ≡ answer_text accepted answer)
+Happens base world accepted event text next =
+    (answer : Answer) × Effect base world event answer next × (text ≡ answer_text accepted answer)
 
 -- a refused command changes nothing
 abbrev pub RefusedAs : List ℕ → World → List ℕ → World → Type 0
-RefusedAs why world text next = (text ≡ refused why) × (next ≡ world)
+RefusedAs why world text next = (text ≡ refusal_text why) × (next ≡ world)
 
 -- the page that the bytes are at an address
 abbrev pub IsPage : List ℕ → List ℕ → Page → Type 0
@@ -97,7 +101,8 @@ IsPage address body page = MatchOption (utf8_text address) ⊥ (λ base. IsAnswe
 
 -- the harvest that a page makes
 abbrev pub harvest_of : Taking → List ℕ → Page → Harvested
-harvest_of t original page = record { archive = t.archive; original = original; revision = t.revision; mementos = set.from_list page.mementos }
+harvest_of t original page =
+    record { archive = t.archive; original = original; revision = t.revision; mementos = set.from_list page.mementos }
 
 -- 100,000 mementos
 abbrev pub most_mementos : ℕ
@@ -107,8 +112,10 @@ most_mementos = 100000
 abbrev pub TakesHarvest : List ℕ → World → Taking → List ℕ → Page → List ℕ → World → Type 0
 TakesHarvest base world t original page text next =
     (¬ (IsArchiveName t.archive) × RefusedAs (codes "bad archive") world text next)
-    ⊎ (IsArchiveName t.archive × (((most_mementos < length page.mementos) × RefusedAs (codes "too many") world text next)
-    ⊎ ((length page.mementos ≤ most_mementos) × Happens base world (taken_line page) (event.Take t.replica (harvest_of t original page)) text next)))
+    ⊎ (IsArchiveName t.archive × (
+    ((most_mementos < length page.mementos) × RefusedAs (codes "too many") world text next)
+    ⊎ ((length page.mementos ≤ most_mementos)
+    × Happens base world (taken_line page) (event.Take t.replica (harvest_of t original page)) text next)))
 
 -- the mementos of a page are taken, under the original that its text names
 abbrev pub TakesPage : List ℕ → World → Taking → List ℕ → World → Type 0
@@ -128,7 +135,8 @@ Performs base world (Step event) text next = Happens base world (accepted_line e
 abbrev pub Says : List ℕ → World → List Command → List ℕ → World → Type 0
 Says base world [] text end = (text ≡ []) × (end ≡ world)
 Says base world (command ∷ commands) text end =
-    (first : List ℕ) × (next : World) × (later : List ℕ) × Performs base world command first next × Says base next commands later end × (text ≡ first ++ later)
+    (first : List ℕ) × (next : World) × (later : List ℕ) × Performs base world command first next
+    × Says base next commands later end × (text ≡ first ++ later)
 
 -- what the commands before the first bad line write, in a new world; nothing where there is none
 abbrev pub Writes : Option Start → List Command → List ℕ → Type 0
@@ -139,19 +147,27 @@ Writes (Some s) commands output = (end : World) × Says s.base (start s.replicas
 abbrev pub IsOutput : List ℕ → List ℕ → Type 0
 IsOutput script output = Writes (script_of script).start (script_of script).commands.list output
 
--- What is written and answered where a text has these outputs and this bad line. Unless a device failed or memory was refused, it is a whole output, and the bad line if there is one. Where the reader failed, nothing is written; else a beginning of each output.
-abbrev pub Replayed : (List ℕ → Type 0) → Option ℕ → Option (List ℕ) → Option (List ℕ) → Result (Unit {0}) ReplayFault → Type 0
+-- What is written and answered where a text has these outputs and this bad line. Unless a device failed or memory was
+-- refused, it is a whole output, and the bad line if there is one. Where the reader failed, nothing is written; else a
+-- beginning of each output.
+abbrev pub Replayed : (List ℕ → Type 0) → Option ℕ → Option (List ℕ) → Option (List ℕ) → Result (Unit {0}) ReplayFault
+    → Type 0
 Replayed IsOneOutput bad old new (Ok u) = (output : List ℕ) × IsOneOutput output × Appends old new output × (bad ≡ None)
-Replayed IsOneOutput bad old new (Err (fault.BadLine number)) = (output : List ℕ) × IsOneOutput output × Appends old new output × (bad ≡ Some number)
+Replayed IsOneOutput bad old new (Err (fault.BadLine number)) =
+    (output : List ℕ) × IsOneOutput output × Appends old new output × (bad ≡ Some number)
 Replayed IsOneOutput bad old new (Err fault.Read) = Appends old new []
-Replayed IsOneOutput bad old new (Err fault.Write) = (output : List ℕ) → IsOneOutput output → AppendsBeginning old new output
-Replayed IsOneOutput bad old new (Err fault.NoMemory) = (output : List ℕ) → IsOneOutput output → AppendsBeginning old new output
+Replayed IsOneOutput bad old new (Err fault.Write) =
+    (output : List ℕ) → IsOneOutput output → AppendsBeginning old new output
+Replayed IsOneOutput bad old new (Err fault.NoMemory) =
+    (output : List ℕ) → IsOneOutput output → AppendsBeginning old new output
 
 -- a whole script
 abbrev pub Replays : List ℕ → Option (List ℕ) → Option (List ℕ) → Result (Unit {0}) ReplayFault → Type 0
 Replays script old new result = Replayed (IsOutput script) (bad_line script) old new result
 
 -- the commands of a text that ends the script, from a world on
-abbrev pub ReplaysFrom : List ℕ → World → List ℕ → List ℕ → Option (List ℕ) → Option (List ℕ) → Result (Unit {0}) ReplayFault → Type 0
+abbrev pub ReplaysFrom : List ℕ → World → List ℕ → List ℕ → Option (List ℕ) → Option (List ℕ)
+    → Result (Unit {0}) ReplayFault → Type 0
 ReplaysFrom base world script text old new result =
-    Replayed (λ output. (end : World) × Says base world (commands_of text).list output end) (option_map (number_of_line script) (commands_of text).bad) old new result
+    Replayed (λ output. (end : World) × Says base world (commands_of text).list output end)
+    (option_map (number_of_line script) (commands_of text).bad) old new result

@@ -16,15 +16,18 @@ pub record Reaches (writes : World → List ℕ → World → Type 0) (w : World
 
 -- whatever world the old one stands for
 abbrev pub ReachesAll : (List ℕ → World → List ℕ → World → Type 0) → Kept → List ℕ → Kept → Type 0
-ReachesAll writes old text new = (new.base ≡ old.base) × ((w : World) → Stands old w → Reaches (writes old.base) w text new)
+ReachesAll writes old text new =
+    (new.base ≡ old.base) × ((w : World) → Stands old w → Reaches (writes old.base) w text new)
 
 -- an event happened, and this was written
 abbrev pub IsHappening : Kept → List ℕ → Event → List ℕ → Kept → Type 0
-IsHappening old accepted event text new = ReachesAll (λ base w text next. Happens base w accepted event text next) old text new
+IsHappening old accepted event text new =
+    ReachesAll (λ base w text next. Happens base w accepted event text next) old text new
 
 -- a harvest was taken, and this was written
 abbrev pub IsHarvestTaken : Kept → Taking → List ℕ → Page → List ℕ → Kept → Type 0
-IsHarvestTaken old t original page text new = ReachesAll (λ base w text next. TakesHarvest base w t original page text next) old text new
+IsHarvestTaken old t original page text new =
+    ReachesAll (λ base w text next. TakesHarvest base w t original page text next) old text new
 
 -- a page was taken, and this was written
 abbrev pub IsPageTaken : Kept → Taking → List ℕ → Kept → Type 0

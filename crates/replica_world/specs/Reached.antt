@@ -10,7 +10,7 @@ use Rattle.replica_events.specs.declared.event.Event.TheVariants as event
 use Rattle.replica_events.specs.World.{World, Answer, HasReplica, Run, start}
 use Rattle.replica_events.specs.History.{History, LearntAlike}
 use Rattle.replica_world.specs.Script.{Taking, Command, Take, Step}
-use Rattle.replica_world.specs.Output.{IsPage, most_mementos, harvest_of, accepted_line, answer_text, taken_line, refused, reply_text}
+use Rattle.replica_world.specs.Output.{IsPage, most_mementos, harvest_of, accepted_line, answer_text, taken_line, refusal_text, reply_text}
 
 -- the event takes the harvest of a page of at most 100,000 mementos
 pub record IsHarvestTaking (t : Taking) (happens : Event) : Type 0 where
@@ -24,24 +24,30 @@ pub record IsHarvestTaking (t : Taking) (happens : Event) : Type 0 where
 
 -- why a page comes to no event
 abbrev pub IsPageRefusal : List ℕ → Type 0
-IsPageRefusal why = (why ≡ codes "bad original") ⊎ (why ≡ codes "bad page") ⊎ (why ≡ codes "bad archive") ⊎ (why ≡ codes "too many")
+IsPageRefusal why =
+    (why ≡ codes "bad original") ⊎ (why ≡ codes "bad page") ⊎ (why ≡ codes "bad archive") ⊎ (why ≡ codes "too many")
 
 -- an event happened, and this was written of its answer
 abbrev pub WritesAnswer : List ℕ → Event → History → List ℕ → Type 0
-WritesAnswer accepted happens happened text = (answer : Answer) × (happened ≡ (happens, answer) ∷ []) × (text ≡ answer_text accepted answer)
+WritesAnswer accepted happens happened text =
+    (answer : Answer) × (happened ≡ (happens, answer) ∷ []) × (text ≡ answer_text accepted answer)
 
--- what happens by a command, and what it writes: a page that makes no harvest comes to no event, and is refused in a line
+-- what happens by a command, and what it writes: a page that makes no harvest comes to no event, and is refused in a
+-- line
 abbrev pub ComesTo : Command → History → List ℕ → Type 0
 ComesTo (Take t) happened text =
-    ((happens : Event) × (taking : IsHarvestTaking t happens) × WritesAnswer (taken_line taking.page) happens happened text)
-    ⊎ (((happens : Event) → ¬ IsHarvestTaking t happens) × (happened ≡ []) × ((why : List ℕ) × IsPageRefusal why × (text ≡ refused why)))
+    ((happens : Event) × (taking : IsHarvestTaking t happens)
+    × WritesAnswer (taken_line taking.page) happens happened text)
+    ⊎ (((happens : Event) → ¬ IsHarvestTaking t happens) × (happened ≡ [])
+    × ((why : List ℕ) × IsPageRefusal why × (text ≡ refusal_text why)))
 ComesTo (Step happens) happened text = WritesAnswer (accepted_line happens) happens happened text
 
 -- commands in turn
 abbrev pub ComeTo : List Command → History → List ℕ → Type 0
 ComeTo [] happened text = (happened ≡ []) × (text ≡ [])
 ComeTo (command ∷ commands) happened text =
-    (first : History) × (later : History) × (said : List ℕ) × (more : List ℕ) × ComesTo command first said × ComeTo commands later more × (happened ≡ first ++ later) × (text ≡ said ++ more)
+    (first : History) × (later : History) × (said : List ℕ) × (more : List ℕ) × ComesTo command first said
+    × ComeTo commands later more × (happened ≡ first ++ later) × (text ≡ said ++ more)
 
 -- the events that commands come to lead from one world to the other, and the text is what is written of their answers
 pub record IsRunOf (base : List ℕ) (w : World) (commands : List Command) (text : List ℕ) (end : World) : Type 0 where
@@ -50,9 +56,11 @@ pub record IsRunOf (base : List ℕ) (w : World) (commands : List Command) (text
   pub come : ComeTo commands (zip events answers) text
   pub run : Run base w events answers end
 
--- commands, and then one request to two replicas: where both are there and have learnt alike by the events of the commands, one reply is written twice
+-- commands, and then one request to two replicas: where both are there and have learnt alike by the events of the
+-- commands, one reply is written twice
 pub record AnswersTwice (base : List ℕ) (count : ℕ) (commands : List Command) (i j : ℕ) (output : List ℕ) : Type 0 where
   pub said : List ℕ
   pub mid : World
   pub run : IsRunOf base (start count) commands said mid
-  pub twice : HasReplica mid i → HasReplica mid j → LearntAlike (zip run.events run.answers) i j → (r : Reply) × (output ≡ said ++ (reply_text r ++ reply_text r))
+  pub twice : HasReplica mid i → HasReplica mid j → LearntAlike (zip run.events run.answers) i j
+      → (r : Reply) × (output ≡ said ++ (reply_text r ++ reply_text r))

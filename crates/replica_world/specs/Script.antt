@@ -33,7 +33,15 @@ get target asked = record { method = codes "GET"; target = target; asked = asked
 
 -- a page to be taken, with the block that follows its line
 abbrev pub taking_of : TakeForm → List ℕ → Taking
-taking_of f body = record { replica = f.replica; archive = f.archive; revision = f.revision; address = f.address; body = body; original = f.original }
+taking_of f body =
+    record {
+      replica = f.replica;
+      archive = f.archive;
+      revision = f.revision;
+      address = f.address;
+      body = body;
+      original = f.original;
+    }
 
 -- an event, and the text behind its command
 abbrev pub stepped : Event → List ℕ → Found
@@ -46,7 +54,8 @@ command_of (form.Take f) rest = do
   Some (Take (taking_of f body.0), body.1)
 command_of (form.Map replica original) rest = stepped (Ask replica (get (codes "/timemap/link/" ++ original) [])) rest
 command_of (form.Gate replica original) rest = stepped (Ask replica (get (codes "/timegate/" ++ original) [])) rest
-command_of (form.GateAt replica original asked) rest = stepped (Ask replica (get (codes "/timegate/" ++ original) (asked ∷ []))) rest
+command_of (form.GateAt replica original asked) rest =
+    stepped (Ask replica (get (codes "/timegate/" ++ original) (asked ∷ []))) rest
 command_of (form.Ask f) rest = do
   asked ← lines_of f.count rest
   stepped (Ask f.replica (record { method = f.method; target = f.target; asked = asked.0 })) asked.1
@@ -120,7 +129,8 @@ onward text (Some found) next = command_before found.0 (next found.1)
 unfoldable pub commands_within : ℕ → List ℕ → Commands
 commands_within zero text = no_more
 commands_within (suc bytes) [] = no_more
-commands_within (suc bytes) (b ∷ text) = onward (b ∷ text) (command_at (b ∷ text)) (λ rest. commands_within bytes (after_empty_lines rest))
+commands_within (suc bytes) (b ∷ text) =
+    onward (b ∷ text) (command_at (b ∷ text)) (λ rest. commands_within bytes (after_empty_lines rest))
 
 -- the commands of a text, up to a bad line
 unfoldable pub commands_of : List ℕ → Commands

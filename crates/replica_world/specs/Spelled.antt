@@ -13,7 +13,15 @@ use Rattle.replica_world.specs.Script.{Taking, Command, Take, Step, Start}
 
 -- a `take` as the definition sees it
 abbrev pub taking_view : SpelledTaking → Taking
-taking_view t = record { replica = t.replica; archive = t.archive.now; revision = t.revision; address = t.address.now; body = t.body.now; original = t.original.now }
+taking_view t =
+    record {
+      replica = t.replica;
+      archive = t.archive.now;
+      revision = t.revision;
+      address = t.address.now;
+      body = t.body.now;
+      original = t.original.now;
+    }
 
 -- a command as the definition sees it
 abbrev pub command_view : code.Command → Command
@@ -26,7 +34,15 @@ start_view s = record { replicas = s.replicas; base = s.service }
 
 -- the line of a `take` as the definition sees it
 abbrev pub take_form_view : SpelledTake → TakeForm
-take_form_view f = record { replica = f.replica; archive = f.archive.now; revision = f.revision; address = f.address.now; len = f.len; original = f.original.now }
+take_form_view f =
+    record {
+      replica = f.replica;
+      archive = f.archive.now;
+      revision = f.revision;
+      address = f.address.now;
+      len = f.len;
+      original = f.original.now;
+    }
 
 -- the line of an `ask` as the definition sees it
 abbrev pub ask_form_view : SpelledAsk → AskForm

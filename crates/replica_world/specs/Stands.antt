@@ -17,12 +17,16 @@ pub record Kept : Type 0 where
 
 -- what is kept of a message, as a pair of its parts
 abbrev pub coded_message : Coded SentMessage
-coded_message = code_by (ℕ × List ℕ) (coded× coded_ℕ (coded_list coded_ℕ)) (λ m. (m.sender, m.bytes)) (λ p. record { sender = p.0; bytes = p.1 }) (λ _. refl)
+coded_message =
+    code_by (ℕ × List ℕ) (coded× coded_ℕ (coded_list coded_ℕ))
+    (λ m. (m.sender, m.bytes)) (λ p. record { sender = p.0; bytes = p.1 }) (λ _. refl)
 
 -- what is kept of a world, as a tuple of its parts
 abbrev pub coded_kept_world : Coded Kept
 coded_kept_world =
-    code_by (List ℕ × (List Entries × List SentMessage)) (coded× (coded_list coded_ℕ) (coded× (coded_list (fmap.code {R = key_cmp} coded_key coded_kept)) (coded_list coded_message)))
+    code_by (List ℕ × (List Entries × List SentMessage))
+    (coded× (coded_list coded_ℕ)
+    (coded× (coded_list (fmap.code {R = key_cmp} coded_key coded_kept)) (coded_list coded_message)))
     (λ k. (k.base, (k.states, k.messages))) (λ p. record { base = p.0; states = p.1.0; messages = p.1.1 }) (λ _. refl)
 
 -- the state of what a replica has taken
@@ -38,7 +42,8 @@ pub record IsSent (m : Message) : Type 0 where
   pub state : IsState (lat m.taken)
   pub text : m.bytes ≡ state_text (lat m.taken)
 
--- what is kept stands for a world: for each replica the state of what it has taken, for each message its sender and its bytes
+-- what is kept stands for a world: for each replica the state of what it has taken, for each message its sender and its
+-- bytes
 pub record Stands (kept : Kept) (w : World) : Type 0 where
   pub states : kept.states ≡ map state_of w.replicas
   pub messages : kept.messages ≡ map kept_message w.messages

@@ -13,7 +13,8 @@ ghost use Rattle.replica_world.specs.ReadBack.{AreOnWeb, page_of};
 /// harvest another. No other page may be answered, by `one_page`, and no fault but NoMemory, by
 /// `no_fault_beside_a_page`.
 pub fn timemaps_are_pages()
-    ensures { (base original address : List ℕ) (url : Parts) (mementos : List Memento) → IsBase base → IsOriginal original → AreOnWeb mementos
+    ensures { (base original address : List ℕ) (url : Parts) (mementos : List Memento)
+        → IsBase base → IsOriginal original → AreOnWeb mementos
         → base_of address ≡ Some url → IsShort (timemap_text base original mementos)
         → IsAnswer address (timemap_text base original mementos) (Ok (page_of mementos)) }
 {}

@@ -20,14 +20,29 @@ fn service(rt: &HostRuntime) -> Result<Service, Fail> {
     Ok(Service::new(rt.alloc(), "http://agg.example")?)
 }
 
-fn take(rt: &HostRuntime, replica: usize, second: u64, uri: &[u8]) -> Result<Event, Fail> {
-    let archive = ArchiveName::new(b"a1").ok_or("no name")?;
-    let original = Original::new(rt.alloc(), b"http://a.example/")?;
+fn two_replicas(rt: &HostRuntime) -> Result<World, Fail> {
+    Ok(World::new(rt.alloc(), 2, service(rt)?)?)
+}
+
+fn one_replica(rt: &HostRuntime) -> Result<World, Fail> {
+    Ok(World::new(rt.alloc(), 1, service(rt)?)?)
+}
+
+fn memento(rt: &HostRuntime, second: u64, uri: &[u8]) -> Result<Memento, Fail> {
     let at = Moment::from_secs(second).ok_or("no moment")?;
     let uri = Clean::new(rt.alloc(), uri)?;
-    let mementos = vec![in rt.alloc(); Memento { at, uri }]?;
-    let harvest = Harvest::new(archive, &original, 5, mementos)?;
-    Ok(Event::Take(replica, harvest))
+    Ok(Memento { at, uri })
+}
+
+fn harvest(rt: &HostRuntime, mementos: Vec<Memento>) -> Result<Harvest, Fail> {
+    let archive = ArchiveName::new(b"a1").ok_or("no name")?;
+    let original = Original::new(rt.alloc(), b"http://a.example/")?;
+    Ok(Harvest::new(archive, &original, 5, mementos)?)
+}
+
+fn take(rt: &HostRuntime, replica: usize, second: u64, uri: &[u8]) -> Result<Event, Fail> {
+    let mementos = vec![in rt.alloc(); memento(rt, second, uri)?]?;
+    Ok(Event::Take(replica, harvest(rt, mementos)?))
 }
 
 fn octets(rt: &HostRuntime, text: &[u8]) -> Result<Octets, Fail> {
@@ -53,157 +68,224 @@ fn reply_of(answer: &Answer) -> Option<&Reply> {
     }
 }
 
+// Two replicas each take one memento and send it.
+fn push_sends(rt: &HostRuntime, events: &mut Vec<Event>) -> Result<(), Fail> {
+    events.push(take(rt, 1, SECOND_1, b"http://m.example/1")?)?;
+    events.push(take(rt, 2, SECOND_2, b"http://m.example/2")?)?;
+    events.push(Event::Send(1))?;
+    events.push(Event::Send(2))?;
+    Ok(())
+}
+
+fn sends(rt: &HostRuntime) -> Result<Vec<Event>, Fail> {
+    let mut events = Vec::new(rt.alloc());
+    push_sends(rt, &mut events)?;
+    Ok(events)
+}
+
 // Two replicas that each take one memento, send, and get what the other sent.
+fn push_exchange(rt: &HostRuntime, events: &mut Vec<Event>) -> Result<(), Fail> {
+    push_sends(rt, events)?;
+    events.push(Event::Deliver(2, 1))?;
+    events.push(Event::Deliver(1, 2))?;
+    Ok(())
+}
+
 fn exchange(rt: &HostRuntime) -> Result<Vec<Event>, Fail> {
-    Ok(vec![in rt.alloc();
-        take(rt, 1, SECOND_1, b"http://m.example/1")?,
-        take(rt, 2, SECOND_2, b"http://m.example/2")?,
-        Event::Send(1),
-        Event::Send(2),
-        Event::Deliver(2, 1),
-        Event::Deliver(1, 2),
-    ]?)
+    let mut events = Vec::new(rt.alloc());
+    push_exchange(rt, &mut events)?;
+    Ok(events)
+}
+
+fn push_questions(rt: &HostRuntime, events: &mut Vec<Event>) -> Result<(), Fail> {
+    events.push(Event::Ask(1, timemap(rt)?))?;
+    events.push(Event::Ask(2, timemap(rt)?))?;
+    Ok(())
+}
+
+// The exchange, and then both replicas are asked for the TimeMap.
+fn asked_exchange(rt: &HostRuntime) -> Result<Vec<Event>, Fail> {
+    let mut events = Vec::new(rt.alloc());
+    push_exchange(rt, &mut events)?;
+    push_questions(rt, &mut events)?;
+    Ok(events)
+}
+
+fn is_timemap_of_both(answer: &Answer) -> bool {
+    match reply_of(answer) {
+        Some(reply) => reply.status == 200 && reply.body.as_slice() == TIMEMAP,
+        None => false,
+    }
+}
+
+fn are_told(answers: &[Answer]) -> bool {
+    matches!(answers.get(1), Some(Ok(Said::Taken)))
+        && matches!(answers.get(3), Some(Ok(Said::Sent(2))))
+        && matches!(answers.get(5), Some(Ok(Said::Joined)))
+        && answers.len() == 8
+}
+
+fn end_with_timemaps(answers: &[Answer]) -> bool {
+    answers
+        .iter()
+        .skip(6)
+        .all(|answer| is_timemap_of_both(answer))
 }
 
 #[test]
 fn replicas_that_told_each_other(rt: HostRuntime) -> Result<(), Fail> {
-    let mut world = World::new(rt.alloc(), 2, service(&rt)?)?;
-    let mut events = exchange(&rt)?;
-    events.push(Event::Ask(1, timemap(&rt)?))?;
-    events.push(Event::Ask(2, timemap(&rt)?))?;
-    let answers = world.run(&events)?;
     assert_eq!(rt; TIMEMAP.len(), 444);
-    assert!(rt; matches!(answers.get(1), Some(Ok(Said::Taken))));
-    assert!(rt; matches!(answers.get(3), Some(Ok(Said::Sent(2)))));
-    assert!(rt; matches!(answers.get(5), Some(Ok(Said::Joined))));
-    assert_eq!(rt; answers.len(), 8);
-    for answer in answers.iter().skip(6) {
-        let reply = reply_of(answer).ok_or("no reply")?;
-        assert_eq!(rt; reply.status, 200);
-        assert_eq!(rt; reply.body.as_slice(), TIMEMAP);
-    }
+    let mut world = two_replicas(&rt)?;
+    let answers = world.run(&asked_exchange(&rt)?)?;
+    assert!(rt; are_told(&answers));
+    assert!(rt; end_with_timemaps(&answers));
+    Ok(())
+}
+
+fn ask_both_after_the_exchange(rt: &HostRuntime) -> Result<Asked, Fail> {
+    let events = exchange(rt)?;
+    let request = timemap(rt)?;
+    Ok(asked_after(rt.alloc(), 2, service(rt)?, &events, &request, 1, 2)?)
+}
+
+#[test]
+fn replicas_with_one_state(rt: HostRuntime) -> Result<(), Fail> {
     replicas_agree();
-    let asked = asked_after(
-        rt.alloc(),
-        2,
-        service(&rt)?,
-        &exchange(&rt)?,
-        &timemap(&rt)?,
-        1,
-        2,
-    )?;
+    let asked = ask_both_after_the_exchange(&rt)?;
     assert_eq!(rt; asked.answers.len(), 6);
-    for answer in [&asked.first, &asked.second] {
-        assert_eq!(rt;
-            reply_of(answer).ok_or("no reply")?.body.as_slice(),
-            TIMEMAP
-        );
-    }
+    assert!(rt; is_timemap_of_both(&asked.first) && is_timemap_of_both(&asked.second));
     Ok(())
 }
 
 // Whether the replica shows no memento of the original.
 fn shows_nothing(rt: &HostRuntime, world: &World, replica: usize) -> Result<bool, Fail> {
     let answer = world.ask(replica, &timemap(rt)?);
+    Ok(match reply_of(&answer) {
+        Some(reply) => reply.status == 404 && reply.body.as_slice() == b"no memento\n".as_slice(),
+        None => false,
+    })
+}
+
+fn shows_both(rt: &HostRuntime, world: &World, replica: usize) -> Result<bool, Fail> {
+    Ok(is_timemap_of_both(&world.ask(replica, &timemap(rt)?)))
+}
+
+// The length of the replica's TimeMap.
+fn timemap_length(rt: &HostRuntime, world: &World, replica: usize) -> Result<usize, Fail> {
+    let answer = world.ask(replica, &timemap(rt)?);
     let reply = reply_of(&answer).ok_or("no reply")?;
-    Ok(reply.status == 404 && reply.body.as_slice() == b"no memento\n".as_slice())
+    Ok(reply.body.as_slice().len())
+}
+
+// Whether replica 1 shows nothing once it restarts, while the other still shows something.
+fn forgets_by_a_restart(rt: &HostRuntime, world: &mut World) -> Result<bool, Fail> {
+    Ok(
+        matches!(world.step(&Event::Restart(1)), Ok(Said::Restarted))
+            && shows_nothing(rt, world, 1)?
+            && !shows_nothing(rt, world, 2)?,
+    )
+}
+
+// Whether replica 1 gets back one memento by the other's message, and both by its own.
+fn learns_again(rt: &HostRuntime, world: &mut World) -> Result<bool, Fail> {
+    world.step(&Event::Deliver(1, 2))?;
+    let one = timemap_length(rt, world, 1)?;
+    world.step(&Event::Deliver(1, 1))?;
+    Ok(one == 365 && shows_both(rt, world, 1)?)
 }
 
 #[test]
 fn restarts(rt: HostRuntime) -> Result<(), Fail> {
-    let mut world = World::new(rt.alloc(), 2, service(&rt)?)?;
+    let mut world = two_replicas(&rt)?;
     world.run(&exchange(&rt)?)?;
-    assert!(rt; matches!(world.step(&Event::Restart(1)), Ok(Said::Restarted)));
-    assert!(rt; shows_nothing(&rt, &world, 1)?);
-    assert!(rt; !shows_nothing(&rt, &world, 2)?);
-    world.step(&Event::Deliver(1, 2))?;
-    let answer = world.ask(1, &timemap(&rt)?);
-    let reply = reply_of(&answer).ok_or("no reply")?;
-    assert_eq!(rt; reply.body.as_slice().len(), 365);
-    world.step(&Event::Deliver(1, 1))?;
-    let answer = world.ask(1, &timemap(&rt)?);
-    assert_eq!(rt;
-        reply_of(&answer).ok_or("no reply")?.body.as_slice(),
-        TIMEMAP
-    );
+    assert!(rt; forgets_by_a_restart(&rt, &mut world)?);
+    assert!(rt; learns_again(&rt, &mut world)?);
     Ok(())
+}
+
+fn joins_in_any_order(world: &mut World) -> bool {
+    let deliveries = [(1, 2), (2, 2), (1, 2), (2, 1), (1, 1), (2, 1)];
+    for (replica, message) in deliveries {
+        if !matches!(
+            world.step(&Event::Deliver(replica, message)),
+            Ok(Said::Joined)
+        ) {
+            return false;
+        }
+    }
+    true
 }
 
 #[test]
 fn deliveries_in_any_order(rt: HostRuntime) -> Result<(), Fail> {
-    let mut world = World::new(rt.alloc(), 2, service(&rt)?)?;
-    for event in exchange(&rt)?.iter().take(4) {
-        world.step(event)?;
-    }
-    let deliveries = [(1, 2), (2, 2), (1, 2), (2, 1), (1, 1), (2, 1)];
-    for (replica, message) in deliveries {
-        assert!(rt;
-            matches!(
-                world.step(&Event::Deliver(replica, message)),
-                Ok(Said::Joined)
-            )
-        );
-    }
-    for replica in 1..3 {
-        let answer = world.ask(replica, &timemap(&rt)?);
-        assert_eq!(rt;
-            reply_of(&answer).ok_or("no reply")?.body.as_slice(),
-            TIMEMAP
-        );
-    }
+    let mut world = two_replicas(&rt)?;
+    world.run(&sends(&rt)?)?;
+    assert!(rt; joins_in_any_order(&mut world));
+    assert!(rt; shows_both(&rt, &world, 1)? && shows_both(&rt, &world, 2)?);
     Ok(())
+}
+
+fn receive(rt: &HostRuntime, text: &[u8]) -> Result<Event, Fail> {
+    Ok(Event::Receive(1, octets(rt, text)?))
+}
+
+fn refuses(world: &mut World, event: &Event, refused: Refused) -> bool {
+    world.step(event).err() == Some(refused)
+}
+
+fn refuses_what_is_not_there(world: &mut World) -> bool {
+    refuses(world, &Event::Restart(2), Refused::NoReplica)
+        && refuses(world, &Event::Deliver(0, 1), Refused::NoReplica)
+        && refuses(world, &Event::Deliver(1, 1), Refused::NoMessage)
 }
 
 #[test]
 fn refusals(rt: HostRuntime) -> Result<(), Fail> {
-    let mut world = World::new(rt.alloc(), 1, service(&rt)?)?;
-    let bad = b"memento-state 1\nentries 0\nend\n\n";
-    let refusals = [
-        (Event::Restart(2), Refused::NoReplica),
-        (Event::Deliver(0, 1), Refused::NoReplica),
-        (Event::Deliver(1, 1), Refused::NoMessage),
-        (Event::Receive(1, octets(&rt, bad)?), Refused::BadState),
-    ];
-    for (event, refused) in &refusals {
-        assert!(rt; world.step(event).err() == Some(*refused));
-    }
-    let empty = octets(&rt, b"memento-state 1\nentries 0\nend\n")?;
-    assert!(rt; matches!(world.step(&Event::Receive(1, empty)), Ok(Said::Joined)));
+    let mut world = one_replica(&rt)?;
+    assert!(rt; refuses_what_is_not_there(&mut world));
+    let bad = receive(&rt, b"memento-state 1\nentries 0\nend\n\n")?;
+    assert!(rt; refuses(&mut world, &bad, Refused::BadState));
+    let empty = receive(&rt, b"memento-state 1\nentries 0\nend\n")?;
+    assert!(rt; matches!(world.step(&empty), Ok(Said::Joined)));
     assert!(rt; shows_nothing(&rt, &world, 1)?);
     Ok(())
 }
 
 #[test]
 fn each_event_has_an_answer(rt: HostRuntime) -> Result<(), Fail> {
-    let mut world = World::new(rt.alloc(), 1, service(&rt)?)?;
-    let events = vec![in rt.alloc(); Event::Restart(2), Event::Restart(1)]?;
-    let answers = world.run(&events)?;
+    let mut world = one_replica(&rt)?;
+    let answers = world.run(&[Event::Restart(2), Event::Restart(1)])?;
     assert_eq!(rt; answers.len(), 2);
     assert!(rt; matches!(answers.first(), Some(Err(Refused::NoReplica))));
     assert!(rt; matches!(answers.last(), Some(Ok(Said::Restarted))));
     Ok(())
 }
 
+fn location(reply: &Reply) -> Option<&[u8]> {
+    for (header, value) in reply.headers.as_slice() {
+        if *header == Header::Location {
+            return Some(value.as_slice());
+        }
+    }
+    None
+}
+
+// Whether the TimeGate redirects to this address.
+fn redirects_to(rt: &HostRuntime, world: &World, uri: &[u8]) -> Result<bool, Fail> {
+    let answer = world.ask(1, &get(rt, b"/timegate/http://a.example/")?);
+    let reply = reply_of(&answer).ok_or("no reply")?;
+    Ok(reply.status == 302 && location(reply) == Some(uri))
+}
+
+const STATE: &[u8] =
+    b"memento-state 1\nentries 1\nentry arc.example 7 1 http://a.example/\n946684800 http://arc.example/web/20000101000000/http://a.example/\nend\n";
+
 #[test]
 fn received_bytes(rt: HostRuntime) -> Result<(), Fail> {
-    let state =
-        b"memento-state 1\nentries 1\nentry arc.example 7 1 http://a.example/\n946684800 http://arc.example/web/20000101000000/http://a.example/\nend\n";
-    assert_eq!(rt; state.len(), 136);
-    let mut world = World::new(rt.alloc(), 1, service(&rt)?)?;
-    world.step(&Event::Receive(1, octets(&rt, state)?))?;
-    let answer = world.ask(1, &get(&rt, b"/timegate/http://a.example/")?);
-    let reply = reply_of(&answer).ok_or("no reply")?;
-    assert_eq!(rt; reply.status, 302);
-    let locations = reply
-        .headers
-        .as_slice()
-        .iter()
-        .filter(|(header, _)| *header == Header::Location);
-    for (_, location) in locations {
-        assert_eq!(rt;
-            location.as_slice(),
-            b"http://arc.example/web/20000101000000/http://a.example/".as_slice()
-        );
-    }
+    assert_eq!(rt; STATE.len(), 136);
+    let mut world = one_replica(&rt)?;
+    world.step(&receive(&rt, STATE)?)?;
+    let uri = b"http://arc.example/web/20000101000000/http://a.example/";
+    assert!(rt; redirects_to(&rt, &world, uri)?);
     Ok(())
 }

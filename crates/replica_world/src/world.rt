@@ -183,7 +183,8 @@ impl World {
         requires { place < length self.old.states }
         ensures base { self.new.base ≡ self.old.base }
         ensures messages { self.new.messages ≡ self.old.messages }
-        ensures ok { OnOk result (self.new.states ≡ slice_set self.old.states place (join (get_or self.old.states place fmap.empty) (lat (adds_of merge.now)))) }
+        ensures ok { OnOk result (self.new.states ≡ slice_set self.old.states place
+            (join (get_or self.old.states place fmap.empty) (lat (adds_of merge.now)))) }
         ensures err { OnErr result (self.new ≡ self.old) }
     {
         self.replicas[place].absorb(merge)?;

@@ -21,7 +21,7 @@ pub fn write_decimal(out: &mut Vec<u8>, number: u64) -> Result<(), AllocError>
 }
 
 /// The number with one more digit behind it.
-fn appended(number: u64, digit: u8) -> Option<u64>
+fn append_digit(number: u64, digit: u8) -> Option<u64>
     ensures { let next = number * 10 + (digit - 48) in
         SomeIff result (IsInRange 48 57 digit × (next < 2 ^ 64)) next }
 {
@@ -38,7 +38,7 @@ fn read_digits(digits: &[u8]) -> Option<u64>
 {
     let mut number = 0;
     for digit in digits {
-        number = appended(number, *digit)?;
+        number = append_digit(number, *digit)?;
     }
     Some(number)
 }

@@ -1,6 +1,6 @@
 -- What a client may rely on, by what is asked for.
-use Rattle.std.proofs.Common.{◌≡◌, ℕ, ◌++◌, ◌&&◌, ◌==◌, Bool, true, false, not, length, List, [], ◌∷◌, Option, Some, None, refl, ap, append_assoc, sym, ◌∙◌, arith}
-use Rattle.std.specs.Prelude.{⊤, codes, nat_eq, if◌then◌else◌}
+use Rattle.std.proofs.Common.{◌≡◌, ℕ, ◌++◌, ◌&&◌, ◌==◌, Bool, true, false, not, length, List, [], ◌∷◌, Option, Some, None, refl, ap, append_assoc, sym, subst, ◌∙◌, arith}
+use Rattle.std.specs.Prelude.{⊤, IfSome, codes, nat_eq, if◌then◌else◌}
 use Rattle.std.specs.List.{starts_with}
 use Rattle.std.proofs.lemmas.List.{append_cancel_left}
 use Rattle.std.proofs.lemmas.Bool.{true≢false}
@@ -16,8 +16,9 @@ use Rattle.timegate.specs.declared.reply.Header.TheVariants.{Allow, Vary, Locati
 use Rattle.timegate.specs.declared.request.Request.{Request}
 use Rattle.timegate.specs.declared.route.Route.{Route}
 use Rattle.timegate.specs.declared.route.Route.TheVariants.{BadMethod, State, NoRoute, BadOriginal, BadDatetime, TimeGate, TimeMap}
-use Rattle.timegate.specs.Route.{is_get, is_head, is_state, is_timegate, is_timemap, timegates, original_at, datetime_route, timegate_route, original_route, route_of}
+use Rattle.timegate.specs.Route.{is_get, is_head, is_state, is_timegate, is_timemap, timegates, NamesItself, original_at, original_in, datetime_route, timegate_route, original_route, route_of}
 use Rattle.timegate.specs.Reply.{Headers, reply_at, reply, redirect, choice_at, short_reply}
+use Rattle.timegate.specs.Served.{IsServed}
 use Rattle.timegate.specs.Promises.{as_get, without_body, vary_values, AreInOrder}
 
 -- ---- HEAD
@@ -184,14 +185,30 @@ at_target : (q : Request) (target : List ℕ) → q.method ≡ codes "GET" → q
 at_target q target method same =
     ap (λ (m : List ℕ). route_of (asking m q.target q.asked)) method ∙ ap (λ (t : List ℕ). route_of (asking (codes "GET") t q.asked)) same
 
-pub gate_served : (base original : List ℕ) (q : Request) → original_at original ≡ Some original → q.method ≡ codes "GET"
+gate_served : (base original : List ℕ) (q : Request) → original_at original ≡ Some original → q.method ≡ codes "GET"
     → base ++ q.target ≡ timegate_address base original → route_of q ≡ timegate_route q.asked original
 gate_served base original q names method address =
     let target : q.target ≡ codes "/timegate/" ++ original = append_cancel_left base q.target (codes "/timegate/" ++ original) (address ∙ append_assoc base (codes "/timegate/") original) in
     at_target q (codes "/timegate/" ++ original) method target ∙ gate_at q.asked original ∙ ap (original_route (timegate_route q.asked)) names
 
-pub map_served : (base original : List ℕ) (q : Request) → original_at original ≡ Some original → q.method ≡ codes "GET"
+map_served : (base original : List ℕ) (q : Request) → original_at original ≡ Some original → q.method ≡ codes "GET"
     → base ++ q.target ≡ timemap_address base original → route_of q ≡ TimeMap original
 map_served base original q names method address =
     let target : q.target ≡ codes "/timemap/link/" ++ original = append_cancel_left base q.target (codes "/timemap/link/" ++ original) (address ∙ append_assoc base (codes "/timemap/link/") original) in
     at_target q (codes "/timemap/link/" ++ original) method target ∙ map_at q.asked original ∙ ap (original_route TimeMap) names
+
+-- what stands there of an original that names itself
+pub served : (base original : List ℕ) → NamesItself original → IsServed base original
+served base original names = record {
+  timegate = λ q. gate_served base original q names;
+  timemap = λ q. map_served base original q names;
+}
+
+-- and so of the original that a request asks about
+pub asked_served : (base : List ℕ) (route other : Route) → route ≡ other → IfSome (original_in route) NamesItself → IfSome (original_in other) (IsServed base)
+asked_served base route other same names =
+    subst (λ (r : Route). IfSome (original_in r) (IsServed base)) same (each_served base (original_in route) names)
+  where
+    each_served : (base : List ℕ) (original : Option (List ℕ)) → IfSome original NamesItself → IfSome original (IsServed base)
+    each_served base None names = tt
+    each_served base (Some original) names = served base original names

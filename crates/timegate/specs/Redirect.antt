@@ -1,4 +1,5 @@
--- What a TimeGate replies (RFC 7089, section 4.2): a redirect to a memento of the latest harvests than which none of these is nearer, or a 404 where they have none.
+-- What a TimeGate replies (RFC 7089, section 4.2): a redirect to a memento of the latest harvests than which none of
+-- these is nearer, or a 404 where they have none.
 use Rattle.std.specs.Prelude.{◌≡◌, ℕ, ◌≤◌, ◌⊎◌, List, Contains, Option, MatchOption}
 use Rattle.memento_time.specs.declared.mementos.Memento.{Memento}
 use Rattle.harvest_lattice.specs.Knowledge.{Harvested, IsShown}
@@ -6,12 +7,14 @@ use Rattle.memento_index.specs.Choice.{distance}
 use Rattle.timegate.specs.declared.reply.Reply.{Reply}
 use Rattle.timegate.specs.declared.reply.Header.TheVariants.{Location}
 
--- the reply's Location is the address of a memento that is shown, and none that is shown lies nearer to the second that is asked for; where none is asked for, none is later
+-- the reply's Location is the address of a memento that is shown, and none that is shown lies nearer to the second that
+-- is asked for; where none is asked for, none is later
 pub record Redirects (known : List Harvested) (original : List ℕ) (asked : Option ℕ) (reply : Reply) : Type 0 where
   pub memento : Memento
   pub location : Contains reply.headers (Location, memento.uri)
   pub shown : IsShown known original memento
-  pub nearest : (other : Memento) → IsShown known original other → MatchOption asked (other.at ≤ memento.at) (λ second. distance second memento ≤ distance second other)
+  pub nearest : (other : Memento) → IsShown known original other
+      → MatchOption asked (other.at ≤ memento.at) (λ second. distance second memento ≤ distance second other)
 
 -- the reply of an original's TimeGate: where nothing of it is shown 404, and wherever anything is a redirect
 abbrev pub IsGateReply : List Harvested → List ℕ → Option ℕ → Reply → Type 0

@@ -37,7 +37,8 @@ vary q = if is_timegate q then (Vary, codes "accept-datetime") ∷ [] else []
 
 -- a short text, behind these headers
 abbrev pub short_reply : Request → ℕ → Headers → List ℕ → Reply
-short_reply q status headers text = reply_with q status (headers ++ vary q ++ (ContentType, codes "text/plain") ∷ []) text
+short_reply q status headers text =
+    reply_with q status (headers ++ vary q ++ (ContentType, codes "text/plain") ∷ []) text
 
 -- the methods that are allowed
 abbrev pub bad_method : Request → Reply
@@ -67,7 +68,8 @@ reply_at base shows entries q State = reply_with q 200 ((ContentType, codes "tex
 reply_at base shows entries q NoRoute = short_reply q 404 [] (codes "no such route\n")
 reply_at base shows entries q BadOriginal = short_reply q 400 [] (codes "bad original\n")
 reply_at base shows entries q BadDatetime = short_reply q 400 [] (codes "bad datetime\n")
-reply_at base shows entries q (TimeGate original asked) = redirect base q original (shows original) (choice_at (shows original) asked)
+reply_at base shows entries q (TimeGate original asked) =
+    redirect base q original (shows original) (choice_at (shows original) asked)
 reply_at base shows entries q (TimeMap original) = timemap base q original (set.items (shows original))
 
 -- the reply of one that has taken these harvests

@@ -1,5 +1,6 @@
--- What a request asks for: the TimeGate or the TimeMap of an original, the state bytes, or the reason that it is refused.
-use Rattle.std.specs.Prelude.{ℕ, Bool, not, ◌&&◌, List, [], ◌∷◌, Option, None, Some, drop, length, codes, bytes_eq, nat_eq, if◌then◌else◌}
+-- What a request asks for: the TimeGate or the TimeMap of an original, the state bytes, or the reason that it is
+-- refused.
+use Rattle.std.specs.Prelude.{◌≡◌, ℕ, Bool, not, ◌&&◌, List, [], ◌∷◌, Option, None, Some, drop, length, codes, bytes_eq, nat_eq, if◌then◌else◌}
 use Rattle.std.specs.List.{starts_with}
 use Rattle.std.specs.Str.{is_utf8}
 use Rattle.memento_time.specs.SecondOf.{asked_of}
@@ -45,7 +46,8 @@ abbrev pub datetime_route : List ℕ → Option ℕ → Route
 datetime_route original None = BadDatetime
 datetime_route original (Some second) = TimeGate original (Some second)
 
--- a TimeGate, by the values of Accept-Datetime: none, one that can be read, or a refusal (RFC 7089, sections 2.1.1 and 4.5.3)
+-- a TimeGate, by the values of Accept-Datetime: none, one that can be read, or a refusal (RFC 7089, sections 2.1.1 and
+-- 4.5.3)
 abbrev pub timegate_route : List (List ℕ) → List ℕ → Route
 timegate_route [] original = TimeGate original None
 timegate_route (value ∷ []) original = datetime_route original (asked_of value)
@@ -55,6 +57,20 @@ timegate_route (value ∷ next ∷ values) original = BadDatetime
 abbrev pub original_route : (List ℕ → Route) → Option (List ℕ) → Route
 original_route route None = BadOriginal
 original_route route (Some original) = route original
+
+-- the original that is asked about, if one is
+abbrev pub original_in : Route → Option (List ℕ)
+original_in BadMethod = None
+original_in State = None
+original_in NoRoute = None
+original_in BadOriginal = None
+original_in BadDatetime = None
+original_in (TimeGate original asked) = Some original
+original_in (TimeMap original) = Some original
+
+-- the original names itself
+abbrev pub NamesItself : List ℕ → Type 0
+NamesItself original = original_at original ≡ Some original
 
 -- the first of these that fits
 unfoldable pub route_of : Request → Route

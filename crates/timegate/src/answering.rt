@@ -1,9 +1,11 @@
 //! The reply to a request.
-ghost use Rattle.std.specs.Prelude.{◌≡◌, ◌++◌, ◌∷◌, [], List, IfOk, OnOk, codes, option_copied};
+ghost use Rattle.std.specs.Prelude.{◌≡◌, ◌++◌, ◌∷◌, [], List, IfOk, IfSome, OnOk, codes, option_copied};
 ghost use Rattle.harvest_lattice.specs.Sets as set;
 ghost use Rattle.harvest_lattice.specs.Knowledge.{Harvested, lat, shown_of};
 ghost use Rattle.replica_exchange.specs.StateText.{state_text};
 ghost use Rattle.timegate.specs.Reply.{reply_with, vary, short_reply, bad_method, redirect, timemap, reply_at, reply, reply_of};
+ghost use Rattle.timegate.specs.Route.{original_in, route_of};
+ghost use Rattle.timegate.specs.Served.{IsServed};
 
 use crate::reply::{Header, Reply};
 use crate::request::Request;
@@ -30,6 +32,9 @@ use timemap_writer::{Service, write_gate_links, write_timemap};
 /// A TimeGate names the memento nearest to the moment that it is asked for, or else the latest. Whatever is said of
 /// a TimeGate has `Vary: accept-datetime`. The short texts end in a line feed. `HEAD` is answered as `GET` without
 /// the body.
+///
+/// The TimeMap and the `Link` of a redirect tell the addresses of the original's TimeGate and TimeMap. A client that
+/// gets one of these asks for what it was told.
 pub fn answer(
     alloc: Global,
     service: &Service,
@@ -39,6 +44,8 @@ pub fn answer(
     ensures state { IfOk result (λ answer. answer ≡ reply_of service.now index.now request.now) }
     ensures knowledge { (known : List Harvested) → index.now ≡ lat known →
         IfOk result (λ answer. answer ≡ reply service.now known request.now) }
+    // The addresses that are told of the original are served.
+    ensures served { OnOk result (IfSome (original_in (route_of request.now)) (IsServed service.now)) }
 {
     let route = route_of(alloc, request)?;
     reply_at(alloc, service, index, request, &route)
@@ -52,7 +59,8 @@ fn reply_at(
     request: &Request,
     route: &Route,
 ) -> Result<Reply, NoMemory>
-    ensures { IfOk result (λ answer. answer ≡ reply_at service.now (shown_of index.now) index.now request.now route.now) }
+    ensures { IfOk result (λ answer. answer
+        ≡ reply_at service.now (shown_of index.now) index.now request.now route.now) }
 {
     match route {
         Route::BadMethod => bad_method(alloc, request),
@@ -81,7 +89,8 @@ fn redirect(
     memento: Option<&Memento>,
 ) -> Result<Reply, NoMemory>
     ensures { IfOk result (λ answer. answer
-        ≡ redirect service.now request.now original.now (shown_of index.now original.now) (option_copied memento.entry)) }
+        ≡ redirect service.now request.now original.now
+        (shown_of index.now original.now) (option_copied memento.entry)) }
 {
     let Some(memento) = memento else {
         return short_reply(alloc, request, 404, Vec::new(alloc), b"no memento\n");

@@ -1,17 +1,17 @@
 //! What the replies keep.
-ghost use Rattle.std.specs.Prelude.{◌≡◌, ◌↔◌, ◌++◌, ◌∷◌, [], ℕ, List, Option, Some, Contains, codes, if◌then◌else◌};
+ghost use Rattle.std.specs.Prelude.{◌≡◌, ◌↔◌, ◌∷◌, [], ℕ, List, Option, Contains, codes, if◌then◌else◌};
 ghost use Rattle.harvest_lattice.specs.Knowledge.{Harvested, lat};
 ghost use Rattle.timegate.specs.declared.request.Request.{Request};
-ghost use Rattle.timemap_writer.specs.TimeMap.{timegate_address, timemap_address};
-ghost use Rattle.timegate.specs.declared.route.Route.TheVariants.{TimeGate, TimeMap};
+ghost use Rattle.timegate.specs.declared.route.Route.TheVariants.{TimeGate};
 ghost use Rattle.timegate.specs.Redirect.{Redirects, IsGateReply};
 ghost use Rattle.timegate.specs.Reply.{reply, reply_of};
-ghost use Rattle.timegate.specs.Route.{is_timegate, original_at, timegate_route, route_of};
+ghost use Rattle.timegate.specs.Route.{is_timegate, route_of};
 ghost use Rattle.timegate.specs.Promises.{as_get, without_body, vary_values, AreInOrder};
 
 /// A reply is a function of the state of the harvests that were taken.
 pub fn replies_from_state()
-    ensures { (base : List ℕ) (known : List Harvested) (q : Request) → reply base known q ≡ reply_of base (lat known) q }
+    ensures { (base : List ℕ) (known : List Harvested) (q : Request)
+        → reply base known q ≡ reply_of base (lat known) q }
 {}
 
 /// The same harvests, in any order and however often, give every request the same reply.
@@ -27,28 +27,23 @@ pub fn redirects_name_the_nearest()
     ensures timegates { (base : List ℕ) (known : List Harvested) (q : Request) (original : List ℕ) (asked : Option ℕ)
         → route_of q ≡ TimeGate original asked → IsGateReply known original asked (reply base known q) }
     ensures redirects { (base : List ℕ) (known : List Harvested) (q : Request) → (reply base known q).status ≡ 302
-        → (original : List ℕ) × (asked : Option ℕ) × (route_of q ≡ TimeGate original asked) × Redirects known original asked (reply base known q) }
+        → (original : List ℕ) × (asked : Option ℕ) × (route_of q ≡ TimeGate original asked)
+        × Redirects known original asked (reply base known q) }
 {}
 
 /// HEAD is answered as GET is, without the body.
 pub fn head_is_get_without_body()
-    ensures { (base : List ℕ) (known : List Harvested) (q : Request) → q.method ≡ codes "HEAD" → reply base known q ≡ without_body (reply base known (as_get q)) }
+    ensures { (base : List ℕ) (known : List Harvested) (q : Request) → q.method ≡ codes "HEAD"
+        → reply base known q ≡ without_body (reply base known (as_get q)) }
 {}
 
 /// A reply is said to depend on the asked datetime, once, exactly where the target is a TimeGate's.
 pub fn timegates_vary()
-    ensures { (base : List ℕ) (known : List Harvested) (q : Request) → vary_values (reply base known q).headers ≡ (if is_timegate q then codes "accept-datetime" ∷ [] else []) }
+    ensures { (base : List ℕ) (known : List Harvested) (q : Request)
+        → vary_values (reply base known q).headers ≡ (if is_timegate q then codes "accept-datetime" ∷ [] else []) }
 {}
 
 /// The headers stand in the order of `Header`, and none twice.
 pub fn headers_stand_in_order()
     ensures { (base : List ℕ) (known : List Harvested) (q : Request) → AreInOrder (reply base known q).headers }
-{}
-
-/// The addresses that TimeMaps and redirects tell are those at which the TimeGate and the TimeMap of the original stand.
-pub fn told_addresses_are_served()
-    ensures timegate { (base original : List ℕ) (q : Request) → original_at original ≡ Some original → q.method ≡ codes "GET"
-        → base ++ q.target ≡ timegate_address base original → route_of q ≡ timegate_route q.asked original }
-    ensures timemap { (base original : List ℕ) (q : Request) → original_at original ≡ Some original → q.method ≡ codes "GET"
-        → base ++ q.target ≡ timemap_address base original → route_of q ≡ TimeMap original }
 {}

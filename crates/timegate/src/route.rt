@@ -1,6 +1,6 @@
 //! What a request asks for.
-ghost use Rattle.std.specs.Prelude.{◌≡◌, IfOk};
-ghost use Rattle.timegate.specs.Route.{is_get, is_head, is_state, is_timegate, is_timemap, original_at, timegate_route, route_of};
+ghost use Rattle.std.specs.Prelude.{◌≡◌, IfOk, IfSome};
+ghost use Rattle.timegate.specs.Route.{is_get, is_head, is_state, is_timegate, is_timemap, NamesItself, original_at, original_in, timegate_route, route_of};
 
 use crate::request::Request;
 use memento_time::{Moment, NoMemory, Octets, Original};
@@ -61,7 +61,8 @@ fn is_timemap(request: &Request) -> bool
 
 // The original that bytes name.
 fn original_at(alloc: Global, bytes: &[u8]) -> Result<Option<Original>, NoMemory>
-    ensures { IfOk result (λ original. original ≡ original_at bytes.now) }
+    ensures read { IfOk result (λ original. original ≡ original_at bytes.now) }
+    ensures kept { IfOk result (λ original. IfSome original NamesItself) }
 {
     let Ok(text) = str::from_utf8(bytes) else {
         return Ok(None);
@@ -75,7 +76,8 @@ fn original_at(alloc: Global, bytes: &[u8]) -> Result<Option<Original>, NoMemory
 
 // The TimeGate of the original, by the values of `Accept-Datetime`.
 fn timegate_route(asked: &[Octets], original: Original) -> Route
-    ensures { result ≡ timegate_route asked.now original }
+    ensures route { result ≡ timegate_route asked.now original }
+    ensures original { IfSome (original_in result) (λ o. o ≡ original) }
 {
     match asked {
         [] => Route::TimeGate(original, None),
@@ -90,7 +92,8 @@ fn timegate_route(asked: &[Octets], original: Original) -> Route
 /// What the request asks for: the first refusal that fits, or the TimeGate or TimeMap.
 #[tactic(auto, unfolding(crate::specs::Route::route_of))]
 pub fn route_of(alloc: Global, request: &Request) -> Result<Route, NoMemory>
-    ensures { IfOk result (λ route. route ≡ route_of request.now) }
+    ensures route { IfOk result (λ route. route ≡ route_of request.now) }
+    ensures kept { IfOk result (λ route. IfSome (original_in route) NamesItself) }
 {
     if !is_get(request) && !is_head(request) {
         return Ok(Route::BadMethod);

@@ -42,11 +42,13 @@ abbrev pub http_text : {E : Type 0} → Result Parts E → Option (List ℕ)
 http_text (Ok url) = if is_http_scheme url.scheme then Some (serialize url) else None
 http_text (Err e) = None
 
--- what is written of the http or https URL that a target names at the page's base (RFC 6690, section 2.1), if it is text and names one
+-- what is written of the http or https URL that a target names at the page's base (RFC 6690, section 2.1), if it is
+-- text and names one
 abbrev pub joined_text : Parts → List ℕ → Option (List ℕ)
 joined_text base target = if is_utf8 target then http_text (parse_url (Some base) target) else None
 
--- A target that begins as an http or https URL stands as it is, so that an archived address keeps its dot segments; any other is joined to the base.
+-- A target that begins as an http or https URL stands as it is, so that an archived address keeps its dot segments; any
+-- other is joined to the base.
 abbrev pub raw_address : Parts → List ℕ → Option (List ℕ)
 raw_address base target = if is_http_target target then Some target else joined_text base target
 

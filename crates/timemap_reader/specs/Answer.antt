@@ -25,13 +25,16 @@ base_of text = if nat_lt 8192 (length text) then None else http_url (parse_url N
 abbrev pub IsShort : List ℕ → Type 0
 IsShort body = length body ≤ 8388608
 
--- The page that the body's one reading makes at the base; or the first fault, in the order of the lines. NoMemory may come at any time once the body is known to be short.
+-- The page that the body's one reading makes at the base; or the first fault, in the order of the lines. NoMemory may
+-- come at any time once the body is known to be short.
 abbrev pub IsAnswer : List ℕ → List ℕ → Result Page PageFault → Type 0
 IsAnswer base body (Ok page) =
-    (links : List Link) × (url : Parts) × IsShort body × link.IsAnswer body (Ok links) × (base_of base ≡ Some url) × IsPageOf url links page
+    (links : List Link) × (url : Parts) × IsShort body × link.IsAnswer body (Ok links) × (base_of base ≡ Some url)
+    × IsPageOf url links page
 IsAnswer base body (Err TooLong) = 8388608 < length body
 IsAnswer base body (Err (Links fault)) = IsShort body × link.IsAnswer body (Err fault) × (fault ≢ LinkFault.NoMemory)
-IsAnswer base body (Err BadBase) = (links : List Link) × IsShort body × link.IsAnswer body (Ok links) × (base_of base ≡ None)
+IsAnswer base body (Err BadBase) =
+    (links : List Link) × IsShort body × link.IsAnswer body (Ok links) × (base_of base ≡ None)
 IsAnswer base body (Err NoMemory) = IsShort body
 
 -- what a fault is printed as

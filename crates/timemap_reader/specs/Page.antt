@@ -1,4 +1,5 @@
--- What a page of a TimeMap says (RFC 7089, section 5): its mementos, its further TimeMaps, and how many links were left out.
+-- What a page of a TimeMap says (RFC 7089, section 5): its mementos, its further TimeMaps, and how many links were left
+-- out.
 use Rattle.std.specs.Prelude.{◌≡◌, ℕ, ◌+◌, Bool, List, Option, count_by}
 use Rattle.std.specs.List.{filter, filter_map}
 use Rattle.std.specs.Option.{is_none}
@@ -22,4 +23,5 @@ left_out role meaning links = count_by (λ link. is_none (meaning link)) (filter
 pub record IsPageOf (base : Parts) (links : List Link) (page : Page) : Type 0 where
   pub mementos : IsSetOf page.mementos (named is_memento_link (memento_of base) links)
   pub further : page.further ≡ firsts (named is_further_link (further_of base) links)
-  pub dropped : page.dropped ≡ left_out is_memento_link (memento_of base) links + left_out is_further_link (further_of base) links
+  pub dropped : page.dropped
+      ≡ left_out is_memento_link (memento_of base) links + left_out is_further_link (further_of base) links

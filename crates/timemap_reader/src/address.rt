@@ -8,7 +8,8 @@ ghost use Rattle.timemap_reader.specs.Found.{with_found};
 use memento_time::{Clean, CleanFault, MementosBuilder, Moment};
 use percent_encoding::{AsciiSet, CONTROLS, ascii_set, percent_encode};
 use std::alloc::{AllocError, Global};
-use url::{ParseError, Url};
+use url::Url;
+use url_texts::join_url;
 
 /// The bytes that are escaped in an address, beside those outside ASCII.
 const ESCAPED: AsciiSet = ascii_set!(CONTROLS.add(b' ').add(b'"').add(b'<').add(b'>'));
@@ -88,16 +89,13 @@ fn join(base: &Url, target: &[u8]) -> Result<Option<Url>, AllocError>
     let Ok(text) = std::str::from_utf8(target) else {
         return Ok(None);
     };
-    match base.join(text) {
-        Ok(url) => {
-            if is_http(&url) {
-                Ok(Some(url))
-            } else {
-                Ok(None)
-            }
-        }
-        Err(ParseError::OutOfMemory | ParseError::Overflow) => Err(AllocError),
-        Err(_) => Ok(None),
+    let Some(url) = join_url(base, text)? else {
+        return Ok(None);
+    };
+    if is_http(&url) {
+        Ok(Some(url))
+    } else {
+        Ok(None)
     }
 }
 

@@ -1,5 +1,6 @@
 //! Originals: the addresses that clients and archives are asked for.
 ghost use Rattle.std.specs.Prelude.{◌≡◌, ◌⊎◌, ◌<◌, Some, IfOk, IfErr, Ok, Err, length};
+ghost use Rattle.memento_time.specs.Text.{IsOriginal};
 ghost use Rattle.timemap_reader.specs.Address.{clean_text};
 ghost use Rattle.timemap_reader.specs.Original.{original_reading, within_limit, words_of};
 
@@ -8,7 +9,8 @@ use memento_time::{CleanFault, Original};
 use std::alloc::{AllocError, Global};
 use std::error::Error;
 use std::fmt;
-use url::{ParseError, Position, Url};
+use url::Position;
+use url_texts::read_url;
 
 /// Why a text names no original.
 #[derive(Clone, Copy, Debug, PartialEq, Eq)]
@@ -53,6 +55,7 @@ impl From<AllocError> for OriginalFault {
 fn clean_original(alloc: Global, written: &[u8]) -> Result<Original, OriginalFault>
     requires { 0 < length written.now }
     ensures read { IfOk result (λ original. within_limit (clean_text written.now) ≡ Ok original) }
+    ensures valid { IfOk result IsOriginal }
     ensures refused { IfErr result (λ fault.
         (within_limit (clean_text written.now) ≡ Err fault) ⊎ (fault ≡ OriginalFault.NoMemory)) }
 {
@@ -79,6 +82,7 @@ pub fn read_original(alloc: Global, text: &str) -> Result<Original, OriginalFaul
     ensures read { IfOk result (λ original. original_reading text.now ≡ Ok original) }
     // An original reads as itself.
     ensures kept { IfOk result (λ original. original_reading original ≡ Ok original) }
+    ensures valid { IfOk result IsOriginal }
     ensures too_long { 4096 < length text.now → result ≡ Err OriginalFault.TooLong }
     // NoMemory may come at any later place.
     ensures refused { IfErr result (λ fault.
@@ -87,10 +91,8 @@ pub fn read_original(alloc: Global, text: &str) -> Result<Original, OriginalFaul
     if text.len() > Original::MAX_LEN {
         return Err(OriginalFault::TooLong);
     }
-    let url = match Url::parse(alloc, text) {
-        Ok(url) => url,
-        Err(ParseError::OutOfMemory | ParseError::Overflow) => return Err(OriginalFault::NoMemory),
-        Err(_) => return Err(OriginalFault::NotUrl),
+    let Some(url) = read_url(alloc, text)? else {
+        return Err(OriginalFault::NotUrl);
     };
     if !is_http(&url) {
         return Err(OriginalFault::NotHttp);

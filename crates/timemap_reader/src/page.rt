@@ -13,7 +13,8 @@ use memento_time::{Clean, Items, Memento, MementosBuilder, in_order};
 use std::alloc::{AllocError, Global};
 use std::error::Error;
 use std::fmt;
-use url::{ParseError, Url};
+use url::Url;
+use url_texts::read_url;
 
 const MAX_PAGE: usize = 8_388_608;
 
@@ -171,10 +172,8 @@ fn read_base(alloc: Global, base: &str) -> Result<Url, PageFault>
     if base.len() > MAX_BASE {
         return Err(PageFault::BadBase);
     }
-    let url = match Url::parse(alloc, base) {
-        Ok(url) => url,
-        Err(ParseError::OutOfMemory | ParseError::Overflow) => return Err(PageFault::NoMemory),
-        Err(_) => return Err(PageFault::BadBase),
+    let Some(url) = read_url(alloc, base)? else {
+        return Err(PageFault::BadBase);
     };
     if is_http(&url) {
         Ok(url)

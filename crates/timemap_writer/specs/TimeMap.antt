@@ -1,4 +1,5 @@
--- The TimeMap of an original (RFC 7089, section 5) and the Link header of a redirect to a memento (section 4.2): the links that they state, and their text.
+-- The TimeMap of an original (RFC 7089, section 5) and the Link header of a redirect to a memento (section 4.2): the
+-- links that they state, and their text.
 use Rattle.std.specs.Prelude.{ℕ, ◌-◌, ◌==◌, Bool, true, false, List, [], ◌∷◌, ◌++◌, length, codes, slice_get, Option, Some, None}
 use Rattle.link_format.specs.Grammar.{Param, Link}
 use Rattle.link_format.specs.Writing.{joined}
@@ -43,7 +44,8 @@ timegate_link base original = record {
   params = rel (codes "timegate") ∷ [];
 }
 
--- the link to its TimeMap, with the period that this covers (section 2.2.3); the relation is `self` in the TimeMap, and `timemap` elsewhere
+-- the link to its TimeMap, with the period that this covers (section 2.2.3); the relation is `self` in the TimeMap, and
+-- `timemap` elsewhere
 abbrev pub timemap_link : List ℕ → List ℕ → List ℕ → List Memento → Link
 timemap_link relation base original mementos = record {
   target = timemap_address base original;

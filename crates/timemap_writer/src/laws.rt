@@ -12,9 +12,11 @@ ghost use Rattle.timemap_writer.specs.TimeMap.{memento_link, memento_links, time
 /// Each text is link-format (RFC 6690, section 2) whose links are the stated ones, in order. No text has two
 /// readings, so every reader of the grammar finds these links and no others.
 pub fn timemaps_are_read()
-    ensures timemap { (base original : List ℕ) (mementos : List Memento) → IsBase base → IsOriginal original → All IsMemento mementos
+    ensures timemap { (base original : List ℕ) (mementos : List Memento)
+        → IsBase base → IsOriginal original → All IsMemento mementos
         → Reading (timemap_text base original mementos) (timemap_links base original mementos) }
-    ensures gate { (base original : List ℕ) (mementos : List Memento) → IsBase base → IsOriginal original → All IsMemento mementos
+    ensures gate { (base original : List ℕ) (mementos : List Memento)
+        → IsBase base → IsOriginal original → All IsMemento mementos
         → Reading (gate_links base original mementos) (redirect_links base original mementos) }
 {}
 

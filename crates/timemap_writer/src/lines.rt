@@ -104,7 +104,8 @@ pub fn push_memento(
     last: bool,
     memento: &Memento,
 ) -> Result<(), NoMemory>
-    ensures { OnOk result (out.new.items ≡ out.old.items ++ codes ",\n" ++ link_text (memento_link first last memento.now)) }
+    ensures { OnOk result (out.new.items
+        ≡ out.old.items ++ codes ",\n" ++ link_text (memento_link first last memento.now)) }
 {
     out.extend_from_slice(b",\n")?;
     write_target(out, memento.uri.as_bytes())?;

@@ -1,4 +1,5 @@
 //! The whole service over loopback: an archive, a round, and what a reader and a peer are then told.
+use crate::runtimes::SocketRuntime;
 use crate::serve::{ServeFault, serve_settings};
 use crate::settings::read_settings;
 use crossbeam_channel::{Receiver, Sender, bounded};
@@ -85,13 +86,7 @@ fn harvest(alloc: Global) -> Option<Merge> {
 // Serves the archive's gate for a walk and a pull.
 fn serve_archive<R>(rt: &R, port: &Sender<u16>) -> Option<u64>
 where
-    R: Wait
-        + Clock
-        + Net<Listener = TcpListener, Stream = TcpStream>
-        + RandomSource
-        + AllocGlobal
-        + Clone
-        + Drop,
+    R: SocketRuntime + Clone + Drop,
 {
     let service = Service::new(rt.alloc(), "http://arc.example").ok()?;
     let (mut merger, gates) = open(rt, rt.alloc(), service, 1).ok()?;
@@ -102,13 +97,7 @@ where
 
 fn serve_known<R>(rt: &R, merger: &mut Merger, gates: Vec<Gate>, port: &Sender<u16>) -> Option<u64>
 where
-    R: Wait
-        + Clock
-        + Net<Listener = TcpListener, Stream = TcpStream>
-        + RandomSource
-        + AllocGlobal
-        + Clone
-        + Drop,
+    R: SocketRuntime + Clone + Drop,
 {
     merger.append(&harvest(rt.alloc())?).ok()?;
     let _receipt = merger.publish(rt).ok()?;
@@ -123,17 +112,7 @@ where
 // A service of one round over the archive on this port.
 fn serve_over<R>(rt: &R, port: u16, out: Told<R>) -> Option<Result<(), ServeFault>>
 where
-    R: Threads
-        + Wait
-        + Clock
-        + Net<Listener = TcpListener, Stream = TcpStream>
-        + RandomSource
-        + AllocGlobal
-        + Sync
-        + Send
-        + Clone
-        + Drop
-        + 'static,
+    R: SocketRuntime + Threads + Sync + Send + Clone + Drop + 'static,
 {
     let alloc = rt.alloc();
     let Ok(text) = format!(in alloc;
@@ -189,7 +168,7 @@ fn port_in(lines: &str) -> Option<&str> {
 // Asks the service once its round is published, and pulls what the archive knows.
 fn look<R>(rt: &R, archive: u16, pieces: &Receiver<Vec<u8>>) -> Option<Seen>
 where
-    R: Wait + Clock + Net<Listener = TcpListener, Stream = TcpStream> + RandomSource + AllocGlobal,
+    R: SocketRuntime,
 {
     let alloc = rt.alloc();
     let mut lines = told_up_to(rt, alloc, pieces, "published\n")?;

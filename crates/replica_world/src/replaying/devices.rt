@@ -35,7 +35,8 @@ pub fn read_all<R: Read>(alloc: Global, reader: &mut Watched<R>) -> Result<Vec<u
 /// Writes all the bytes, or a beginning of them.
 pub fn write_whole<W: Write>(writer: &mut Watched<W>, bytes: &[u8]) -> Result<(), ReplayFault>
     ensures ok { OnOk result (Appends (W.contents writer.old.device) (W.contents writer.new.device) bytes.now) }
-    ensures err { OnErr result (AppendsBeginning (W.contents writer.old.device) (W.contents writer.new.device) bytes.now) }
+    ensures err { OnErr result
+        (AppendsBeginning (W.contents writer.old.device) (W.contents writer.new.device) bytes.now) }
     ensures write { OnErr result (result ≡ Err ReplayFault.Write) }
     ensures failed { OnErr result (writer.new.failed ≡ true) }
 {

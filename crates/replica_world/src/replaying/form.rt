@@ -2,7 +2,7 @@
 ghost use Rattle.std.specs.Prelude.{◌≡◌};
 ghost use Rattle.std.specs.Option.{option_map};
 ghost use Rattle.replica_world.specs.Form.{take_of, map_of, gate_of, ask_of, send_of, deliver_of, receive_of, restart_of};
-ghost use Rattle.replica_world.specs.Form.{named, form_of};
+ghost use Rattle.replica_world.specs.Form.{form_by_word, form_of};
 ghost use Rattle.replica_world.specs.Spelled.{form_view};
 
 use crate::replaying::fields::{are_visible, number_field, word_field};
@@ -133,9 +133,9 @@ fn restart(fields: &[u8]) -> Option<Form<'_>>
 }
 
 /// The form that a line names by its first word.
-#[tactic(auto, unfolding(crate::specs::Form::named))]
-fn named<'a>(word: &[u8], fields: &'a [u8]) -> Option<Form<'a>>
-    ensures { option_map form_view result ≡ named word.now fields.now }
+#[tactic(auto, unfolding(crate::specs::Form::form_by_word))]
+fn form_by_word<'a>(word: &[u8], fields: &'a [u8]) -> Option<Form<'a>>
+    ensures { option_map form_view result ≡ form_by_word word.now fields.now }
 {
     if word == b"take".as_slice() {
         take(fields)
@@ -164,5 +164,5 @@ pub fn read_form(line: &[u8]) -> Option<Form<'_>>
     ensures { option_map form_view result ≡ form_of line.now }
 {
     let (word, fields) = next_field(line)?;
-    named(word, fields)
+    form_by_word(word, fields)
 }

@@ -41,7 +41,8 @@ pub fn script_is_its_layout()
 pub fn scripts_are_runs()
     ensures runs { (base : List ℕ) (world : World) (commands : List Command) (text : List ℕ) (end : World) →
         Says base world commands text end → IsRunOf base world commands text end }
-    ensures twice { (base : List ℕ) (count : ℕ) (commands : List Command) (i j : ℕ) (q : Request) (output : List ℕ) (end : World) →
+    ensures twice { (base : List ℕ) (count : ℕ) (commands : List Command)
+        (i j : ℕ) (q : Request) (output : List ℕ) (end : World) →
         Says base (start count) (commands ++ script.Step (Ask i q) ∷ script.Step (Ask j q) ∷ []) output end →
         AnswersTwice base count commands i j output }
 {

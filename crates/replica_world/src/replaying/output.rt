@@ -44,7 +44,8 @@ impl Output {
     /// Writes all of it, or a beginning.
     pub fn write<W: Write>(&self, writer: &mut Watched<W>) -> Result<(), ReplayFault>
         ensures ok { OnOk result (Appends (W.contents writer.old.device) (W.contents writer.new.device) self.now) }
-        ensures err { OnErr result (AppendsBeginning (W.contents writer.old.device) (W.contents writer.new.device) self.now) }
+        ensures err { OnErr result
+            (AppendsBeginning (W.contents writer.old.device) (W.contents writer.new.device) self.now) }
         ensures write { OnErr result (result ≡ Err ReplayFault.Write) }
         ensures failed { OnErr result (writer.new.failed ≡ true) }
     {

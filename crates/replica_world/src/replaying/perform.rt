@@ -11,7 +11,7 @@ ghost use Rattle.replica_world.specs.Spelled.{command_view, taking_view};
 use crate::replaying::command::{Command, Taking};
 use crate::replaying::fields::utf8_text;
 use crate::replaying::output::Output;
-use crate::replaying::texts::{accepted_line, answer_text, refused, taken_line};
+use crate::replaying::texts::{accepted_line, answer_text, refusal_text, taken_line};
 use crate::world::World;
 use harvest_lattice::{Harvest, HarvestFault};
 use memento_time::{ArchiveName, NoMemory, Original};
@@ -36,7 +36,8 @@ fn original(alloc: Global, text: &[u8]) -> Result<Option<Original>, NoMemory>
 
 /// The page that a body is at an address.
 fn page(alloc: Global, address: &[u8], body: &[u8]) -> Result<Option<Page>, NoMemory>
-    ensures { IfOk result (λ page. MatchOption page ((p : PageRead) → ¬ (IsPage address.now body.now p)) (IsPage address.now body.now)) }
+    ensures { IfOk result (λ page.
+        MatchOption page ((p : PageRead) → ¬ (IsPage address.now body.now p)) (IsPage address.now body.now)) }
 {
     let Some(address) = utf8_text(address) else {
         return Ok(None);
@@ -75,7 +76,7 @@ fn take_harvest(
     ensures { IfOk result (λ text. IsHarvestTaken world.old (taking_view taking.now) original.now page text world.new) }
 {
     let Some(archive) = ArchiveName::new(taking.archive) else {
-        return refused(alloc, "bad archive");
+        return refusal_text(alloc, "bad archive");
     };
     let accepted = taken_line(alloc, &page)?;
     match Harvest::new(archive, original, taking.revision, page.mementos.into_vec()) {
@@ -83,7 +84,7 @@ fn take_harvest(
             let event = Event::Take(taking.replica as usize, harvest);
             happen(alloc, world, &accepted, &event)
         }
-        Err(HarvestFault::TooMany) => refused(alloc, "too many"),
+        Err(HarvestFault::TooMany) => refusal_text(alloc, "too many"),
         Err(HarvestFault::NoMemory) => Err(NoMemory),
     }
 }
@@ -93,10 +94,10 @@ fn take(alloc: Global, world: &mut World, taking: &Taking<'_>) -> Result<Output,
     ensures { IfOk result (λ text. IsPageTaken world.old (taking_view taking.now) text world.new) }
 {
     let Some(original) = original(alloc, taking.original)? else {
-        return refused(alloc, "bad original");
+        return refusal_text(alloc, "bad original");
     };
     let Some(page) = page(alloc, taking.address, taking.body)? else {
-        return refused(alloc, "bad page");
+        return refusal_text(alloc, "bad page");
     };
     take_harvest(alloc, world, taking, &original, page)
 }

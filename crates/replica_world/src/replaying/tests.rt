@@ -205,40 +205,54 @@ fn bad_lines(rt: HostRuntime) -> Result<(), Fail> {
     Ok(())
 }
 
+// What a replay gives of a script that is read a byte at a time, with at most so many reads, and how much it writes.
+fn replay_by_bytes(
+    rt: &HostRuntime,
+    rest: &[u8],
+    reads: usize,
+) -> (Result<(), ReplayFault>, usize) {
+    let mut reader = Watched::new(FailingReader { rest, reads });
+    let mut writer = Watched::new(Vec::new(rt.alloc()));
+    let result = replay(rt.alloc(), &mut reader, &mut writer);
+    (result, writer.device.len())
+}
+
 // A reader may give a byte at a time for as long as it likes, below the limit of a thousand million reads.
 #[test]
 fn many_reads(rt: HostRuntime) -> Result<(), Fail> {
     let lines = vec![in rt.alloc(); b'\n'; 1_000_001]?;
-    let rest = lines.as_slice();
-    let reads = 1_000_002;
-    let mut reader = Watched::new(FailingReader { rest, reads });
-    let mut writer = Watched::new(Vec::new(rt.alloc()));
-    let result = replay(rt.alloc(), &mut reader, &mut writer);
-    assert_eq!(rt; result, Ok(()));
-    assert!(rt; writer.device.is_empty());
+    assert_eq!(rt; replay_by_bytes(&rt, &lines, 1_000_002), (Ok(()), 0));
     Ok(())
 }
 
 #[test]
-fn failing_devices(rt: HostRuntime) -> Result<(), Fail> {
+fn failing_readers(rt: HostRuntime) {
     for reads in 0..=EXCHANGE.len() {
-        let rest = EXCHANGE;
-        let mut reader = Watched::new(FailingReader { rest, reads });
-        let mut writer = Watched::new(Vec::new(rt.alloc()));
-        let result = replay(rt.alloc(), &mut reader, &mut writer);
-        assert_eq!(rt; result, Err(ReplayFault::Read));
-        assert!(rt; writer.device.is_empty());
+        assert_eq!(rt;
+            replay_by_bytes(&rt, EXCHANGE, reads),
+            (Err(ReplayFault::Read), 0)
+        );
     }
+}
+
+// Whether a replay to a writer that fails after so many bytes has written just these, and says whether that were all.
+fn is_cut_at(rt: &HostRuntime, script: &[u8], wanted: &[u8], writes: usize) -> bool {
+    let mut reader = Watched::new(script);
+    let mut output = Vec::new(rt.alloc());
+    let bytes = &mut output;
+    let mut writer = Watched::new(FailingWriter { bytes, writes });
+    let result = replay(rt.alloc(), &mut reader, &mut writer);
+    let said = if writes == wanted.len() {
+        Ok(())
+    } else {
+        Err(ReplayFault::Write)
+    };
+    result == said && output.len() == writes && wanted.starts_with(&output)
+}
+
+#[test]
+fn failing_writers(rt: HostRuntime) {
     for writes in 0..=EXCHANGE_SAYS.len() {
-        let mut reader = Watched::new(EXCHANGE);
-        let mut output = Vec::new(rt.alloc());
-        let bytes = &mut output;
-        let mut writer = Watched::new(FailingWriter { bytes, writes });
-        let result = replay(rt.alloc(), &mut reader, &mut writer);
-        let ended = writes == EXCHANGE_SAYS.len();
-        assert_eq!(rt; result.is_ok(), ended);
-        assert!(rt; ended || result == Err(ReplayFault::Write));
-        assert_eq!(rt; output.as_slice(), &EXCHANGE_SAYS[..writes]);
+        assert!(rt; is_cut_at(&rt, EXCHANGE, EXCHANGE_SAYS, writes));
     }
-    Ok(())
 }

@@ -1,6 +1,6 @@
 //! The texts that commands write.
 ghost use Rattle.std.specs.Prelude.{◌≡◌, ◌≢◌, ◌++◌, ◌∷◌, [], IfOk, OnOk, Err, codes, length, string_bytes};
-ghost use Rattle.replica_world.specs.Output.{line, counted, refused, header_line, reply_text, taken_line, refusal_line, answer_text, accepted_line};
+ghost use Rattle.replica_world.specs.Output.{line, number_line, refusal_text, header_line, reply_text, taken_line, refusal_line, answer_text, accepted_line};
 
 use crate::replaying::output::Output;
 use memento_time::{NoMemory, Octets};
@@ -10,8 +10,8 @@ use timegate::{Header, Reply};
 use timemap_reader::Page;
 
 /// The line of a refused command.
-pub fn refused(alloc: Global, why: &str) -> Result<Output, NoMemory>
-    ensures { IfOk result (λ text. text ≡ refused why.now) }
+pub fn refusal_text(alloc: Global, why: &str) -> Result<Output, NoMemory>
+    ensures { IfOk result (λ text. text ≡ refusal_text why.now) }
 {
     let text = format!(in alloc; "refused {why}\n")?;
     Ok(Output::of_lines(alloc, text.into_bytes()))
@@ -37,8 +37,8 @@ pub fn taken_line(alloc: Global, page: &Page) -> Result<Vec<u8>, NoMemory>
 }
 
 /// A word and a number, on a line.
-fn counted(alloc: Global, word: &str, number: u64) -> Result<Vec<u8>, NoMemory>
-    ensures { IfOk result (λ text. text.items ≡ counted word.now number) }
+fn number_line(alloc: Global, word: &str, number: u64) -> Result<Vec<u8>, NoMemory>
+    ensures { IfOk result (λ text. text.items ≡ number_line word.now number) }
 {
     let text = format!(in alloc; "{word} {number}\n")?;
     Ok(text.into_bytes())
@@ -59,11 +59,11 @@ fn write_header(out: &mut Vec<u8>, header: &(Header, Octets)) -> Result<(), NoMe
 fn reply_lines(alloc: Global, reply: &Reply) -> Result<Vec<u8>, NoMemory>
     ensures { IfOk result (λ lines. lines.items ++ reply.now.body ≡ reply_text reply.now) }
 {
-    let mut out = counted(alloc, "reply", u64::from(reply.status))?;
+    let mut out = number_line(alloc, "reply", u64::from(reply.status))?;
     for header in reply.headers.as_slice() {
         write_header(&mut out, header)?;
     }
-    let length = counted(alloc, "body", reply.body.as_slice().len() as u64)?;
+    let length = number_line(alloc, "body", reply.body.as_slice().len() as u64)?;
     out.extend_from_slice(&length)?;
     Ok(out)
 }
@@ -100,7 +100,7 @@ pub fn answer_text(
     let lines = match answer {
         Ok(Said::Replied(reply)) => return reply_text(alloc, reply),
         Ok(Said::Taken | Said::Joined | Said::Restarted) => Vec::from_slice(alloc, accepted)?,
-        Ok(Said::Sent(count)) => counted(alloc, "sent", count as u64)?,
+        Ok(Said::Sent(count)) => number_line(alloc, "sent", count as u64)?,
         Err(Refused::NoMemory) => return Err(NoMemory),
         Err(why) => refusal_line(alloc, why)?,
     };

@@ -52,7 +52,8 @@ impl<W: Write> Watched<W> {
     pub fn write(&mut self, bytes: &[u8]) -> io::Result<usize>
         ensures bound { WritesAtMost result bytes.now }
         ensures bytes { WriteAppends (W.contents self.old.device) (W.contents self.new.device) result bytes.now }
-        ensures failed { MatchResult result (λ count. count ≡ 0 → self.new.failed ≡ true) (λ _. self.new.failed ≡ true) }
+        ensures failed { MatchResult result
+            (λ count. count ≡ 0 → self.new.failed ≡ true) (λ _. self.new.failed ≡ true) }
     {
         let result = self.device.write(bytes);
         match result {

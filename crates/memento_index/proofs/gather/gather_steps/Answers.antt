@@ -1,5 +1,4 @@
-use Rattle.std.proofs.Common.{◌≡◌, map, take, take_all, List, ℕ, unwrap_or, [], sym, ap, subst, ◌∙◌}
-use Rattle.std.specs.FinMap as fmap
+use Rattle.std.proofs.Common.{map, take, take_all, List, ℕ, unwrap_or, [], sym, ap, subst, ◌∙◌}
 use Rattle.std.specs.Map.{lookup}
 use Rattle.std.specs.BTreeMap.{is_at}
 use Rattle.memento_time.specs.Mementos.{text_cmp}
@@ -7,7 +6,7 @@ use Rattle.harvest_lattice.specs.Lattice.{Key, Kept}
 use Rattle.harvest_lattice.specs.Rows.{row_entry}
 use Rattle.harvest_lattice.specs.declared.row.Row.{Row}
 use Rattle.memento_index.specs.declared.counted.Step.{Step}
-use Rattle.memento_index.specs.Lists.{IsNewsAt, AreGathered}
+use Rattle.memento_index.specs.Lists.{AreGathered}
 use Rattle.memento_index.proofs.Gathering.{none_gathered, one_more_gathered, row_is_news, rows_turn}
 use Rattle.memento_index.proofs.gather.gather_steps.Goals as goal
 

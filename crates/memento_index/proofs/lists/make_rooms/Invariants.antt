@@ -1,4 +1,4 @@
-use Rattle.std.proofs.Common.{◌≡◌, ℕ, ◌≤◌, List}
+use Rattle.std.proofs.Common.{◌≡◌, ℕ, List}
 use Rattle.std.specs.BTreeMap as tree
 use Rattle.memento_time.specs.Mementos.{text_cmp}
 use Rattle.memento_index.specs.Lists.{Grows}

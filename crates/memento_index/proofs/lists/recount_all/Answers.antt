@@ -1,14 +1,13 @@
-use Rattle.std.proofs.Common.{◌≡◌, ℕ, List, length, Some, IfSome, inl, refl, sym, ap, subst, ◌∙◌, arith}
+use Rattle.std.proofs.Common.{ℕ, List, length, inl, refl, sym, ap, subst, arith}
 use Rattle.std.specs.BTreeMap as tree
 use Rattle.std.specs.BTreeMap.{is_at}
 use Rattle.std.specs.Map.{lookup, keys_of}
 use Rattle.std.specs.List.Sorted.{IsStrictlySortedBy}
 use Rattle.memento_time.specs.Mementos.{text_cmp}
 use Rattle.memento_index.specs.declared.counted.Step.{Step}
-use Rattle.memento_index.specs.Counts.{IsTally, IsRecounted}
-use Rattle.memento_index.specs.Tallies.{Tallied}
-use Rattle.memento_index.specs.Lists.{tally_in, tally_of, steps_of, HasRoom, CanCount}
-use Rattle.memento_index.proofs.ListLemmas.{next_is, one_more_counted, all_counted, later_sorted, grown_room, grows_same, next_tally, next_can, next_room}
+use Rattle.memento_index.specs.Counts.{IsRecounted}
+use Rattle.memento_index.specs.Lists.{tally_of, HasRoom, CanCount}
+use Rattle.memento_index.proofs.ListLemmas.{one_more_counted, all_counted, later_sorted, next_tally, next_can, next_room}
 use Rattle.memento_index.proofs.lists.recount_all.Goals as goal
 
 pub loop-entry-init : goal.loop-entry-init

@@ -1,8 +1,12 @@
-use Rattle.std.proofs.Common.{◌≡◌, subst}
-use Rattle.std.specs.Prelude.{IfOk}
+use Rattle.std.proofs.Common.{◌≡◌, subst, Result, Ok, Err}
+use Rattle.std.specs.Prelude.{IfOk, OnOk}
 use Rattle.harvest_lattice.specs.Knowledge.{shown_of}
+use Rattle.memento_time.specs.declared.faults.NoMemory.{NoMemory}
+use Rattle.timegate.specs.declared.reply.Reply.{Reply}
 use Rattle.timegate.specs.declared.route.Route.{Route}
 use Rattle.timegate.specs.Reply.{reply_of, reply_at}
+use Rattle.timegate.specs.Route.{route_of}
+use Rattle.timegate.proofs.Promises.{asked_served}
 use Rattle.timegate.proofs.Replies.{known_reply}
 use Rattle.timegate.proofs.answering.answer.Goals as goal
 
@@ -10,7 +14,14 @@ pub returns-clause-state : goal.returns-clause-state
 unfolding reply_of
 returns-clause-state c =
     let P : Route → Type 0 = λ route. IfOk c.reply_at.result (λ answer. answer ≡ reply_at c.args.service.now (shown_of c.args.index.now) c.args.index.now c.args.request.now route) in
-    subst P c.in_ok-route.ensures c.reply_at.ensures
+    subst P c.in_ok-route.ensures.route c.reply_at.ensures
 
 pub returns-clause-knowledge : goal.returns-clause-knowledge
 returns-clause-knowledge c = λ known is. known_reply c.args.service.now c.args.index.now known c.args.request.now c.reply_at.result is (returns-clause-state c)
+
+on_ok : {P : Type 0} (result : Result Reply NoMemory) → P → OnOk result P
+on_ok (Ok answer) p = p
+on_ok (Err fault) p = tt
+
+pub returns-clause-served : goal.returns-clause-served
+returns-clause-served c = on_ok c.reply_at.result (asked_served c.args.service.now c.in_ok-route.route (route_of c.args.request.now) c.in_ok-route.ensures.route c.in_ok-route.ensures.kept)

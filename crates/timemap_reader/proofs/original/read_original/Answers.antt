@@ -12,7 +12,7 @@ some_bytes : (url : Parts) → 0 < length url.scheme → 0 < length (text_betwee
 some_bytes url some = simp length-append (omega arith)
 
 pub clean_original-requires : goal.clean_original-requires
-clean_original-requires c = rw (c.as_bytes.ensures.value, c.slice-written.ensures.value) (some_bytes c.in-Ok.url c.slice-written.ensures.valid.head.scheme.nonempty)
+clean_original-requires c = rw (c.as_bytes.ensures.value, c.slice-written.ensures.value) (some_bytes c.in-Some.url c.slice-written.ensures.valid.head.scheme.nonempty)
 
 -- what holds of each original that may be answered holds of the answer
 answered : (result : Result (List ℕ) OriginalFault) (P Q : List ℕ → Type 0) → ((original : List ℕ) → P original → Q original) → IfOk result P → IfOk result Q
@@ -24,5 +24,5 @@ returns-clause-kept c =
     let text = c.as_bytes.ensures.value ∙ c.slice-written.ensures.value in
     let http = sym c.is_http.ensures ∙ c.if-not-is_http.false in
     answered c.clean_original.result (λ original. within_limit (clean_text c.as_bytes.result.now) ≡ Ok original) (λ original. original_reading original ≡ Ok original)
-    (λ original read. original_kept c.in-Ok.url original c.slice-written.ensures.valid http (subst (λ (t : List ℕ). within_limit (clean_text t) ≡ Ok original) text read))
+    (λ original read. original_kept c.in-Some.url original c.slice-written.ensures.valid http (subst (λ (t : List ℕ). within_limit (clean_text t) ≡ Ok original) text read))
     c.clean_original.ensures.read

@@ -4,7 +4,7 @@ use Rattle.harvest_lattice.specs.Knowledge.{lat}
 use Rattle.harvest_lattice.proofs.Knowledge.{lat-append}
 use Rattle.memento_index.specs.Merges.{adds_of}
 use Rattle.memento_index.proofs.Gathering.{are_news}
-use Rattle.memento_index.proofs.ListLemmas.{counted_made, tally_made, can_count, counted_after, fewer_keys_all}
+use Rattle.memento_index.proofs.ListLemmas.{tally_made, can_count, counted_after, fewer_keys_all}
 use Rattle.memento_index.proofs.index.Index.absorb.Goals as goal
 
 pub gather_steps-requires : goal.gather_steps-requires

@@ -8,4 +8,4 @@ use Rattle.memento_index.proofs.index.Index.list.Goals as goal
 pub returns-clause-stands : goal.returns-clause-stands
 returns-clause-stands c hs is =
     let o = c.args.original.now in
-    c.listed.ensures ∙ (ap (λ (x : Entries). set.items (shown_of x o)) is ∙ ap (λ (s : Mementos). set.items s) (sym (shown-lat hs o)))
+    c.list_of.ensures ∙ (ap (λ (x : Entries). set.items (shown_of x o)) is ∙ ap (λ (s : Mementos). set.items s) (sym (shown-lat hs o)))

@@ -1,4 +1,4 @@
-use Rattle.std.proofs.Common.{[], List, ℕ, Option, None, sym, ap, subst, ◌∙◌}
+use Rattle.std.proofs.Common.{List, ℕ, ap}
 use Rattle.std.specs.Map.{lookup}
 use Rattle.std.specs.BTreeMap.{is_at}
 use Rattle.memento_time.specs.Mementos.{text_cmp}

@@ -1,11 +1,5 @@
-use Rattle.std.proofs.Common.{◌≡◌, ℕ, ◌+◌, ◌<◌, ◌≤◌, [], ◌∷◌, ◌++◌, List, length, min, sym, ap, subst, ◌∙◌, arith}
-use Rattle.std.proofs.lemmas.Grind.{common_steps}
-use Rattle.std.specs.Vec.{vec_len, vec_capacity}
-use Rattle.memento_time.specs.declared.mementos.Memento.{Memento}
-use Rattle.memento_index.specs.Counts.{mementos_of}
-use Rattle.memento_index.specs.Tallies.{Tallied, beside}
-use Rattle.memento_index.specs.declared.counted.Counted.{Counted}
-use Rattle.memento_index.proofs.Columns.{beside-append, mementos-beside, length-beside}
+use Rattle.std.proofs.Common.{◌≡◌, length, arith}
+use Rattle.memento_index.proofs.Columns.{length-beside}
 use Rattle.memento_index.proofs.tally.Tally.reserve.Goals as goal
 
 pub returns-clause-made : goal.returns-clause-made

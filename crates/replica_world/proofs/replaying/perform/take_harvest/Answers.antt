@@ -10,5 +10,5 @@ returns-in-Ok c =
 
 pub returns-in-Err-TooMany : goal.returns-in-Err-TooMany
 returns-in-Err-TooMany c =
-    harvest_too_large_if (λ (text : List ℕ). text) c.args.world.now _ (taking_view c.args.taking.now) c.args.original.now c.args.page _ _ c.refused-in-Err-TooMany.result
-    c.in-Some.ensures c.requires c.into_vec.ensures (c.in-Err-TooMany.ensures.too_many (search rules)) c.refused-in-Err-TooMany.ensures refl
+    harvest_too_large_if (λ (text : List ℕ). text) c.args.world.now _ (taking_view c.args.taking.now) c.args.original.now c.args.page _ _ c.refusal_text-in-Err-TooMany.result
+    c.in-Some.ensures c.requires c.into_vec.ensures (c.in-Err-TooMany.ensures.too_many (search rules)) c.refusal_text-in-Err-TooMany.ensures refl

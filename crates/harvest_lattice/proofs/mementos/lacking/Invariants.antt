@@ -1,8 +1,0 @@
-use Rattle.std.proofs.Common.{◌≡◌, not, take}
-use Rattle.std.specs.List.{filter}
-use Rattle.memento_time.specs.Mementos.{memento_cmp}
-use Rattle.harvest_lattice.specs.Sets as set
-use Rattle.harvest_lattice.proofs.mementos.lacking.Given as goal
-
-abbrev pub invariant-loop-memento : goal.invariant-loop-memento
-invariant-loop-memento l = l.news.items ≡ filter (λ m. not (set.contains (set.from_list {R = memento_cmp} l.other) m)) (take l.memento-index l.list)

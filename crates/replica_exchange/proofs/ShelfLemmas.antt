@@ -1,0 +1,205 @@
+-- What slots hold, as the stamps of a state.
+use Rattle.std.proofs.Common.{◌≡◌, ℕ, true, false, cond, ◌++◌, List, [], ◌∷◌, Option, Some, None, is_some, IsSome, refl, sym, ap, subst, ◌∙◌}
+use Rattle.std.specs.Prelude.{T}
+use Rattle.std.specs.declared.cmp.Ordering.{Ordering}
+use Rattle.std.specs.declared.cmp.Ordering.TheVariants.{Less, Equal, Greater}
+use Rattle.std.specs.List.{AllByRecursion}
+use Rattle.std.specs.List.Sorted.{IsStrictlySortedBy}
+use Rattle.std.specs.Map.{lookup, keys_of}
+use Rattle.std.specs.BTreeMap as tree
+use Rattle.std.specs.BTreeMap.{is_at}
+use Rattle.std.specs.Ordering.{eq_by_cmp, is_lt, is_eq, ordering_then}
+use Rattle.std.specs.Cmp.{tied_itself, Equal-is, eq_by_cmp_equiv}
+use Rattle.std.specs.Cmp.Lexicographic.{nat_list_cmp_total}
+use Rattle.std.specs.FinMap as fmap
+use Rattle.std.proofs.lemmas.Bool.{true≢false}
+use Rattle.std.specs.FinMap.{slice_cmp-IsAntisymmetric, nat_cmp-IsAntisymmetric}
+use Rattle.std.specs.FinMap.Entries.{below_all}
+use Rattle.memento_time.specs.Mementos.{text_cmp}
+use Rattle.harvest_lattice.specs.Lattice.{Key, key_cmp}
+use Rattle.harvest_lattice.proofs.Entries.{key_cmp_total, key_cmp_exact}
+use Rattle.harvest_lattice.proofs.Sets.{less_from, two_parts}
+use Rattle.replica_exchange.specs.StampShelves.{Slots, Shelves, slot_of, slot, filled, slot_rows, shelf_rows, all_rows, stamps_in}
+
+pub text_exact : (a b : List ℕ) → text_cmp a b ≡ Equal → a ≡ b
+text_exact a b e = slice_cmp-IsAntisymmetric nat_cmp-IsAntisymmetric a b e
+
+pub same_text : (a b : List ℕ) → eq_by_cmp text_cmp a b ≡ true → a ≡ b
+same_text a b t = text_exact a b ((Equal-is (text_cmp a b)).0 t)
+
+pub lookup-find : {K X : Type 0} (R : K → K → Ordering) (q : K) (es : List (K × X)) → lookup (is_at (R q)) es ≡ fmap.find R q es
+lookup-find R q [] = refl
+lookup-find R q (e ∷ es) = ap (cond (is_eq (R q e.0)) (Some e.1)) (lookup-find R q es)
+
+-- the first, or else the second
+abbrev or_else : Option ℕ → Option ℕ → Option ℕ
+or_else None second = second
+or_else (Some first) second = Some first
+
+find_both : (q : Key) (xs ys : List (Key × ℕ)) → fmap.find key_cmp q (xs ++ ys) ≡ or_else (fmap.find key_cmp q xs) (fmap.find key_cmp q ys)
+find_both q [] ys = refl
+find_both q (x ∷ xs) ys = elim (eq_by_cmp key_cmp q x.0) as (λ b. cond b (Some x.1) (fmap.find key_cmp q (xs ++ ys)) ≡ or_else (cond b (Some x.1) (fmap.find key_cmp q xs)) (fmap.find key_cmp q ys)) [ true ↦ refl | false ↦ find_both q xs ys ]
+
+-- no original is found among greater ones
+pub none_above : (o : List ℕ) (es : List (List ℕ × Option ℕ)) → T (below_all text_cmp o es) → fmap.find text_cmp o es ≡ None
+none_above o [] h = refl
+none_above o (e ∷ es) h =
+    let p = two_parts (is_lt (text_cmp o e.0)) (below_all text_cmp o es) h in
+    ap (λ r. cond (is_eq r) (Some e.1) (fmap.find text_cmp o es)) (less_from (text_cmp o e.0) p.0) ∙ none_above o es p.1
+
+tie : (a o p : List ℕ) → eq_by_cmp key_cmp (a, o) (a, p) ≡ eq_by_cmp text_cmp o p
+tie a o p = ap (λ r. is_eq (ordering_then r (text_cmp o p))) (tied_itself nat_list_cmp_total a)
+
+-- an archive's rows have what its slots hold
+find_shelf : (a o : List ℕ) (es : List (List ℕ × Option ℕ)) → T (fmap.is_sorted text_cmp es) → fmap.find key_cmp (a, o) (shelf_rows a es) ≡ filled (fmap.find text_cmp o es)
+find_shelf a o [] h = refl
+find_shelf a o (e ∷ es) h =
+    let p = two_parts (below_all text_cmp e.0 es) (fmap.is_sorted text_cmp es) h in
+    let rest = find_shelf a o es p.1 in
+    elim (e.1) as (λ v. fmap.find key_cmp (a, o) (slot_rows a e.0 v ++ shelf_rows a es) ≡ filled (cond (eq_by_cmp text_cmp o e.0) (Some v) (fmap.find text_cmp o es))) [
+      | None ↦ rest ∙ elim (eq_by_cmp text_cmp o e.0) as (λ b. eq_by_cmp text_cmp o e.0 ≡ b → filled (fmap.find text_cmp o es) ≡ filled (cond b (Some None) (fmap.find text_cmp o es))) [
+        | true ↦ λ t. ap filled (none_above o es (subst (λ q. T (below_all text_cmp q es)) (sym (same_text o e.0 t)) p.0))
+        | false ↦ λ _. refl
+      ] refl
+      | Some v ↦ ap (λ b. cond b (Some v) (fmap.find key_cmp (a, o) (shelf_rows a es))) (tie a o e.0)
+          ∙ elim (eq_by_cmp text_cmp o e.0) as (λ b. cond b (Some v) (fmap.find key_cmp (a, o) (shelf_rows a es)) ≡ filled (cond b (Some (Some v)) (fmap.find text_cmp o es))) [ true ↦ refl | false ↦ rest ]
+    ]
+
+apart : (a b o p : List ℕ) → eq_by_cmp text_cmp a b ≡ false → eq_by_cmp key_cmp (a, o) (b, p) ≡ false
+apart a b o p h = elim (text_cmp a b) as (λ r. is_eq r ≡ false → is_eq (ordering_then r (text_cmp o p)) ≡ false) [ Less ↦ λ _. refl | Equal ↦ λ e. absurd (subst T e tt) | Greater ↦ λ _. refl ] h
+
+-- another archive's rows don't
+find_other : (a b o : List ℕ) (es : List (List ℕ × Option ℕ)) → eq_by_cmp text_cmp a b ≡ false → fmap.find key_cmp (a, o) (shelf_rows b es) ≡ None
+find_other a b o [] h = refl
+find_other a b o (e ∷ es) h =
+    elim (e.1) as (λ v. fmap.find key_cmp (a, o) (slot_rows b e.0 v ++ shelf_rows b es) ≡ None) [
+      | None ↦ find_other a b o es h
+      | Some v ↦ ap (λ t. cond t (Some v) (fmap.find key_cmp (a, o) (shelf_rows b es))) (apart a b o e.0 h) ∙ find_other a b o es h
+    ]
+
+-- no text is found among greater ones
+pub none_after : {X : Type 0} (a : List ℕ) (ss : List (List ℕ × X)) → AllByRecursion (λ b. text_cmp a b ≡ Less) (keys_of ss) → lookup (is_at (text_cmp a)) ss ≡ None
+none_after a [] h = refl
+none_after a (s ∷ ss) h = ap (λ r. cond (is_eq r) (Some s.1) (lookup (is_at (text_cmp a)) ss)) h.0 ∙ none_after a ss h.1
+
+or_none : (x : Option ℕ) → or_else x None ≡ x
+or_none None = refl
+or_none (Some x) = refl
+
+-- all rows have what the slots hold
+pub find_all : (k : Key) (ss : List (List ℕ × Slots)) → IsStrictlySortedBy text_cmp (keys_of ss) → fmap.find key_cmp k (all_rows ss) ≡ filled (slot_of (lookup (is_at (text_cmp k.0)) ss) k.1)
+unfolding IsStrictlySortedBy
+find_all k [] h = refl
+find_all k (s ∷ ss) h =
+    let rest = find_all k ss h.1 in
+    find_both k (shelf_rows s.0 (fmap.entries s.1)) (all_rows ss)
+    ∙ elim (eq_by_cmp text_cmp k.0 s.0) as (λ b. eq_by_cmp text_cmp k.0 s.0 ≡ b → or_else (fmap.find key_cmp k (shelf_rows s.0 (fmap.entries s.1))) (fmap.find key_cmp k (all_rows ss)) ≡ filled (slot_of (cond b (Some s.1) (lookup (is_at (text_cmp k.0)) ss)) k.1)) [
+      | true ↦ λ t.
+          let here : k.0 ≡ s.0 = same_text k.0 s.0 t in
+          let none : fmap.find key_cmp k (all_rows ss) ≡ None = rest ∙ ap (λ o. filled (slot_of o k.1)) (none_after k.0 ss (subst (λ a. AllByRecursion (λ b. text_cmp a b ≡ Less) (keys_of ss)) (sym here) h.0)) in
+          ap (or_else (fmap.find key_cmp k (shelf_rows s.0 (fmap.entries s.1)))) none
+          ∙ (or_none (fmap.find key_cmp k (shelf_rows s.0 (fmap.entries s.1)))
+          ∙ (ap (λ a. fmap.find key_cmp (a, k.1) (shelf_rows s.0 (fmap.entries s.1))) here
+          ∙ (find_shelf s.0 k.1 (fmap.entries s.1) (fmap.entries_sorted s.1) ∙ ap filled (sym (fmap.get-entries s.1 k.1)))))
+      | false ↦ λ t. ap (λ o. or_else o (fmap.find key_cmp k (all_rows ss))) (find_other k.0 s.0 k.1 (fmap.entries s.1) t) ∙ rest
+    ] refl
+
+pub get-stamps_in : (m : Shelves) → tree.IsOrdered text_cmp m → (k : Key) → fmap.get (stamps_in m) k ≡ filled (slot m k)
+get-stamps_in m h k = fmap.get-from_entries key_cmp_total (all_rows m.entries) k ∙ find_all k m.entries h
+
+-- slots that hold the same are the same entries
+pub same_stamps : (m n : Shelves) → tree.IsOrdered text_cmp m → tree.IsOrdered text_cmp n → ((k : Key) → filled (slot n k) ≡ filled (slot m k)) → stamps_in n ≡ stamps_in m
+same_stamps m n h g same = fmap.same_map key_cmp_total key_cmp_exact _ _ (λ k. get-stamps_in n g k ∙ (same k ∙ sym (get-stamps_in m h k)))
+
+-- ---- slots made and filled
+
+-- an archive's slots in its place, which hold the same
+pub same_shelf : (m n : Shelves) (a : List ℕ) (w : Slots) → ((q : List ℕ) → tree.get text_cmp n q ≡ cond (eq_by_cmp text_cmp a q) (Some w) (tree.get text_cmp m q)) → ((o : List ℕ) → filled (fmap.get w o) ≡ filled (slot_of (tree.get text_cmp m a) o)) → (k : Key) → filled (slot n k) ≡ filled (slot m k)
+same_shelf m n a w put same k =
+    ap (λ s. filled (slot_of s k.1)) (put k.0)
+    ∙ elim (eq_by_cmp text_cmp a k.0) as (λ b. eq_by_cmp text_cmp a k.0 ≡ b → filled (slot_of (cond b (Some w) (tree.get text_cmp m k.0)) k.1) ≡ filled (slot m k)) [
+      | true ↦ λ t. same k.1 ∙ ap (λ b. filled (slot_of (tree.get text_cmp m b) k.1)) (same_text a k.0 t)
+      | false ↦ λ _. refl
+    ] refl
+
+-- an archive's slots in its place, where those that were there stay
+pub slots_stay : (m n : Shelves) (a : List ℕ) (w : Slots) → ((q : List ℕ) → tree.get text_cmp n q ≡ cond (eq_by_cmp text_cmp a q) (Some w) (tree.get text_cmp m q)) → ((o : List ℕ) → IsSome (slot_of (tree.get text_cmp m a) o) → IsSome (fmap.get w o)) → (k : Key) → IsSome (slot m k) → IsSome (slot n k)
+slots_stay m n a w put stay k had =
+    subst (λ s. IsSome (slot_of s k.1)) (sym (put k.0))
+    (elim (eq_by_cmp text_cmp a k.0) as (λ b. eq_by_cmp text_cmp a k.0 ≡ b → IsSome (slot_of (cond b (Some w) (tree.get text_cmp m k.0)) k.1)) [
+      | true ↦ λ t. stay k.1 (subst (λ b. IsSome (slot_of (tree.get text_cmp m b) k.1)) (sym (same_text a k.0 t)) had)
+      | false ↦ λ _. had
+    ] refl)
+
+-- an archive's slots in its place with one more filled
+pub one_filled : (m n : Shelves) (a o : List ℕ) (s : Slots) (v : ℕ) → ((q : List ℕ) → tree.get text_cmp n q ≡ cond (eq_by_cmp text_cmp a q) (Some (fmap.insert s o (Some v))) (tree.get text_cmp m q)) → tree.get text_cmp m a ≡ Some s → (k : Key) → slot n k ≡ cond (eq_by_cmp key_cmp k (a, o)) (Some (Some v)) (slot m k)
+one_filled m n a o s v put was k =
+    ap (λ t. slot_of t k.1) (put k.0)
+    ∙ elim (eq_by_cmp text_cmp a k.0) as (λ b. eq_by_cmp text_cmp a k.0 ≡ b → slot_of (cond b (Some (fmap.insert s o (Some v))) (tree.get text_cmp m k.0)) k.1 ≡ cond (eq_by_cmp key_cmp k (a, o)) (Some (Some v)) (slot m k)) [
+      | true ↦ λ t.
+          let here : a ≡ k.0 = same_text a k.0 t in
+          fmap.get-insert nat_list_cmp_total s o (Some v) k.1
+          ∙ ((λ i. cond (sym (tie a k.1 o) i) (Some (Some v)) (slot_of (sym was i) k.1))
+          ∙ ap (λ b. cond (eq_by_cmp key_cmp (b, k.1) (a, o)) (Some (Some v)) (slot m (b, k.1))) here)
+      | false ↦ λ t. sym (ap (λ b. cond b (Some (Some v)) (slot m k)) (apart k.0 a k.1 o ((eq_by_cmp_equiv nat_list_cmp_total).symm k.0 a ∙ t)))
+    ] refl
+
+-- ---- the slots of one archive
+
+pub get-slots : (es : List (List ℕ × Option ℕ)) (o : List ℕ) → fmap.get (fmap.from_entries {R = text_cmp} es) o ≡ lookup (is_at (text_cmp o)) es
+get-slots es o = fmap.get-from_entries nat_list_cmp_total es o ∙ sym (lookup-find text_cmp o es)
+
+-- a slot with another value
+pub slot_put : (es fs : List (List ℕ × Option ℕ)) (o : List ℕ) (w : Option ℕ) (now : Slots) → fmap.from_entries es ≡ now → ((q : List ℕ) → lookup (is_at (text_cmp q)) fs ≡ cond (is_at (text_cmp o) q) (Some w) (lookup (is_at (text_cmp q)) es)) → fmap.from_entries fs ≡ fmap.insert now o w
+slot_put es fs o w now view put =
+    fmap.same_map nat_list_cmp_total text_exact (fmap.from_entries fs) (fmap.insert (fmap.from_entries es) o w) (λ q.
+    get-slots fs q ∙ (put q ∙ ((λ i. cond ((eq_by_cmp_equiv nat_list_cmp_total).symm o q i) (Some w) (sym (get-slots es q) i)) ∙ sym (fmap.get-insert nat_list_cmp_total (fmap.from_entries es) o w q))))
+    ∙ ap (λ (s : Slots). fmap.insert s o w) view
+
+pub is_some_is : {A : Type 0} (o : Option A) (a : A) → o ≡ Some a → IsSome o
+is_some_is o a e = ap is_some e
+
+pub not_some : {A : Type 0} (o : Option A) → o ≡ None → IsSome o → ⊥
+not_some o e h = true≢false (sym h ∙ ap is_some e)
+
+pub nothing : {A : Type 0} (o : Option A) → is_some o ≡ false → o ≡ None
+nothing None h = refl
+nothing (Some a) h = absurd (subst T h tt)
+
+-- an empty slot where there was none holds nothing more
+pub slot_same : (x : Slots) (a : List ℕ) → is_some (fmap.get x a) ≡ false → (o : List ℕ) → filled (fmap.get (fmap.insert x a None) o) ≡ filled (fmap.get x o)
+slot_same x a none o =
+    ap filled (fmap.get-insert nat_list_cmp_total x a None o)
+    ∙ elim (eq_by_cmp text_cmp o a) as (λ b. eq_by_cmp text_cmp o a ≡ b → filled (cond b (Some None) (fmap.get x o)) ≡ filled (fmap.get x o)) [
+      | true ↦ λ t. sym (ap filled (ap (fmap.get x) (same_text o a t) ∙ nothing (fmap.get x a) none))
+      | false ↦ λ _. refl
+    ] refl
+
+pub slot_stay : (x : Slots) (a : List ℕ) (v : Option ℕ) (o : List ℕ) → IsSome (fmap.get x o) → IsSome (fmap.get (fmap.insert x a v) o)
+slot_stay x a v o h =
+    subst IsSome (sym (fmap.get-insert nat_list_cmp_total x a v o))
+    (elim (eq_by_cmp text_cmp o a) as (λ b. IsSome (cond b (Some v) (fmap.get x o))) [ true ↦ refl | false ↦ h ])
+
+pub slot_made : (x : Slots) (a : List ℕ) (v : Option ℕ) → IsSome (fmap.get (fmap.insert x a v) a)
+slot_made x a v =
+    subst IsSome (sym (fmap.get-insert nat_list_cmp_total x a v a ∙ ap (λ r. cond (is_eq r) (Some v) (fmap.get x a)) (tied_itself nat_list_cmp_total a))) refl
+
+-- ---- a shelf made
+
+pub new_shelf_same : (m n : Shelves) (a : List ℕ) (w : Slots) → w ≡ fmap.empty → is_some (tree.get text_cmp m a) ≡ false → ((q : List ℕ) → tree.get text_cmp n q ≡ cond (eq_by_cmp text_cmp a q) (Some w) (tree.get text_cmp m q)) → (k : Key) → filled (slot n k) ≡ filled (slot m k)
+new_shelf_same m n a w is none put =
+    same_shelf m n a w put (λ o. ap filled (ap (λ (s : Slots). fmap.get s o) is ∙ fmap.get-empty text_cmp o) ∙ sym (ap (λ s. filled (slot_of s o)) (no_shelf (tree.get text_cmp m a) none)))
+  where
+    no_shelf : (s : Option Slots) → is_some s ≡ false → s ≡ None
+    no_shelf None h = refl
+    no_shelf (Some s) h = absurd (true≢false h)
+
+pub new_shelf_stay : (m n : Shelves) (a : List ℕ) (w : Slots) → is_some (tree.get text_cmp m a) ≡ false → ((q : List ℕ) → tree.get text_cmp n q ≡ cond (eq_by_cmp text_cmp a q) (Some w) (tree.get text_cmp m q)) → (k : Key) → IsSome (slot m k) → IsSome (slot n k)
+new_shelf_stay m n a w none put = slots_stay m n a w put (λ o had. absurd (no_slot (tree.get text_cmp m a) none o had))
+  where
+    no_slot : (s : Option Slots) → is_some s ≡ false → (o : List ℕ) → IsSome (slot_of s o) → ⊥
+    no_slot None h o had = true≢false (sym had)
+    no_slot (Some s) h o had = true≢false h
+
+pub slot_stays_filled : (m n : Shelves) (q : Key) (v : ℕ) → ((k : Key) → slot n k ≡ cond (eq_by_cmp key_cmp k q) (Some (Some v)) (slot m k)) → (k : Key) → IsSome (slot m k) → IsSome (slot n k)
+slot_stays_filled m n q v after k had = subst IsSome (sym (after k)) (elim (eq_by_cmp key_cmp k q) as (λ b. IsSome (cond b (Some (Some v)) (slot m k))) [ true ↦ refl | false ↦ had ])

@@ -1,0 +1,188 @@
+//! A state with the stamp of each of its entries.
+ghost use Rattle.std.specs.Prelude.{◌≡◌, ◌+◌, ◌≤◌, ◌↔◌, [], ◌∷◌, ◌++◌, List, OnOk, OnErr, IfOk, IsErrOf, Some};
+ghost use Rattle.std.specs.FinMap as map;
+ghost use Rattle.harvest_lattice.specs.Knowledge.{lat};
+ghost use Rattle.harvest_lattice.specs.News.{IsNews};
+ghost use Rattle.memento_index.specs.Merges.{adds_of};
+ghost use Rattle.replica_exchange.specs.CursorRule.{start_from};
+ghost use Rattle.replica_exchange.specs.Faults.{stamp_words};
+ghost use Rattle.replica_exchange.specs.Stamps.{IsStamped, IsAbsorbed, is_above};
+ghost use Rattle.replica_exchange.specs.declared.stamped.StampFault.TheVariants.{NoMemory as OutOfMemory};
+
+use crate::cursor::Cursor;
+use crate::stamps::{StampShelves, fill_all, make_rooms, stamp_at};
+use harvest_lattice::{Changes, State};
+use memento_index::{Index, Merge};
+use memento_time::{ArchiveName, NoMemory, Original};
+use std::alloc::Global;
+use std::collections::BTreeMap;
+use std::error::Error;
+use std::fmt;
+use std::marker::Model;
+
+/// Why a merge isn't absorbed.
+#[derive(Clone, Copy, Debug, PartialEq, Eq)]
+pub enum StampFault {
+    /// As many merges were absorbed as a number of 64 bits counts.
+    NumbersSpent,
+    /// The allocator refused a growth.
+    NoMemory,
+}
+
+impl fmt::Display for StampFault {
+    ghost output = { λ fault. Some (stamp_words fault) };
+
+    fn fmt<W: fmt::Write>(&self, f: &mut fmt::Formatter<W>) -> fmt::Result {
+        match self {
+            StampFault::NumbersSpent => f.write_str("numbers spent"),
+            StampFault::NoMemory => f.write_str("no memory"),
+        }
+    }
+}
+
+impl Error for StampFault {}
+
+impl From<NoMemory> for StampFault {
+    ghost from_gives = { λ _ fault. fault ≡ OutOfMemory };
+
+    fn from(_refused: NoMemory) -> StampFault {
+        StampFault::NoMemory
+    }
+}
+
+/// What comes with a merge and is news to a state.
+fn news_of(state: &State, merge: &Merge) -> Result<Changes, NoMemory>
+    ensures { IfOk result (IsNews state.now (lat (adds_of merge.now))) }
+{
+    match merge {
+        Merge::Harvest(harvest) => state.changes_by(harvest),
+        Merge::State(other) => state.changes(other),
+    }
+}
+
+/// What the merges of an incarnation made, and since which of them each entry is as it is.
+#[derive(Debug, Drop)]
+pub struct Stamped {
+    alloc: Global,
+    incarnation: u64,
+    number: u64,
+    index: Index,
+    stamps: StampShelves,
+}
+
+impl Model for Stamped {
+    ghost use Rattle.std.specs.BTreeMap.{IsOrdered};
+    ghost use Rattle.memento_time.specs.Mementos.{text_cmp};
+    ghost use Rattle.replica_exchange.specs.StampShelves.{stamps_in};
+    ghost use Rattle.replica_exchange.specs.Stamps.{StampedState, coded_stamped};
+
+    ghost Value = { StampedState };
+
+    ghost coded = { coded_stamped };
+
+    ghost view = { λ s. record { entries = s.index; stamps = stamps_in s.stamps; number = s.number; incarnation = s.incarnation } };
+
+    ghost invariant = { λ s. IsOrdered text_cmp s.stamps };
+}
+
+impl Stamped {
+    ghost use Rattle.memento_index.specs.declared.merge.Merge.{Merge};
+
+    /// What no merges made. Takes no memory.
+    pub fn new(alloc: Global, incarnation: u64) -> Stamped
+        ensures empty { result ≡ record { entries = map.empty; stamps = map.empty; number = 0; incarnation = incarnation } }
+        ensures stands { IsStamped [] result }
+    {
+        Stamped {
+            alloc,
+            incarnation,
+            number: 0,
+            index: Index::new(alloc),
+            stamps: BTreeMap::new(alloc),
+        }
+    }
+
+    /// Takes a harvest, or all that a state has, as the merge of the next number. The entries that it changes have that
+    /// number as their stamp.
+    ///
+    /// It has all its memory before the first change. Besides what `Index::absorb` takes, it takes time in the size of
+    /// the merge, and for each entry that changes logarithmic in the number of keys.
+    pub fn absorb(&mut self, merge: &Merge) -> Result<(), StampFault>
+        ensures ok { OnOk result (IsAbsorbed self.old merge.now self.new) }
+        ensures stands { (merges : List Merge) → IsStamped merges self.old → OnOk result (IsStamped (merges ++ merge.now ∷ []) self.new) }
+        ensures spent { IsErrOf result StampFault.NumbersSpent ↔ (self.old.number ≡ 18446744073709551615) }
+        ensures err { OnErr result (self.new ≡ self.old) }
+    {
+        let Some(number) = self.number.checked_add(1) else {
+            return Err(StampFault::NumbersSpent);
+        };
+        self.absorb_as(number, merge)?;
+        Ok(())
+    }
+
+    /// Takes a merge in with its number.
+    fn absorb_as(&mut self, number: u64, merge: &Merge) -> Result<(), NoMemory>
+        requires { number ≡ self.old.number + 1 }
+        ensures ok { OnOk result (IsAbsorbed self.old merge.now self.new) }
+        ensures err { OnErr result (self.new ≡ self.old) }
+    {
+        let changes = news_of(self.index.state(), merge)?;
+        let rows = changes.rows();
+        make_rooms(&mut self.stamps, self.alloc, rows)?;
+        self.index.absorb(merge)?;
+        fill_all(&mut self.stamps, rows, number);
+        self.number = number;
+        Ok(())
+    }
+
+    /// The index of the state.
+    pub fn index(&self) -> &Index
+        ensures { result.now ≡ self.now.entries }
+    {
+        &self.index
+    }
+
+    /// The number of the incarnation that absorbed the merges.
+    pub fn incarnation(&self) -> u64
+        ensures { result ≡ self.now.incarnation }
+    {
+        self.incarnation
+    }
+
+    /// How many merges were absorbed.
+    pub fn number(&self) -> u64
+        ensures { result ≡ self.now.number }
+    {
+        self.number
+    }
+
+    /// The number of merges from which on an entry is as it is. Takes time logarithmic in the number of keys.
+    pub fn stamp(&self, archive: ArchiveName, original: &Original) -> Option<u64>
+        ensures { result ≡ map.get self.now.stamps (archive, original.now) }
+    {
+        stamp_at(&self.stamps, archive, original)
+    }
+
+    pub(crate) fn is_above(&self, archive: ArchiveName, original: &Original, start: u64) -> bool
+        ensures { result ≡ is_above start (map.get self.now.stamps (archive, original.now)) }
+    {
+        match self.stamp(archive, original) {
+            Some(stamp) => start < stamp,
+            None => false,
+        }
+    }
+
+    /// Where a delta from a cursor starts.
+    pub(crate) fn start_from(&self, cursor: Option<Cursor>) -> u64
+        ensures start { result ≡ start_from self.now cursor }
+        ensures within { result ≤ self.now.number }
+    {
+        match cursor {
+            Some(cursor)
+                if cursor.incarnation == self.incarnation && cursor.number <= self.number => {
+                cursor.number
+            }
+            _ => 0,
+        }
+    }
+}

@@ -1,0 +1,167 @@
+//! Where stamps are kept: slots by archive and original.
+ghost use Rattle.std.specs.Prelude.{◌≡◌, ℕ, List, cond, IsSome, OnOk, Some};
+ghost use Rattle.std.specs.BTreeMap as tree;
+ghost use Rattle.std.specs.BTreeMap.{IsOrdered};
+ghost use Rattle.std.specs.FinMap as map;
+ghost use Rattle.std.specs.List.{All};
+ghost use Rattle.std.specs.Ordering.{eq_by_cmp};
+ghost use Rattle.memento_time.specs.Mementos.{text_cmp};
+ghost use Rattle.harvest_lattice.specs.Lattice.{Key, key_cmp};
+ghost use Rattle.harvest_lattice.specs.Rows.{row_key};
+ghost use Rattle.replica_exchange.specs.StampShelves.{filled, slot, restamped};
+
+use harvest_lattice::Row;
+use memento_time::{ArchiveName, NoMemory, Original};
+use std::alloc::Global;
+use std::collections::BTreeMap;
+use std::marker::Model;
+
+/// The slots of an archive. An empty slot counts as none: it is room that was made before a change, so that the change
+/// can't be refused.
+#[derive(Debug, Drop)]
+pub struct StampShelf {
+    slots: BTreeMap<Original, Option<u64>>,
+}
+
+impl Model for StampShelf {
+    ghost use Rattle.std.specs.BTreeMap.{IsOrdered};
+    ghost use Rattle.std.specs.FinMap as map;
+    ghost use Rattle.memento_time.specs.Mementos.{text_cmp};
+    ghost use Rattle.replica_exchange.specs.StampShelves.{Slots, coded_slots};
+
+    ghost Value = { Slots };
+
+    ghost coded = { coded_slots };
+
+    ghost view = { λ s. map.from_entries s.slots.entries };
+
+    ghost invariant = { λ s. IsOrdered text_cmp s.slots };
+}
+
+impl StampShelf {
+    fn new(alloc: Global) -> StampShelf
+        ensures { result ≡ map.empty }
+    {
+        StampShelf {
+            slots: BTreeMap::new(alloc),
+        }
+    }
+
+    fn stamp(&self, original: &Original) -> Option<u64>
+        ensures { result ≡ filled (map.get self.now original.now) }
+    {
+        *self.slots.get(original)?
+    }
+
+    /// Makes a slot where there is none. The stamps stay.
+    fn make_slot(&mut self, original: &Original) -> Result<(), NoMemory>
+        ensures same { (o : List ℕ) → filled (map.get self.new o) ≡ filled (map.get self.old o) }
+        ensures stay { (o : List ℕ) → IsSome (map.get self.old o) → IsSome (map.get self.new o) }
+        ensures made { OnOk result (IsSome (map.get self.new original.now)) }
+    {
+        if !self.slots.contains_key(original) {
+            let original = original.try_clone()?;
+            self.slots.insert(original, None)?;
+        }
+        Ok(())
+    }
+
+    /// Puts a stamp into a slot that is there.
+    fn fill(&mut self, original: &Original, stamp: u64)
+        requires { IsSome (map.get self.old original.now) }
+        ensures { self.new ≡ map.insert self.old original.now (Some stamp) }
+    {
+        let Some(slot) = self.slots.get_mut(original) else {
+            return;
+        };
+        *slot = Some(stamp);
+    }
+}
+
+/// The slots of each archive.
+pub type StampShelves = BTreeMap<ArchiveName, StampShelf>;
+
+/// The stamp of an archive and original.
+pub fn stamp_at(shelves: &StampShelves, archive: ArchiveName, original: &Original) -> Option<u64>
+    ensures { result ≡ filled (slot shelves.now (archive, original.now)) }
+{
+    shelves.get(&archive)?.stamp(original)
+}
+
+/// Makes a shelf for the archive where there is none.
+fn make_shelf(
+    shelves: &mut StampShelves,
+    alloc: Global,
+    archive: ArchiveName,
+) -> Result<(), NoMemory>
+    requires ordered { IsOrdered text_cmp shelves.old }
+    ensures same { (k : Key) → filled (slot shelves.new k) ≡ filled (slot shelves.old k) }
+    ensures stay { (k : Key) → IsSome (slot shelves.old k) → IsSome (slot shelves.new k) }
+    ensures made { OnOk result (IsSome (tree.get text_cmp shelves.new archive)) }
+    ensures ordered { IsOrdered text_cmp shelves.new }
+{
+    if !shelves.contains_key(&archive) {
+        shelves.insert(archive, StampShelf::new(alloc))?;
+    }
+    Ok(())
+}
+
+/// Makes a slot for the key where there is none. The stamps stay.
+fn make_room(
+    shelves: &mut StampShelves,
+    alloc: Global,
+    archive: ArchiveName,
+    original: &Original,
+) -> Result<(), NoMemory>
+    requires ordered { IsOrdered text_cmp shelves.old }
+    ensures same { (k : Key) → filled (slot shelves.new k) ≡ filled (slot shelves.old k) }
+    ensures stay { (k : Key) → IsSome (slot shelves.old k) → IsSome (slot shelves.new k) }
+    ensures made { OnOk result (IsSome (slot shelves.new (archive, original.now))) }
+    ensures ordered { IsOrdered text_cmp shelves.new }
+{
+    make_shelf(shelves, alloc, archive)?;
+    match shelves.get_mut(&archive) {
+        Some(shelf) => shelf.make_slot(original),
+        None => Ok(()),
+    }
+}
+
+/// Makes a slot for the key of each row.
+pub fn make_rooms(shelves: &mut StampShelves, alloc: Global, rows: &[Row]) -> Result<(), NoMemory>
+    requires ordered { IsOrdered text_cmp shelves.old }
+    ensures same { (k : Key) → filled (slot shelves.new k) ≡ filled (slot shelves.old k) }
+    ensures made { OnOk result (All (λ row. IsSome (slot shelves.new (row_key row))) rows.now) }
+    ensures ordered { IsOrdered text_cmp shelves.new }
+{
+    for row in rows {
+        make_room(shelves, alloc, row.archive(), row.original())?;
+    }
+    Ok(())
+}
+
+/// Puts a stamp into the slot of a key, which is there.
+fn fill(shelves: &mut StampShelves, archive: ArchiveName, original: &Original, stamp: u64)
+    requires ordered { IsOrdered text_cmp shelves.old }
+    requires room { IsSome (slot shelves.old (archive, original.now)) }
+    ensures after { (k : Key)
+        → slot shelves.new k ≡ cond (eq_by_cmp key_cmp k (archive, original.now)) (Some (Some stamp)) (slot shelves.old k) }
+    ensures ordered { IsOrdered text_cmp shelves.new }
+{
+    let Some(shelf) = shelves.get_mut(&archive) else {
+        return;
+    };
+    shelf.fill(original, stamp);
+}
+
+/// Puts a stamp into the slots of the rows' keys, which are there.
+pub fn fill_all(shelves: &mut StampShelves, rows: &[Row], stamp: u64)
+    requires ordered { IsOrdered text_cmp shelves.old }
+    requires room { All (λ row. IsSome (slot shelves.old (row_key row))) rows.now }
+    ensures stamps { (k : Key)
+        → filled (slot shelves.new k) ≡ restamped rows.now stamp k (filled (slot shelves.old k)) }
+    ensures ordered { IsOrdered text_cmp shelves.new }
+{
+    for row in rows {
+        fill(shelves, row.archive(), row.original(), stamp);
+    }
+}

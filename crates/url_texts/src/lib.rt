@@ -1,0 +1,8 @@
+//! Reads texts as URLs (the URL Standard, as the crate `url` has it), with one answer where memory is refused.
+#![tactic(auto)]
+
+mod reading;
+#[cfg(test)]
+mod tests;
+
+pub use reading::{join_url, read_url};
