@@ -10,7 +10,8 @@ use Rattle.aggregator.specs.declared.settings.fault.SettingsFault.TheVariants as
 use Rattle.aggregator.specs.declared.serve.ServeFault.{ServeFault}
 use Rattle.aggregator.specs.declared.serve.ServeFault.TheVariants as serve
 use Rattle.aggregator.specs.declared.failure.Failure.{Failure}
-use Rattle.aggregator.specs.declared.failure.Failure.TheVariants.{Usage, BadLine, BadText, BadKey, NoGate, Device, NoMemory}
+use Rattle.aggregator.specs.declared.failure.Failure.TheVariants.{Usage, BadLine, BadText, BadKey, NoGate, Device}
+use Rattle.aggregator.specs.declared.failure.Failure.TheVariants.{NoMemory}
 
 -- how a replay's fault ends the program
 abbrev pub failure_of : ReplayFault → Failure

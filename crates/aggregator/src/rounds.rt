@@ -145,8 +145,8 @@ fn jobs_of(
     jobs
 }
 
-// The job of an archive for an original: its first URL is the archive's `timemap` with the original behind it. None where
-// memory is refused, or the URL is too long.
+// The job of an archive for an original: its first URL is the archive's `timemap` with the original behind it. None
+// where memory is refused, or the URL is too long.
 fn job_of(
     alloc: Global,
     archive: ArchiveName,

@@ -74,8 +74,8 @@ impl From<OpenFault> for ServeFault {
 
 /// Serves by the settings of a file.
 ///
-/// Its bounds are written out, since `main` calls it: what `main` calls by a bound on `SocketRuntime` isn't covered by the
-/// borrow checker.
+/// Its bounds are written out, since `main` calls it: what `main` calls by a bound on `SocketRuntime` isn't covered by
+/// the borrow checker.
 pub(crate) fn serve_file<R, W>(rt: &R, file: &str, out: W) -> Result<(), Failure>
 where
     R: Threads
@@ -99,8 +99,8 @@ where
 
 /// Serves by these settings until the last round and the last connection, and writes what it does, line by line.
 ///
-/// `NoMemory` only before the first round, or where a gate that has ended ran out of it. After a failed write no further
-/// round is made, and Device is answered once the gates have ended.
+/// `NoMemory` only before the first round, or where a gate that has ended ran out of it. After a failed write no
+/// further round is made, and Device is answered once the gates have ended.
 pub(crate) fn serve_settings<R, W>(
     rt: &R,
     settings: &Settings,

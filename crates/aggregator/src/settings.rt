@@ -1,7 +1,7 @@
 //! The settings of a service, read from TOML.
 //!
-//! Keys are looked for in the order of `Key`, and the first that is missing or holds what it may not is the fault. Other
-//! keys aren't looked at.
+//! Keys are looked for in the order of `Key`, and the first that is missing or holds what it may not is the fault.
+//! Other keys aren't looked at.
 ghost use Rattle.std.specs.Prelude.{◌≡◌, ◌<◌, ◌≤◌, length};
 
 mod archives;

@@ -1,11 +1,11 @@
 //! Trials of gates and their merger that no contract can make: races between threads, refused memory, and speed.
 //!
-//! - `gate_trials rounds COUNT`: so often, a gate learns the receipt of a publish while another, that isn't told, is asked
-//!   in a second thread.
+//! - `gate_trials rounds COUNT`: so often, a gate learns the receipt of a publish while another, that isn't told, is
+//!   asked in a second thread.
 //! - `gate_trials refusals`: publishes and asks, and calls again whatever was refused memory. Whichever request is
 //!   refused, the same is printed (`tests/memory/run` refuses each in turn).
-//! - `gate_trials readers GATES`: how many replies a second so many gates give in threads of their own, alone and while the
-//!   merger publishes as fast as it can (`bench/run`).
+//! - `gate_trials readers GATES`: how many replies a second so many gates give in threads of their own, alone and while
+//!   the merger publishes as fast as it can (`bench/run`).
 //! - `gate_trials publishes`: how long a publish takes, by the number of pending merges.
 //! - `gate_trials memory`: publishes 1,000,000 mementos, for whoever watches how much memory that takes.
 //!

@@ -56,8 +56,8 @@ fn learn_and_ask(gate: &mut Gate, receipt: Receipt, question: &Request) -> Resul
     ask(gate, question)
 }
 
-/// Publishes, and asks the gate that learnt the receipt. A refused publish is told of first, which must change no reply, and
-/// then made again.
+/// Publishes, and asks the gate that learnt the receipt. A refused publish is told of first, which must change no
+/// reply, and then made again.
 fn publish_and_ask<R: Wait>(
     rt: &R,
     merger: &mut Merger,

@@ -1,4 +1,5 @@
-//! How many replies a second gates give, how long a publish takes and how much memory, over an index of 1,000,000 mementos.
+//! How many replies a second gates give, how long a publish takes and how much memory, over an index of 1,000,000
+//! mementos.
 use crate::harvests::{many, question, service};
 use anyhow::{Context, Result, bail};
 use published_index::{Gate, MOST_GATES, Merger, open};
@@ -54,7 +55,8 @@ fn questions(alloc: Global) -> Result<Vec<Request>> {
     Ok(all)
 }
 
-/// Publishes all mementos, original by original, and then nothing, so that both copies have them and nothing else is kept.
+/// Publishes all mementos, original by original, and then nothing, so that both copies have them and nothing else is
+/// kept.
 fn fill<R: Wait>(rt: &R, alloc: Global, merger: &mut Merger) -> Result<()> {
     for number in 0..ORIGINALS {
         merger.append(&many(alloc, number, MEMENTOS, 1)?)?;
@@ -72,7 +74,8 @@ pub(crate) fn hold<R: Wait>(rt: &R, alloc: Global) -> Result<()> {
     filled
 }
 
-/// Appends a harvest and publishes it, over and over until the flag is 1: how often, or none where something was refused.
+/// Appends a harvest and publishes it, over and over until the flag is 1: how often, or none where something was
+/// refused.
 fn publish_until<R: Wait>(
     rt: &R,
     alloc: Global,

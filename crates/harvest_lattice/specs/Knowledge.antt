@@ -49,11 +49,16 @@ union_all (s ∷ ss) = set.union s (union_all ss)
 
 -- the mementos of an original's latest harvests
 unfoldable pub shown : List Harvested → List ℕ → Mementos
-shown hs original = union_all (map (λ h. h.mementos) (filter (λ h. eq_by_cmp text_cmp original h.original && is_current hs h) hs))
+shown hs original = union_all
+    (map (λ h. h.mementos) (filter (λ h. eq_by_cmp text_cmp original h.original && is_current hs h) hs))
 
 -- the latest revision of an archive and original, with the union of its harvests
 unfoldable pub entry_of : List Harvested → Key → Option Kept
-entry_of hs k = option_map (λ r. record { revision = r; mementos = union_all (map (λ h. h.mementos) (filter (λ h. has_key k h && nat_le r h.revision) hs)) }) (latest hs k)
+entry_of hs k = option_map
+    (λ r. record {
+      revision = r;
+      mementos = union_all (map (λ h. h.mementos) (filter (λ h. has_key k h && nat_le r h.revision) hs));
+    }) (latest hs k)
 
 -- the entry of each archive and original that occurs
 unfoldable pub lat : List Harvested → Entries
@@ -69,12 +74,14 @@ adds entries = map harvest_at (map.entries entries)
 
 -- of a state, the mementos of an original in every archive
 unfoldable pub shown_of : Entries → List ℕ → Mementos
-shown_of entries original = union_all (map (λ e. e.1.mementos) (filter (λ e. eq_by_cmp text_cmp original e.0.1) (map.entries entries)))
+shown_of entries original =
+    union_all (map (λ e. e.1.mementos) (filter (λ e. eq_by_cmp text_cmp original e.0.1) (map.entries entries)))
 
 -- a harvest as a tuple of its parts
 abbrev pub coded_harvested : Coded Harvested
 coded_harvested =
-    code_by (Key × Kept) (coded× coded_key coded_kept) (λ h. (key_of h, record { revision = h.revision; mementos = h.mementos })) harvest_at (λ _. refl)
+    code_by (Key × Kept) (coded× coded_key coded_kept)
+    (λ h. (key_of h, record { revision = h.revision; mementos = h.mementos })) harvest_at (λ _. refl)
 
 -- a harvest of the set, than which none of its archive and original is later
 pub record IsLatest (hs : List Harvested) (h : Harvested) : Type 0 where

@@ -69,7 +69,8 @@ join_at x e = unwrap_or (join_values join_kept (map.get x e.0) (Some e.1)) e.1
 
 -- an entry as a pair of its revision and its mementos
 abbrev pub coded_kept : Coded Kept
-coded_kept = code_by (ℕ × Mementos) (coded× coded_ℕ (set.code coded_memento)) (λ e. (e.revision, e.mementos)) (λ p. record { revision = p.0; mementos = p.1 }) (λ _. refl)
+coded_kept = code_by (ℕ × Mementos) (coded× coded_ℕ (set.code coded_memento)) (λ e. (e.revision, e.mementos))
+    (λ p. record { revision = p.0; mementos = p.1 }) (λ _. refl)
 
 -- a key as a pair of its texts
 abbrev pub coded_key : Coded Key

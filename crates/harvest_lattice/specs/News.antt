@@ -27,7 +27,10 @@ pub record IsNews (x y news : Entries) : Type 0 where
 -- the part of an entry that is news where another stands: all of it, or at one revision what the other lacks
 abbrev pub news_at : Option Kept → Kept → Kept
 news_at None e = e
-news_at (Some a) e = record { revision = e.revision; mementos = cond (a.revision == e.revision) (set.minus e.mementos a.mementos) e.mementos }
+news_at (Some a) e = record {
+  revision = e.revision;
+  mementos = cond (a.revision == e.revision) (set.minus e.mementos a.mementos) e.mementos;
+}
 
 -- the news of an entry, or none where the state has at least as much at its key
 abbrev pub IsNewsOf : Entries → Key × Kept → Option Kept → Type 0
@@ -36,4 +39,5 @@ IsNewsOf x e news = MatchOption news (IsAtMostAt x e) (λ n. (n ≡ news_at (fma
 -- the entry's news comes behind the rows, if there is any
 abbrev pub IsNoted : Entries → Key × Kept → List Row → List Row → Type 0
 IsNoted x e old new =
-    ((map row_entry new ≡ map row_entry old ++ (e.0, news_at (fmap.get x e.0) e.1) ∷ []) × (IsAtMostAt x e → ⊥)) ⊎ ((new ≡ old) × IsAtMostAt x e)
+    ((map row_entry new ≡ map row_entry old ++ (e.0, news_at (fmap.get x e.0) e.1) ∷ []) × (IsAtMostAt x e → ⊥))
+    ⊎ ((new ≡ old) × IsAtMostAt x e)

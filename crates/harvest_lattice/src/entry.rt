@@ -102,7 +102,11 @@ impl Entry {
 
     // Takes in what another entry of this revision has.
     fn absorb(&mut self, other: Arc<Mementos>) -> Result<(), NoMemory>
-        ensures ok { OnOk result (self.new ≡ record { revision = self.old.revision; mementos = set.union self.old.mementos (arc_value other) }) }
+        ensures ok { OnOk result
+            (self.new ≡ record {
+              revision = self.old.revision;
+              mementos = set.union self.old.mementos (arc_value other);
+            }) }
         ensures err { OnErr result (self.new ≡ self.old) }
     {
         let other = Arc::unwrap_or_clone(other)?;

@@ -60,7 +60,12 @@ impl Model for Harvest {
 
     ghost coded = { coded_harvested };
 
-    ghost view = { λ h. record { archive = h.archive; original = h.original; revision = h.entry.revision; mementos = h.entry.mementos } };
+    ghost view = { λ h. record {
+      archive = h.archive;
+      original = h.original;
+      revision = h.entry.revision;
+      mementos = h.entry.mementos;
+    } };
 }
 
 impl Harvest {
@@ -74,9 +79,16 @@ impl Harvest {
         revision: u64,
         mementos: Vec<Memento>,
     ) -> Result<Harvest, HarvestFault>
-        ensures kept { IfOk result (λ h. h ≡ record { archive = archive; original = original.now; revision = revision; mementos = set.from_list mementos.items }) }
+        ensures kept { IfOk result
+            (λ h. h ≡ record {
+              archive = archive;
+              original = original.now;
+              revision = revision;
+              mementos = set.from_list mementos.items;
+            }) }
         ensures few { IfOk result (λ h. length (set.items h.mementos) ≤ Harvest.MAX_MEMENTOS) }
-        ensures too_many { IsErrOf result HarvestFault.TooMany → Harvest.MAX_MEMENTOS < length (set.items (set.from_list {R = memento_cmp} mementos.items)) }
+        ensures too_many { IsErrOf result HarvestFault.TooMany
+            → Harvest.MAX_MEMENTOS < length (set.items (set.from_list {R = memento_cmp} mementos.items)) }
     {
         let original = original.try_clone()?;
         let mementos = Mementos::of(mementos);
@@ -127,7 +139,9 @@ impl Harvest {
 
     // The one row of a state of this harvest alone.
     pub(crate) fn row(&self) -> Result<Row, NoMemory>
-        ensures { IfOk result (λ row. row_entry row ≡ (key_of self.now, record { revision = self.now.revision; mementos = self.now.mementos })) }
+        ensures { IfOk result
+            (λ row. row_entry row
+            ≡ (key_of self.now, record { revision = self.now.revision; mementos = self.now.mementos })) }
     {
         let original = self.original.try_clone()?;
         let entry = self.entry.try_clone()?;

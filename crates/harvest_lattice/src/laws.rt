@@ -59,18 +59,23 @@ pub fn state_shows_the_same()
 /// Rows make a state exactly where they are its own in order, and a revision and mementos make an
 /// entry exactly where they are its own in order.
 pub fn a_state_is_its_rows()
-    ensures rows { (rows : List (Key × Kept)) (state : Entries) → map_with rows ≡ Some state ↔ map.entries state ≡ rows }
-    ensures entry { (revision : ℕ) (list : List Memento) (kept : Kept) → kept_with revision list ≡ Some kept ↔ (kept.revision ≡ revision) × (set.items kept.mementos ≡ list) }
+    ensures rows { (rows : List (Key × Kept)) (state : Entries)
+        → map_with rows ≡ Some state ↔ map.entries state ≡ rows }
+    ensures entry { (revision : ℕ) (list : List Memento) (kept : Kept)
+        → kept_with revision list ≡ Some kept ↔ (kept.revision ≡ revision) × (set.items kept.mementos ≡ list) }
 {}
 
 /// A sorted list of the members of a set, each once, is the one that `items` gives.
 pub fn one_list_of_a_set()
     ensures sorted { (mementos : Mementos) → IsStrictlySortedBy memento_cmp (set.items mementos) }
-    ensures once { (list : List Memento) → IsStrictlySortedBy memento_cmp list → set.items (set.from_list {R = memento_cmp} list) ≡ list }
-    ensures members { (list : List Memento) (m : Memento) → IsTrue (set.contains (set.from_list {R = memento_cmp} list) m) ↔ Contains list m }
+    ensures once { (list : List Memento) → IsStrictlySortedBy memento_cmp list
+        → set.items (set.from_list {R = memento_cmp} list) ≡ list }
+    ensures members { (list : List Memento) (m : Memento)
+        → IsTrue (set.contains (set.from_list {R = memento_cmp} list) m) ↔ Contains list m }
 {}
 
 /// What is shown of an original is what its latest harvests have.
 pub fn the_latest_are_shown()
-    ensures { (hs : List Harvested) (original : List ℕ) (m : Memento) → IsTrue (set.contains (shown hs original) m) ↔ IsShown hs original m }
+    ensures { (hs : List Harvested) (original : List ℕ) (m : Memento)
+        → IsTrue (set.contains (shown hs original) m) ↔ IsShown hs original m }
 {}

@@ -1,5 +1,6 @@
 //! Sets of mementos, as lists in order.
-ghost use Rattle.std.specs.Prelude.{◌≡◌, ◌+◌, ◌<◌, ◌≤◌, ◌∷◌, [], ◌++◌, ◌||◌, ◌↔◌, IsTrue, IfOk, OnOk, OnErr, not, length, reverse, take, vec_len};
+ghost use Rattle.std.specs.Prelude.{◌≡◌, ◌+◌, ◌<◌, ◌≤◌, ◌∷◌, [], ◌++◌, ◌||◌, ◌↔◌, IsTrue, IfOk, OnOk, OnErr, not};
+ghost use Rattle.std.specs.Prelude.{length, reverse, take, vec_len};
 ghost use Rattle.std.specs.Vec.{vec_capacity};
 ghost use Rattle.std.specs.List.{filter, list_all, list_any};
 ghost use Rattle.std.specs.List.Sorted.{IsStrictlySortedBy};
@@ -179,7 +180,9 @@ fn unite(list: &mut Vec<Memento>, added: Vec<Memento>) -> Result<(), NoMemory>
     requires list_in_order { IsStrictlySortedBy memento_cmp list.old.items }
     requires added_in_order { IsStrictlySortedBy memento_cmp added.items }
     ensures in_order { IsStrictlySortedBy memento_cmp list.new.items }
-    ensures members { OnOk result (set.from_list {R = memento_cmp} list.new.items ≡ set.union (set.from_list list.old.items) (set.from_list added.items)) }
+    ensures members { OnOk result
+        (set.from_list {R = memento_cmp} list.new.items
+        ≡ set.union (set.from_list list.old.items) (set.from_list added.items)) }
     ensures err { OnErr result (list.new.items ≡ list.old.items) }
 {
     let at = match added.first() {
@@ -200,7 +203,9 @@ fn merge(list: &mut Vec<Memento>, mut lifted: Vec<Memento>, added: Vec<Memento>)
     requires room { vec_len list.old + vec_len lifted + vec_len added ≤ vec_capacity list.old }
     ensures in_order { IsStrictlySortedBy memento_cmp list.new.items }
     ensures members { (m : AMemento)
-        → list_any (eq_by_cmp memento_cmp m) list.new.items ≡ (list_any (eq_by_cmp memento_cmp m) (list.old.items ++ reverse lifted.items) || list_any (eq_by_cmp memento_cmp m) added.items) }
+        → list_any (eq_by_cmp memento_cmp m) list.new.items
+        ≡ (list_any (eq_by_cmp memento_cmp m) (list.old.items ++ reverse lifted.items)
+        || list_any (eq_by_cmp memento_cmp m) added.items) }
 {
     for memento in added {
         pass(list, &mut lifted, &memento);
@@ -216,7 +221,9 @@ fn pass(list: &mut Vec<Memento>, lifted: &mut Vec<Memento>, memento: &Memento)
     requires room { vec_len list.old + vec_len lifted.old ≤ vec_capacity list.old }
     ensures in_order { IsStrictlySortedBy memento_cmp (list.new.items ++ memento.now ∷ reverse lifted.new.items) }
     ensures members { (m : AMemento)
-        → list_any (eq_by_cmp memento_cmp m) (list.new.items ++ memento.now ∷ reverse lifted.new.items) ≡ (eq_by_cmp memento_cmp m memento.now || list_any (eq_by_cmp memento_cmp m) (list.old.items ++ reverse lifted.old.items)) }
+        → list_any (eq_by_cmp memento_cmp m) (list.new.items ++ memento.now ∷ reverse lifted.new.items)
+        ≡ (eq_by_cmp memento_cmp m memento.now
+        || list_any (eq_by_cmp memento_cmp m) (list.old.items ++ reverse lifted.old.items)) }
     ensures len { vec_len list.new + vec_len lifted.new ≤ vec_len list.old + vec_len lifted.old }
     ensures capacity { vec_capacity list.old ≤ vec_capacity list.new }
 {

@@ -27,7 +27,8 @@ impl Row {
         revision: u64,
         mementos: Vec<Memento>,
     ) -> Result<Option<Row>, NoMemory>
-        ensures { IfOk result (λ row. option_map row_entry row ≡ entry_with (archive, original) revision mementos.items) }
+        ensures { IfOk result
+            (λ row. option_map row_entry row ≡ entry_with (archive, original) revision mementos.items) }
     {
         let Some(mementos) = Mementos::of_sorted(mementos) else {
             return Ok(None);

@@ -1,5 +1,6 @@
 // What a state has of one archive.
-ghost use Rattle.std.specs.Prelude.{◌≡◌, ◌<◌, ◌&&◌, ℕ, List, true, false, cond, is_some, IsSome, not, IfOk, OnOk, OnErr, option_copied, Some, None};
+ghost use Rattle.std.specs.Prelude.{◌≡◌, ◌<◌, ◌&&◌, ℕ, List, true, false, cond, is_some, IsSome, not, IfOk, OnOk};
+ghost use Rattle.std.specs.Prelude.{OnErr, option_copied, Some, None};
 ghost use Rattle.std.specs.FinMap as map;
 ghost use Rattle.std.specs.Ordering.{eq_by_cmp};
 ghost use Rattle.memento_time.specs.Mementos.{text_cmp};
@@ -54,7 +55,8 @@ impl Shelf {
     // Joins an entry with what stands, and tells whether nothing stood.
     pub fn join(&mut self, original: Original, entry: Entry) -> Result<bool, NoMemory>
         ensures after { OnOk result ((o : List ℕ)
-            → map.get self.new o ≡ cond (eq_by_cmp text_cmp o original) (join_values join_kept (map.get self.old original) (Some entry)) (map.get self.old o)) }
+            → map.get self.new o ≡ cond (eq_by_cmp text_cmp o original)
+            (join_values join_kept (map.get self.old original) (Some entry)) (map.get self.old o)) }
         ensures fresh { IfOk result (λ fresh. fresh ≡ not (is_some (map.get self.old original))) }
         ensures err { OnErr result (self.new ≡ self.old) }
     {
@@ -73,7 +75,8 @@ impl Shelf {
     // Whether an original has the only entry.
     pub fn has_only(&self, original: &Original) -> bool
         ensures there { result ≡ true → IsSome (map.get self.now original.now) }
-        ensures alone { result ≡ true → (o : List ℕ) → eq_by_cmp text_cmp o original.now ≡ false → map.get self.now o ≡ None }
+        ensures alone { result ≡ true → (o : List ℕ) → eq_by_cmp text_cmp o original.now ≡ false
+            → map.get self.now o ≡ None }
         ensures others { result ≡ false → IsSome (map.get self.now original.now) → 1 < map.len self.now }
     {
         self.entries.len() == 1 && self.entries.contains_key(original)
@@ -83,7 +86,8 @@ impl Shelf {
     pub fn restore(&mut self, original: &Original, entry: Option<Entry>) -> bool
         requires others { entry ≡ None → IsSome (map.get self.old original.now) → 1 < map.len self.old }
         ensures after { (o : List ℕ)
-            → map.get self.new o ≡ cond (eq_by_cmp text_cmp o original.now) (put_back entry (map.get self.old o)) (map.get self.old o) }
+            → map.get self.new o ≡ cond (eq_by_cmp text_cmp o original.now) (put_back entry (map.get self.old o))
+            (map.get self.old o) }
         ensures gone { result ≡ (not (is_some entry) && is_some (map.get self.old original.now)) }
     {
         let Some(entry) = entry else {

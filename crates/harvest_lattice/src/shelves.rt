@@ -33,7 +33,8 @@ pub fn entry_at<'a>(
 pub fn join_row(shelves: &mut Shelves, alloc: Global, row: Row) -> Result<bool, NoMemory>
     requires { IsOrdered text_cmp shelves.old }
     ensures after { OnOk result ((k : Key)
-        → entry_in shelves.new k ≡ cond (eq_by_cmp key_cmp k (row_key row)) (join_values join_kept (entry_in shelves.old (row_key row)) (Some row.entry)) (entry_in shelves.old k)) }
+        → entry_in shelves.new k ≡ cond (eq_by_cmp key_cmp k (row_key row))
+        (join_values join_kept (entry_in shelves.old (row_key row)) (Some row.entry)) (entry_in shelves.old k)) }
     ensures fresh { IfOk result (λ fresh. fresh ≡ not (is_some (entry_in shelves.old (row_key row)))) }
     ensures err { OnErr result ((k : Key) → entry_in shelves.new k ≡ entry_in shelves.old k) }
     ensures ordered { IsOrdered text_cmp shelves.new }
@@ -58,7 +59,8 @@ pub fn join_row(shelves: &mut Shelves, alloc: Global, row: Row) -> Result<bool, 
 pub fn restore(shelves: &mut Shelves, backup: Backup) -> bool
     requires { IsOrdered text_cmp shelves.old }
     ensures after { (k : Key)
-        → entry_in shelves.new k ≡ cond (eq_by_cmp key_cmp k (backup_key backup)) (put_back backup.entry (entry_in shelves.old k)) (entry_in shelves.old k) }
+        → entry_in shelves.new k ≡ cond (eq_by_cmp key_cmp k (backup_key backup))
+        (put_back backup.entry (entry_in shelves.old k)) (entry_in shelves.old k) }
     ensures gone { result ≡ (not (is_some backup.entry) && is_some (entry_in shelves.old (backup_key backup))) }
     ensures ordered { IsOrdered text_cmp shelves.new }
 {

@@ -1,12 +1,14 @@
 //! States: of each archive and original the latest revision and its mementos.
-ghost use Rattle.std.specs.Prelude.{◌≡◌, ◌≤◌, ◌<◌, ◌∷◌, [], ◌↔◌, IsTrue, IsSome, OnOk, OnErr, IfOk, Some, None, cond, length, slice_get, option_copied, map as map_list};
+ghost use Rattle.std.specs.Prelude.{◌≡◌, ◌≤◌, ◌<◌, ◌∷◌, [], ◌↔◌, IsTrue, IsSome, OnOk, OnErr, IfOk, Some, None, cond};
+ghost use Rattle.std.specs.Prelude.{length, slice_get, option_copied, map as map_list};
 ghost use Rattle.std.specs.Ordering.{eq_by_cmp};
 ghost use Rattle.std.specs.FinMap as map;
 ghost use Rattle.harvest_lattice.specs.Sets as set;
 ghost use Rattle.harvest_lattice.specs.Lattice.{Entries, Key, key_cmp, AtMost, IsAtMostAt, join, join_at};
 ghost use Rattle.harvest_lattice.specs.Knowledge.{lat, shown_of};
 ghost use Rattle.harvest_lattice.specs.News.{IsNews, IsNewsOf, IsNoted};
-ghost use Rattle.harvest_lattice.specs.Rows.{row_key, row_entry, backup_key, backup_entry, put_back, map_with, RowsRise, IsBackedUp, back_up};
+ghost use Rattle.harvest_lattice.specs.Rows.{row_key, row_entry, backup_key, backup_entry, put_back, map_with};
+ghost use Rattle.harvest_lattice.specs.Rows.{RowsRise, IsBackedUp, back_up};
 
 use crate::backup::Backup;
 use crate::changes::Changes;
@@ -251,7 +253,8 @@ impl State {
     // Puts back what stood at a key.
     fn restore(&mut self, backup: Backup)
         ensures { (k : Key)
-            → map.get self.new k ≡ cond (eq_by_cmp key_cmp k (backup_key backup)) (put_back backup.entry (map.get self.old k)) (map.get self.old k) }
+            → map.get self.new k ≡ cond (eq_by_cmp key_cmp k (backup_key backup))
+            (put_back backup.entry (map.get self.old k)) (map.get self.old k) }
     {
         if restore(&mut self.shelves, backup) {
             self.len -= 1;

@@ -5,7 +5,8 @@ use Rattle.timemap_reader.specs.Answer as page
 use Rattle.harvester.specs.declared.faults.FetchFault.{FetchFault}
 use Rattle.harvester.specs.declared.faults.FetchFault.TheVariants.{Failed, TooLong, NoMemory as NoFetchMemory}
 use Rattle.harvester.specs.declared.faults.WalkFault.{WalkFault}
-use Rattle.harvester.specs.declared.faults.WalkFault.TheVariants.{Fetch, Status, Encoded, Page, TooManyPages, TooManyMementos, NoMemory}
+use Rattle.harvester.specs.declared.faults.WalkFault.TheVariants.{Fetch, Status, Encoded, Page, TooManyPages}
+use Rattle.harvester.specs.declared.faults.WalkFault.TheVariants.{TooManyMementos, NoMemory}
 
 -- what a fault of a fetch is printed as
 abbrev pub fetch_words : FetchFault → List ℕ

@@ -1,7 +1,7 @@
 //! Gates, fetches and pulls over sockets, by `hyper` and `tokio`.
 //!
-//! What a gate answers is carried by HTTP/1.1: `GateService::respond` gives the form of a reply that the gate's type allows
-//! for the request, and nothing else. What crosses a socket, no contract can say: that is tested.
+//! What a gate answers is carried by HTTP/1.1: `GateService::respond` gives the form of a reply that the gate's type
+//! allows for the request, and nothing else. What crosses a socket, no contract can say: that is tested.
 #![tactic(auto)]
 
 mod answers;

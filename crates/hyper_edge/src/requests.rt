@@ -22,7 +22,8 @@ fn target(uri: &http::Uri) -> &str
     }
 }
 
-/// What a request asks: its method, its path with the query, and the values of `Accept-Datetime` (RFC 7089, section 2.1.1).
+/// What a request asks: its method, its path with the query, and the values of `Accept-Datetime` (RFC 7089, section
+/// 2.1.1).
 pub fn request_of<B>(alloc: Global, sent: &http::Request<B>) -> Result<Request, NoMemory>
     ensures { IfOk result (IsAskedBy sent.now) }
 {

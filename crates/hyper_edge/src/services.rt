@@ -50,9 +50,11 @@ impl<G: Answers, R: Wait + Drop> GateService<G, R> {
         Ok(GateService { shared })
     }
 
-    /// The form of the reply that the gate gives. May wait for the lock. After a fault the gate is as its `answer` left it.
+    /// The form of the reply that the gate gives. May wait for the lock. After a fault the gate is as its `answer` left
+    /// it.
     pub fn respond(&self, request: &Request) -> Result<Response<Bytes>, RespondFault>
-        ensures form { IfOk result (λ response. (reply : Answered) × G.replies request.now reply × IsFormOf reply response) }
+        ensures form { IfOk result
+            (λ response. (reply : Answered) × G.replies request.now reply × IsFormOf reply response) }
         ensures closed { result ≡ Err RespondFault.Closed → G.may_close }
     {
         let shared = &*self.shared;

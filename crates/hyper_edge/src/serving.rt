@@ -21,8 +21,8 @@ const HEAD_SECONDS: u64 = 10;
 
 /// Serves this many connections, one after the other, and answers how many of them ended with a connection fault.
 ///
-/// Each request gets what `GateService::respond` gives, and 503 with an empty body for its fault. A connection is served
-/// until its client closes it, or lets the time for the head of a request pass.
+/// Each request gets what `GateService::respond` gives, and 503 with an empty body for its fault. A connection is
+/// served until its client closes it, or lets the time for the head of a request pass.
 pub fn serve_gate<R, G>(
     rt: &R,
     bound: &mut Bound,

@@ -4,8 +4,8 @@ use std::alloc::{AllocError, Global};
 /// What stands before the authority, in any case.
 const SCHEME: &str = "http://";
 
-/// The URL's own text from the first `/` or `?` behind the authority up to its fragment, with a `/` before a `?` or in the
-/// place of nothing. None where the URL doesn't begin with `http://`.
+/// The URL's own text from the first `/` or `?` behind the authority up to its fragment, with a `/` before a `?` or in
+/// the place of nothing. None where the URL doesn't begin with `http://`.
 ///
 /// The text isn't what `url` would write, since dot segments in an archived address must stay.
 pub(crate) fn target_of(alloc: Global, url: &str) -> Result<Option<String>, AllocError> {

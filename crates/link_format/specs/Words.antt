@@ -2,7 +2,8 @@
 use Rattle.std.specs.Prelude.{ℕ, List, ◌++◌, codes}
 use Rattle.std.specs.Fmt.{decimal}
 use Rattle.link_format.specs.declared.fault.LinkFault.{LinkFault}
-use Rattle.link_format.specs.declared.fault.LinkFault.TheVariants.{NotLinkFormat, TooManyLinks, TooManyParams, TargetTooLong, NoMemory}
+use Rattle.link_format.specs.declared.fault.LinkFault.TheVariants.{NotLinkFormat, TooManyLinks, TooManyParams}
+use Rattle.link_format.specs.declared.fault.LinkFault.TheVariants.{TargetTooLong, NoMemory}
 
 -- what a fault is printed as
 abbrev pub words_of : LinkFault → List ℕ

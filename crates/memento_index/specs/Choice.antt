@@ -16,12 +16,14 @@ distance t m = (m.at - t) + (t - m.at)
 -- every other one is farther from t, or as far and not before it in the order
 pub record IsNearest (mementos : Mementos) (t : ℕ) (m : Memento) : Type 0 where
   pub held : set.contains mementos m ≡ true
-  pub nearest : (other : Memento) → set.contains mementos other ≡ true → (distance t m < distance t other) ⊎ ((distance t m ≡ distance t other) × (memento_cmp other m ≢ Less))
+  pub nearest : (other : Memento) → set.contains mementos other ≡ true
+      → (distance t m < distance t other) ⊎ ((distance t m ≡ distance t other) × (memento_cmp other m ≢ Less))
 
 -- every other one is of a lesser datetime, or of the same and at no lesser address
 pub record IsLast (mementos : Mementos) (m : Memento) : Type 0 where
   pub held : set.contains mementos m ≡ true
-  pub last : (other : Memento) → set.contains mementos other ≡ true → (other.at < m.at) ⊎ ((other.at ≡ m.at) × (text_cmp other.uri m.uri ≢ Less))
+  pub last : (other : Memento) → set.contains mementos other ≡ true
+      → (other.at < m.at) ⊎ ((other.at ≡ m.at) × (text_cmp other.uri m.uri ≢ Less))
 
 -- by the distance from t, and then in the order of mementos
 abbrev pub nearness_cmp : ℕ → Memento → Memento → Ordering
@@ -36,7 +38,8 @@ abbrev pub least_by : (Memento → Memento → Ordering) → List Memento → Op
 least_by cmp [] = None
 least_by cmp (m ∷ ms) = join_values (λ a b. cond (is_gt (cmp a b)) b a) (Some m) (least_by cmp ms)
 
--- the memento nearest to a second, if there is any: a second before the first names the first, one after the last the last (RFC 7089, section 4.5.3), and ties go by this project's rule
+-- the memento nearest to a second, if there is any: a second before the first names the first, one after the last the
+-- last (RFC 7089, section 4.5.3), and ties go by this project's rule
 unfoldable pub nearest : Mementos → ℕ → Option Memento
 nearest mementos t = least_by (nearness_cmp t) (set.items mementos)
 

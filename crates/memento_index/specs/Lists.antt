@@ -45,14 +45,17 @@ pub record IsCounted (x : Entries) (lists : Lists) : Type 0 where
   pub tally : (o : List ℕ) → IsTally (tally_of lists o)
   pub counts : (o : List ℕ) (m : Memento) → count_of (tally_of lists o) m ≡ showing x o m
 
--- a list that is there has room for that many more, and so has what is lifted off it; and no count of the keys and these grows too large
+-- a list that is there has room for that many more, and so has what is lifted off it; and no count of the keys and
+-- these grows too large
 abbrev pub HasRoom : ℕ → Option Tallied → ℕ → ℕ → Type 0
 HasRoom keys None spare more = ⊥
-HasRoom keys (Some t) spare more = (length t.entries + more ≤ t.room) × (length t.entries + more ≤ spare) × (keys + more ≤ 18446744073709551615)
+HasRoom keys (Some t) spare more = (length t.entries + more ≤ t.room) × (length t.entries + more ≤ spare)
+    × (keys + more ≤ 18446744073709551615)
 
 -- the steps of each original have room
 abbrev pub HaveRoom : ℕ → StepLists → Lists → ℕ → Type 0
-HaveRoom keys all lists spare = (o : List ℕ) → IfSome (tree.get text_cmp all o) (λ steps. HasRoom keys (tree.get text_cmp lists o) spare (length steps))
+HaveRoom keys all lists spare = (o : List ℕ)
+    → IfSome (tree.get text_cmp all o) (λ steps. HasRoom keys (tree.get text_cmp lists o) spare (length steps))
 
 -- what ceases is counted, and no count grows too large
 pub record CanCount (entries : List Counted) (steps : List Step) : Type 0 where
@@ -69,10 +72,12 @@ AreNews x news = (k : Key) → IfSome (fmap.get news k) (λ e. IsNewsAt x (k, e)
 
 -- what these steps say of an entry's archive, as the entry is joined: what it begins to show, and what it ceases to
 pub record IsShifted (x : Entries) (e : Key × Kept) (old new : List Step) : Type 0 where
-  pub counts : (m : Memento) → beginnings new m + (endings old m + shows_one (fmap.get x e.0) m) ≡ beginnings old m + (endings new m + shows_one (Some (join_at x e)) m)
+  pub counts : (m : Memento) → beginnings new m + (endings old m + shows_one (fmap.get x e.0) m)
+      ≡ beginnings old m + (endings new m + shows_one (Some (join_at x e)) m)
   pub shown : (m : Memento) → endings new m ≤ endings old m + shows_one (fmap.get x e.0) m
 
 -- and of the archives of all these entries
 pub record AreGathered (x : Entries) (es : List (Key × Kept)) (all : StepLists) : Type 0 where
-  pub counts : (o : List ℕ) (m : Memento) → beginnings (steps_of all o) m + shown_before x es o m ≡ endings (steps_of all o) m + shown_after x es o m
+  pub counts : (o : List ℕ) (m : Memento)
+      → beginnings (steps_of all o) m + shown_before x es o m ≡ endings (steps_of all o) m + shown_after x es o m
   pub shown : (o : List ℕ) (m : Memento) → endings (steps_of all o) m ≤ shown_before x es o m

@@ -28,4 +28,5 @@ merge_with-either (State s) = refl
 
 -- a merge by what it is
 abbrev pub coded_merge : Coded Merge
-coded_merge = code_by (Harvested ⊎ Entries) (coded⊎ coded_harvested (map.code coded_key coded_kept)) either merge_with merge_with-either
+coded_merge = code_by (Harvested ⊎ Entries)
+    (coded⊎ coded_harvested (map.code coded_key coded_kept)) either merge_with merge_with-either

@@ -17,8 +17,10 @@ beside ms ns = []
 
 -- a memento and its count, as a pair
 abbrev pub coded_counted : Coded Counted
-coded_counted = code_by (Memento × ℕ) (coded× coded_memento coded_ℕ) (λ e. (e.memento, e.count)) (λ p. record { memento = p.0; count = p.1 }) (λ _. refl)
+coded_counted = code_by (Memento × ℕ) (coded× coded_memento coded_ℕ) (λ e. (e.memento, e.count))
+    (λ p. record { memento = p.0; count = p.1 }) (λ _. refl)
 
 -- a list with its room, as a pair
 abbrev pub coded_tallied : Coded Tallied
-coded_tallied = code_by (List Counted × ℕ) (coded× (coded_list coded_counted) coded_ℕ) (λ t. (t.entries, t.room)) (λ p. record { entries = p.0; room = p.1 }) (λ _. refl)
+coded_tallied = code_by (List Counted × ℕ) (coded× (coded_list coded_counted) coded_ℕ) (λ t. (t.entries, t.room))
+    (λ p. record { entries = p.0; room = p.1 }) (λ _. refl)

@@ -3,9 +3,11 @@
 // A change of counts works at one place of a list: what stands from there on is lifted to a second list, the next one
 // last. So a walk over changes in the order of their mementos moves each memento behind the first of them twice, and
 // none before it. Nothing here takes memory: the caller has made room.
-ghost use Rattle.std.specs.Prelude.{◌≡◌, ◌+◌, ◌<◌, ◌≤◌, [], ◌++◌, Some, IfSome, option_to_list, reverse, vec_len, length};
+ghost use Rattle.std.specs.Prelude.{◌≡◌, ◌+◌, ◌<◌, ◌≤◌, [], ◌++◌, Some, IfSome, option_to_list, reverse, vec_len};
+ghost use Rattle.std.specs.Prelude.{length};
 ghost use Rattle.memento_time.specs.declared.mementos.Memento.{Memento as AMemento};
-ghost use Rattle.memento_index.specs.Counts.{whole, once, count_of, AreBelow, AreAbove, IsTally, beginnings, endings, IsRecounted};
+ghost use Rattle.memento_index.specs.Counts.{whole, once, count_of, AreBelow, AreAbove, IsTally, beginnings, endings};
+ghost use Rattle.memento_index.specs.Counts.{IsRecounted};
 
 use crate::counted::{Counted, Step};
 use crate::tally::Tally;
@@ -18,7 +20,8 @@ fn lift(list: &mut Tally, lifted: &mut Tally, memento: &Memento)
     requires room { length list.old.entries + length lifted.old.entries ≤ lifted.old.room }
     ensures whole { whole list.new.entries lifted.new.entries ≡ whole list.old.entries lifted.old.entries }
     ensures below { AreBelow memento.now list.new.entries }
-    ensures len { length list.new.entries + length lifted.new.entries ≡ length list.old.entries + length lifted.old.entries }
+    ensures len { length list.new.entries + length lifted.new.entries
+        ≡ length list.old.entries + length lifted.old.entries }
     ensures list_room { list.old.room ≤ list.new.room }
     ensures lifted_room { lifted.old.room ≤ lifted.new.room }
 {
@@ -36,11 +39,13 @@ fn take_out(list: &mut Tally, lifted: &mut Tally, memento: &Memento) -> Option<C
     requires tally { IsTally (whole list.old.entries lifted.old.entries) }
     requires below { AreBelow memento.now list.old.entries }
     requires room { length list.old.entries + length lifted.old.entries ≤ list.old.room }
-    ensures parts { list.new.entries ++ (option_to_list result ++ reverse lifted.new.entries) ≡ whole list.old.entries lifted.old.entries }
+    ensures parts { list.new.entries ++ (option_to_list result ++ reverse lifted.new.entries)
+        ≡ whole list.old.entries lifted.old.entries }
     ensures below { AreBelow memento.now list.new.entries }
     ensures above { AreAbove memento.now (reverse lifted.new.entries) }
     ensures found { IfSome result (λ counted. counted.memento ≡ memento.now) }
-    ensures len { length list.new.entries + (length (option_to_list result) + length lifted.new.entries) ≡ length list.old.entries + length lifted.old.entries }
+    ensures len { length list.new.entries + (length (option_to_list result) + length lifted.new.entries)
+        ≡ length list.old.entries + length lifted.old.entries }
     ensures list_room { list.old.room ≤ list.new.room }
     ensures lifted_room { lifted.old.room ≤ lifted.new.room }
 {
@@ -65,8 +70,10 @@ pub fn count_in(list: &mut Tally, lifted: &mut Tally, memento: Memento)
     requires few { count_of (whole list.old.entries lifted.old.entries) memento < 18446744073709551615 }
     ensures tally { IsTally (whole list.new.entries lifted.new.entries) }
     ensures counts { (m : AMemento)
-        → count_of (whole list.new.entries lifted.new.entries) m ≡ count_of (whole list.old.entries lifted.old.entries) m + once m memento }
-    ensures len { length list.new.entries + length lifted.new.entries ≤ length list.old.entries + length lifted.old.entries + 1 }
+        → count_of (whole list.new.entries lifted.new.entries) m
+        ≡ count_of (whole list.old.entries lifted.old.entries) m + once m memento }
+    ensures len { length list.new.entries + length lifted.new.entries
+        ≤ length list.old.entries + length lifted.old.entries + 1 }
     ensures list_room { list.old.room ≤ list.new.room }
     ensures lifted_room { lifted.old.room ≤ lifted.new.room }
 {
@@ -86,8 +93,10 @@ pub fn count_out(list: &mut Tally, lifted: &mut Tally, memento: &Memento)
     requires counted { 0 < count_of (whole list.old.entries lifted.old.entries) memento.now }
     ensures tally { IsTally (whole list.new.entries lifted.new.entries) }
     ensures counts { (m : AMemento)
-        → count_of (whole list.new.entries lifted.new.entries) m + once m memento.now ≡ count_of (whole list.old.entries lifted.old.entries) m }
-    ensures len { length list.new.entries + length lifted.new.entries ≤ length list.old.entries + length lifted.old.entries }
+        → count_of (whole list.new.entries lifted.new.entries) m + once m memento.now
+        ≡ count_of (whole list.old.entries lifted.old.entries) m }
+    ensures len { length list.new.entries + length lifted.new.entries
+        ≤ length list.old.entries + length lifted.old.entries }
     ensures list_room { list.old.room ≤ list.new.room }
     ensures lifted_room { lifted.old.room ≤ lifted.new.room }
 {

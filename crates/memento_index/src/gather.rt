@@ -35,8 +35,11 @@ pub fn gather_steps(alloc: Global, state: &State, changes: &Changes) -> Result<S
 // Adds the steps of one row.
 fn gather_row(all: &mut StepLists, alloc: Global, state: &State, row: &Row) -> Result<(), NoMemory>
     requires { IsNewsAt state.now (row_entry row.now) }
-    ensures shifted { OnOk result (IsShifted state.now (row_entry row.now) (steps_of all.old row.now.original) (steps_of all.new row.now.original)) }
-    ensures others { OnOk result ((o : List ℕ) → eq_by_cmp text_cmp row.now.original o ≡ false → steps_of all.new o ≡ steps_of all.old o) }
+    ensures shifted { OnOk result
+        (IsShifted state.now (row_entry row.now) (steps_of all.old row.now.original)
+        (steps_of all.new row.now.original)) }
+    ensures others { OnOk result
+        ((o : List ℕ) → eq_by_cmp text_cmp row.now.original o ≡ false → steps_of all.new o ≡ steps_of all.old o) }
 {
     let mut steps = take_steps(all, alloc, row.original());
     push_steps(&mut steps, alloc, state, row)?;
@@ -48,7 +51,8 @@ fn gather_row(all: &mut StepLists, alloc: Global, state: &State, row: &Row) -> R
 // Takes out the steps of an original.
 fn take_steps(all: &mut StepLists, alloc: Global, original: &Original) -> Vec<Step>
     ensures taken { result.items ≡ steps_of all.old original.now }
-    ensures gone { (o : List ℕ) → tree.get text_cmp all.new o ≡ cond (eq_by_cmp text_cmp original.now o) None (tree.get text_cmp all.old o) }
+    ensures gone { (o : List ℕ)
+        → tree.get text_cmp all.new o ≡ cond (eq_by_cmp text_cmp original.now o) None (tree.get text_cmp all.old o) }
 {
     match all.remove(original) {
         Some(steps) => steps.into_vec(),
@@ -82,7 +86,9 @@ fn push_steps(
 // The mementos in whose place those of a row stand: none where they come beside what is held.
 fn mementos_to_replace<'a>(state: &'a State, row: &Row) -> &'a [Memento]
     requires { IsNewsAt state.now (row_entry row.now) }
-    ensures replaced { (m : AMemento) → shows_one (Some (join_at state.now (row_entry row.now))) m + occurrences result.now m ≡ shows_one (map.get state.now (row_key row.now)) m + occurrences (set.items row.now.entry.mementos) m }
+    ensures replaced { (m : AMemento)
+        → shows_one (Some (join_at state.now (row_entry row.now))) m + occurrences result.now m
+        ≡ shows_one (map.get state.now (row_key row.now)) m + occurrences (set.items row.now.entry.mementos) m }
     ensures held { (m : AMemento) → occurrences result.now m ≤ shows_one (map.get state.now (row_key row.now)) m }
 {
     match state.entry(row.archive(), row.original()) {

@@ -58,12 +58,13 @@ impl Index {
     /// Takes a harvest, or all that a state has.
     ///
     /// It has all its memory before the first change, and then changes only the counts of what begins or ceases to be
-    /// shown. It takes time in the size of what it takes and of the entries at its keys; of a list that changes, in what
-    /// stands from the first change on; and logarithmic in the number of keys and of lists. Neither the number of
+    /// shown. It takes time in the size of what it takes and of the entries at its keys; of a list that changes, in
+    /// what stands from the first change on; and logarithmic in the number of keys and of lists. Neither the number of
     /// archives nor the lists that don't change make a difference.
     pub fn absorb(&mut self, merge: &Merge) -> Result<(), NoMemory>
         ensures ok { OnOk result (self.new ≡ join self.old (lat (adds_of merge.now))) }
-        ensures stands { (hs : List Harvested) → self.old ≡ lat hs → OnOk result (self.new ≡ lat (hs ++ adds_of merge.now)) }
+        ensures stands { (hs : List Harvested) → self.old ≡ lat hs
+            → OnOk result (self.new ≡ lat (hs ++ adds_of merge.now)) }
         ensures err { OnErr result (self.new ≡ self.old) }
     {
         let changes = merge.changes(&self.state)?;
@@ -97,7 +98,8 @@ impl Index {
     /// datetime that with the least URI. None where nothing is shown.
     pub fn nearest(&self, original: &Original, moment: Moment) -> Option<&Memento>
         ensures nearest { option_copied result ≡ nearest (shown_of self.now original.now) moment }
-        ensures stands { (hs : List Harvested) → self.now ≡ lat hs → option_copied result ≡ nearest (shown hs original.now) moment }
+        ensures stands { (hs : List Harvested) → self.now ≡ lat hs
+            → option_copied result ≡ nearest (shown hs original.now) moment }
     {
         nearest_of(self.list(original), moment)
     }
@@ -106,7 +108,8 @@ impl Index {
     /// is shown.
     pub fn latest(&self, original: &Original) -> Option<&Memento>
         ensures last { option_copied result ≡ last (shown_of self.now original.now) }
-        ensures stands { (hs : List Harvested) → self.now ≡ lat hs → option_copied result ≡ last (shown hs original.now) }
+        ensures stands { (hs : List Harvested) → self.now ≡ lat hs
+            → option_copied result ≡ last (shown hs original.now) }
     {
         last_of(self.list(original))
     }

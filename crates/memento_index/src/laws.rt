@@ -13,8 +13,10 @@ pub fn distances_are_between()
 
 /// There is one nearest memento, unless there is none at all.
 pub fn one_is_nearest()
-    ensures is { (mementos : Mementos) (t : ℕ) → MatchOption (nearest mementos t) (set.items mementos ≡ []) (IsNearest mementos t) }
-    ensures once { (mementos : Mementos) (t : ℕ) (m n : Memento) → IsNearest mementos t m → IsNearest mementos t n → m ≡ n }
+    ensures is { (mementos : Mementos) (t : ℕ)
+        → MatchOption (nearest mementos t) (set.items mementos ≡ []) (IsNearest mementos t) }
+    ensures once { (mementos : Mementos) (t : ℕ) (m n : Memento) → IsNearest mementos t m → IsNearest mementos t n
+        → m ≡ n }
 {}
 
 /// There is one last memento, unless there is none at all.

@@ -1,7 +1,7 @@
 //! The index: a state of the lattice, with the list of each original at hand.
 //!
-//! An `Index` takes in harvests and states, and tells of each original which mementos are shown, which of them is nearest
-//! to a moment, and which is the last.
+//! An `Index` takes in harvests and states, and tells of each original which mementos are shown, which of them is
+//! nearest to a moment, and which is the last.
 #![tactic(auto)]
 
 mod counted;

@@ -75,7 +75,9 @@ fn make_list(lists: &mut Lists, alloc: Global, original: &Original) -> Result<()
 // Makes room in the list of an original, and gives the length that it may then have.
 fn reserve(lists: &mut Lists, original: &Original, more: usize) -> Result<usize, NoMemory>
     ensures grow { (o : List ℕ) → Grows (tree.get text_cmp lists.old o) (tree.get text_cmp lists.new o) }
-    ensures made { IfOk result (λ most. IfSome (tree.get text_cmp lists.new original.now) (λ t. (most ≡ length t.entries + more) × (most ≤ t.room))) }
+    ensures made { IfOk result
+        (λ most. IfSome (tree.get text_cmp lists.new original.now)
+        (λ t. (most ≡ length t.entries + more) × (most ≤ t.room))) }
 {
     match lists.get_mut(original) {
         Some(list) => list.reserve(more),
@@ -103,7 +105,8 @@ fn recount_list(lists: &mut Lists, lifted: &mut Tally, original: &Original, step
     requires room { HasRoom 0 (tree.get text_cmp lists.old original.now) lifted.old.room (length steps.items) }
     requires settled { lifted.old.entries ≡ [] }
     ensures recounted { IsRecounted (tally_of lists.old original.now) steps.items (tally_of lists.new original.now) }
-    ensures others { (o : List ℕ) → eq_by_cmp text_cmp original.now o ≡ false → tree.get text_cmp lists.new o ≡ tree.get text_cmp lists.old o }
+    ensures others { (o : List ℕ) → eq_by_cmp text_cmp original.now o ≡ false
+        → tree.get text_cmp lists.new o ≡ tree.get text_cmp lists.old o }
     ensures settled { lifted.new.entries ≡ [] }
     ensures lifted_room { lifted.old.room ≤ lifted.new.room }
 {
@@ -124,7 +127,8 @@ fn recount_in_place(
     requires room { HasRoom 0 (tree.get text_cmp lists.old original.now) lifted.old.room (length steps.items) }
     requires settled { lifted.old.entries ≡ [] }
     ensures recounted { IsRecounted (tally_of lists.old original.now) steps.items (tally_of lists.new original.now) }
-    ensures others { (o : List ℕ) → eq_by_cmp text_cmp original.now o ≡ false → tree.get text_cmp lists.new o ≡ tree.get text_cmp lists.old o }
+    ensures others { (o : List ℕ) → eq_by_cmp text_cmp original.now o ≡ false
+        → tree.get text_cmp lists.new o ≡ tree.get text_cmp lists.old o }
     ensures settled { lifted.new.entries ≡ [] }
     ensures lifted_room { lifted.old.room ≤ lifted.new.room }
     ensures empty { result ≡ true → tally_of lists.new original.now ≡ [] }

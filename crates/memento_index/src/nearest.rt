@@ -1,5 +1,6 @@
 //! The memento that a gate names, by binary search.
-ghost use Rattle.std.specs.Prelude.{◌≡◌, ◌↔◌, ℕ, ◌+◌, ◌*◌, ◌^◌, ◌<◌, ◌≤◌, IsTrue, IfSome, length, slice_index, slice_get, option_copied};
+ghost use Rattle.std.specs.Prelude.{◌≡◌, ◌↔◌, ℕ, ◌+◌, ◌*◌, ◌^◌, ◌<◌, ◌≤◌, IsTrue, IfSome, length, slice_index};
+ghost use Rattle.std.specs.Prelude.{slice_get, option_copied};
 ghost use Rattle.std.specs.Option.{option_and_then};
 ghost use Rattle.std.specs.List.Sorted.{IsNonDecreasing, IsStrictlySortedBy};
 ghost use Rattle.memento_time.specs.Mementos.{memento_cmp};
@@ -39,7 +40,8 @@ fn is_nearer_than(list: &mut Probed<'_>, place: usize, other: Moment, moment: Mo
     requires in_range { place ≤ length list.old.list }
     requires few { list.old.probes ≤ 2000000000 }
     ensures answer { IsTrue result
-        ↔ ((place < length list.old.list) × (gap moment (slice_index (datetimes list.old.list) place) < gap moment other)) }
+        ↔ ((place < length list.old.list)
+        × (gap moment (slice_index (datetimes list.old.list) place) < gap moment other)) }
     ensures same { list.new.list ≡ list.old.list }
     ensures few { list.new.probes ≤ list.old.probes + 1 }
 {
@@ -61,7 +63,8 @@ pub fn nearest_in(list: &mut Probed<'_>, moment: Moment) -> Option<usize>
     ensures within { IfSome result (λ k. k < length list.old.list) }
     ensures nearest { option_and_then (slice_get list.old.list) result ≡ nearest (set.from_list list.old.list) moment }
     ensures same { list.new.list ≡ list.old.list }
-    ensures few { (digits : ℕ) → length list.old.list < 2 ^ digits → list.new.probes ≤ list.old.probes + (2 * digits + 2) }
+    ensures few { (digits : ℕ) → length list.old.list < 2 ^ digits
+        → list.new.probes ≤ list.old.probes + (2 * digits + 2) }
 {
     let len = list.len();
     if len == 0 {

@@ -15,7 +15,8 @@ fn next_at(before: &[Memento], i: usize, after: &[Memento], j: usize) -> Orderin
     ensures less { result ≡ IsLess → i < length before.now }
     ensures greater { result ≡ IsGreater → j < length after.now }
     ensures equal { result ≡ IsEqual
-        → (i < length before.now) × (j < length after.now) × ((d : AMemento) → slice_index_or before.now i d ≡ slice_index_or after.now j d) }
+        → (i < length before.now) × (j < length after.now)
+        × ((d : AMemento) → slice_index_or before.now i d ≡ slice_index_or after.now j d) }
 {
     if j >= after.len() {
         return Ordering::Less;
@@ -32,7 +33,9 @@ pub fn steps_between(
     before: &[Memento],
     after: &[Memento],
 ) -> Result<Vec<Step>, NoMemory>
-    ensures counts { IfOk result (λ steps. (m : AMemento) → beginnings steps.items m + occurrences before.now m ≡ endings steps.items m + occurrences after.now m) }
+    ensures counts { IfOk result
+        (λ steps. (m : AMemento)
+        → beginnings steps.items m + occurrences before.now m ≡ endings steps.items m + occurrences after.now m) }
     ensures shown { IfOk result (λ steps. (m : AMemento) → endings steps.items m ≤ occurrences before.now m) }
 {
     let mut steps = Vec::new(alloc);

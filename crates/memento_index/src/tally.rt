@@ -1,5 +1,6 @@
 // Mementos beside the numbers of archives that show them.
-ghost use Rattle.std.specs.Prelude.{◌≡◌, ◌+◌, ◌<◌, ◌≤◌, [], ◌∷◌, ◌++◌, IfNone, IfSome, IfOk, length, map as map_list, option_to_list};
+ghost use Rattle.std.specs.Prelude.{◌≡◌, ◌+◌, ◌<◌, ◌≤◌, [], ◌∷◌, ◌++◌, IfNone, IfSome, IfOk, length, map as map_list};
+ghost use Rattle.std.specs.Prelude.{option_to_list};
 ghost use Rattle.memento_index.specs.Counts.{mementos_of};
 
 use crate::counted::Counted;
@@ -23,7 +24,10 @@ impl Model for Tally {
 
     ghost coded = { coded_tallied };
 
-    ghost view = { λ t. record { entries = beside t.mementos.items t.counts.items; room = min (vec_capacity t.mementos) (vec_capacity t.counts) } };
+    ghost view = { λ t. record {
+      entries = beside t.mementos.items t.counts.items;
+      room = min (vec_capacity t.mementos) (vec_capacity t.counts);
+    } };
 
     ghost invariant = { λ t. vec_len t.mementos ≡ vec_len t.counts };
 }

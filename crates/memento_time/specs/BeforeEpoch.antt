@@ -1,5 +1,6 @@
 -- Dates before 1970 in the form of an IMF-fixdate (RFC 9110, section 5.6.7). No second counts them.
-use Rattle.std.specs.Prelude.{◌≡◌, ℕ, ◌<◌, Bool, true, ◌==◌, ◌&&◌, List, length, take, drop, codes, bytes_eq, if◌then◌else◌}
+use Rattle.std.specs.Prelude.{◌≡◌, ℕ, ◌<◌, Bool, true, ◌==◌, ◌&&◌, List, length, take, drop, codes, bytes_eq}
+use Rattle.std.specs.Prelude.{if◌then◌else◌}
 use Rattle.std.specs.Char.{is_ascii_digit}
 use Rattle.std.specs.List.{list_any, list_all, zip}
 use Rattle.std.specs.Int.{IsInRange}

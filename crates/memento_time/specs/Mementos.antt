@@ -29,4 +29,5 @@ pub record IsSetOf (list members : List Memento) : Type 0 where
 
 -- a memento as a pair
 abbrev pub coded_memento : Coded Memento
-coded_memento = code_by (ℕ × List ℕ) (coded× coded_ℕ (coded_list coded_ℕ)) (λ m. (m.at, m.uri)) (λ p. record { at = p.0; uri = p.1 }) (λ _. refl)
+coded_memento = code_by (ℕ × List ℕ) (coded× coded_ℕ (coded_list coded_ℕ)) (λ m. (m.at, m.uri))
+    (λ p. record { at = p.0; uri = p.1 }) (λ _. refl)

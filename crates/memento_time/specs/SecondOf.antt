@@ -1,5 +1,6 @@
 -- The second that a text reads as, as a function.
-use Rattle.std.specs.Prelude.{ℕ, zero, suc, ◌==◌, ◌&&◌, List, length, take, drop, Option, Some, None, is_some, bytes_eq, Bool, if◌then◌else◌}
+use Rattle.std.specs.Prelude.{ℕ, zero, suc, ◌==◌, ◌&&◌, List, length, take, drop, Option, Some, None, is_some, bytes_eq}
+use Rattle.std.specs.Prelude.{Bool, if◌then◌else◌}
 use Rattle.std.specs.List.{list_any}
 use Rattle.memento_time.specs.Blanks.{trim_blanks}
 use Rattle.memento_time.specs.BeforeEpoch.{is_before_epoch}

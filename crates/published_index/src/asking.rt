@@ -56,11 +56,13 @@ pub(crate) fn ask<F: FnOnce()>(
     requires then { F.IsAlwaysCallable then }
     requires named { (view_of reader.place).named ≡ true }
     requires opening { IfSome told.now (λ m. opening_of m.seen.book ≡ (view_of reader.place).opening) }
-    ensures same { ((view_of result.0.place).named ≡ true) × ((view_of result.0.place).opening ≡ (view_of reader.place).opening) }
+    ensures same { ((view_of result.0.place).named ≡ true)
+        × ((view_of result.0.place).opening ≡ (view_of reader.place).opening) }
     ensures seen { IsPrefix (view_of reader.place).front (view_of result.0.place).front }
     ensures mark { IfSome result.1 (λ made. successes_with_last made.0.seen.log ≡ (view_of result.0.place).front) }
     ensures told { IfSome result.1 (λ _. IsPrefix (told_list told.now) (view_of result.0.place).front) }
-    ensures reply { IfSome result.1 (λ made. IfOk made.1 (λ r. r ≡ reply service.now (fold_of (view_of result.0.place).front) request.now)) }
+    ensures reply { IfSome result.1
+        (λ made. IfOk made.1 (λ r. r ≡ reply service.now (fold_of (view_of result.0.place).front) request.now)) }
     ensures fault { IfSome result.1 (λ made. IfErr made.1 (λ fault. fault ≡ NoMemory)) }
 {
     match reader.enter_as::<Entry>() {
@@ -94,11 +96,13 @@ pub(crate) fn ask_in_place<F: FnOnce()>(
     requires then { F.IsAlwaysCallable then }
     requires named { (view_of reader.old.place).named ≡ true }
     requires opening { IfSome told.now (λ m. opening_of m.seen.book ≡ (view_of reader.old.place).opening) }
-    ensures same { ((view_of reader.new.place).named ≡ true) × ((view_of reader.new.place).opening ≡ (view_of reader.old.place).opening) }
+    ensures same { ((view_of reader.new.place).named ≡ true)
+        × ((view_of reader.new.place).opening ≡ (view_of reader.old.place).opening) }
     ensures seen { IsPrefix (view_of reader.old.place).front (view_of reader.new.place).front }
     ensures mark { IfSome result (λ made. successes_with_last made.0.seen.log ≡ (view_of reader.new.place).front) }
     ensures told { IfSome result (λ _. IsPrefix (told_list told.now) (view_of reader.new.place).front) }
-    ensures reply { IfSome result (λ made. IfOk made.1 (λ r. r ≡ reply service.now (fold_of (view_of reader.new.place).front) request.now)) }
+    ensures reply { IfSome result
+        (λ made. IfOk made.1 (λ r. r ≡ reply service.now (fold_of (view_of reader.new.place).front) request.now)) }
     ensures fault { IfSome result (λ made. IfErr made.1 (λ fault. fault ≡ NoMemory)) }
 {
     replace_with(reader, then, |reader, then| {

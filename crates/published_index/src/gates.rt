@@ -16,8 +16,8 @@ use timemap_writer::Service;
 
 /// Answers requests from what is published, and never waits. It can be moved to a thread of its own.
 ///
-/// Contracts see it as its opening, the base of its service, and a pass: the front, which is the list of batches that its
-/// last reply was made from, and the longest list that it was told since.
+/// Contracts see it as its opening, the base of its service, and a pass: the front, which is the list of batches that
+/// its last reply was made from, and the longest list that it was told since.
 #[derive(Drop)]
 pub struct Gate {
     pub(crate) alloc: Global,
@@ -43,9 +43,15 @@ impl Model for Gate {
 
     ghost coded = { Prim.hlevel (codes, merge.the_row.coded) };
 
-    ghost view = { λ g. record { opening = (view_of g.reader.place).opening; base = g.service; pass = record { front = successes_with_last g.seen.seen.log; told = told_list g.told } } };
+    ghost view = { λ g. record {
+      opening = (view_of g.reader.place).opening;
+      base = g.service;
+      pass = record { front = successes_with_last g.seen.seen.log; told = told_list g.told };
+    } };
 
-    ghost invariant = { λ g. ((view_of g.reader.place).named ≡ true) × IsPrefix (successes_with_last g.seen.seen.log) (view_of g.reader.place).front × IfSome g.told (λ m. opening_of m.seen.book ≡ (view_of g.reader.place).opening) };
+    ghost invariant = { λ g. ((view_of g.reader.place).named ≡ true)
+        × IsPrefix (successes_with_last g.seen.seen.log) (view_of g.reader.place).front
+        × IfSome g.told (λ m. opening_of m.seen.book ≡ (view_of g.reader.place).opening) };
 }
 
 impl Gate {
@@ -71,7 +77,9 @@ impl Gate {
     ) -> Result<Reply, GateFault>
         requires { F.IsAlwaysCallable then }
         ensures same { self.new ≡ record self.old { pass = self.new.pass } }
-        ensures reply { IfOk result (λ made. Advances self.old.pass self.new.pass × (made ≡ reply self.old.base (fold_of self.new.pass.front) request.now)) }
+        ensures reply { IfOk result
+            (λ made. Advances self.old.pass self.new.pass
+            × (made ≡ reply self.old.base (fold_of self.new.pass.front) request.now)) }
         ensures refused { IfErr result (λ fault. AfterFault fault self.old.pass self.new.pass) }
     {
         let Some((mark, made)) = ask_in_place(

@@ -25,31 +25,38 @@ pub fn answers_never_go_back()
 pub fn what_is_learnt_is_served()
     ensures front { (start end : Pass) (before between after : List Call) (list front : List Batch)
         → Calls start (before ++ Learn list ∷ (between ++ Answer front ∷ after)) end → IsPrefix list front }
-    ensures merges { (list front : List Batch) → IsPrefix list front → (m : Merge) → Contains (merges_of list) m → Contains (merges_of front) m }
-    ensures harvests { (list front : List Batch) → IsPrefix list front → (h : Harvested) → Contains (fold_of list) h → Contains (fold_of front) h }
+    ensures merges { (list front : List Batch) → IsPrefix list front → (m : Merge) → Contains (merges_of list) m
+        → Contains (merges_of front) m }
+    ensures harvests { (list front : List Batch) → IsPrefix list front → (h : Harvested) → Contains (fold_of list) h
+        → Contains (fold_of front) h }
 {}
 
 /// A publish adds what the merges of its batch add, one after the other, with nothing between.
 pub fn a_publish_adds_its_batch()
-    ensures { (list : List Batch) (batch : Batch) → fold_of (list ++ batch ∷ []) ≡ fold (λ taken merge. taken ++ adds_of merge) (fold_of list) batch }
+    ensures { (list : List Batch) (batch : Batch)
+        → fold_of (list ++ batch ∷ []) ≡ fold (λ taken merge. taken ++ adds_of merge) (fold_of list) batch }
 {}
 
-/// A publish is the events of its batch at this replica, in order, with nothing between: each harvest is taken, and each
-/// state is received as its text. `run` asks that each text may be received; `a_publish_adds_its_batch` says the same of
-/// states of any size.
+/// A publish is the events of its batch at this replica, in order, with nothing between: each harvest is taken, and
+/// each state is received as its text. `run` asks that each text may be received; `a_publish_adds_its_batch` says the
+/// same of states of any size.
 pub fn a_publish_is_events()
-    ensures run { (base : List ℕ) (w : World) (i : ℕ) (r : Replica) (batch : Batch) → replica w i ≡ Some r → All IsReceivable batch
+    ensures run { (base : List ℕ) (w : World) (i : ℕ) (r : Replica) (batch : Batch) → replica w i ≡ Some r
+        → All IsReceivable batch
         → Run base w (map (event_of i) batch) (map answer_to batch) (with_replica w i (taking r (harvests_of batch))) }
-    ensures taken { (list : List Batch) (batch : Batch) (r : Replica) → r.taken ≡ fold_of list → (taking r (harvests_of batch)).taken ≡ fold_of (list ++ batch ∷ []) }
+    ensures taken { (list : List Batch) (batch : Batch) (r : Replica) → r.taken ≡ fold_of list
+        → (taking r (harvests_of batch)).taken ≡ fold_of (list ++ batch ∷ []) }
 {}
 
 /// An entry is an Ask of this replica, where it has taken what the front holds.
 pub fn an_entry_is_an_ask()
-    ensures { (base : List ℕ) (w : World) (i : ℕ) (r : Replica) (front : List Batch) (q : Request) → replica w i ≡ Some r → r.taken ≡ fold_of front
+    ensures { (base : List ℕ) (w : World) (i : ℕ) (r : Replica) (front : List Batch) (q : Request)
+        → replica w i ≡ Some r → r.taken ≡ fold_of front
         → Step base w (Ask i q) (Ok (Replied (reply base (fold_of front) q))) w }
 {}
 
 /// Gates of two replicas with one base, whose fronts have the same state, give the same replies.
 pub fn same_state_same_reply()
-    ensures { (base : List ℕ) (first second : List Batch) (q : Request) → lat (fold_of first) ≡ lat (fold_of second) → reply base (fold_of first) q ≡ reply base (fold_of second) q }
+    ensures { (base : List ℕ) (first second : List Batch) (q : Request) → lat (fold_of first) ≡ lat (fold_of second)
+        → reply base (fold_of first) q ≡ reply base (fold_of second) q }
 {}

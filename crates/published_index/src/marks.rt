@@ -10,8 +10,8 @@ use memento_index::Merge;
 use std::marker::{Brand, PhantomData};
 use std::sync::Wait;
 
-/// What a publish notes: the batch that it is about to show, and then that it did. No value of it is made. A clause reads
-/// an array as a list of any length.
+/// What a publish notes: the batch that it is about to show, and then that it did. No value of it is made. A clause
+/// reads an array as a list of any length.
 pub enum LogEntry {
     Attempt([Merge; 0]),
     Success,
@@ -124,7 +124,8 @@ impl Mark {
     /// The mark after one more entry, where nobody else added one.
     pub fn record<B: NamesEntry>(&self, head: &Head) -> Option<Mark>
         requires { head.now ≡ head_of self.now.seen.book }
-        ensures { IfSome result (λ m. (m.seen.book ≡ self.now.seen.book) × (m.seen.log ≡ self.now.seen.log ++ B.entry ∷ [])) }
+        ensures { IfSome result
+            (λ m. (m.seen.book ≡ self.now.seen.book) × (m.seen.log ≡ self.now.seen.log ++ B.entry ∷ [])) }
     {
         let next = self.entries.checked_add(1)?;
         let mut seen = self.seen.again();

@@ -21,8 +21,8 @@ pub struct Merger {
     pub(crate) head: Head,
     /// All that was attempted.
     pub(crate) mark: Mark,
-    /// The log as it was when a publish last succeeded. A gate that learnt of a later attempt would find no copy that has
-    /// it.
+    /// The log as it was when a publish last succeeded. A gate that learnt of a later attempt would find no copy that
+    /// has it.
     pub(crate) last_success: Mark,
 }
 
@@ -39,9 +39,17 @@ impl Model for Merger {
 
     ghost coded = { Prim.hlevel (codes, merge.the_row.coded) };
 
-    ghost view = { λ m. record { opening = opening_of m.mark.seen.book; published = successes m.mark.seen.log; pending = merges_in (drop m.writer.behind m.writer.log.items) } };
+    ghost view = { λ m. record {
+      opening = opening_of m.mark.seen.book;
+      published = successes m.mark.seen.log;
+      pending = merges_in (drop m.writer.behind m.writer.log.items);
+    } };
 
-    ghost invariant = { λ m. (m.head ≡ head_of m.mark.seen.book) × (book_of m.writer.desk.shown.value ≡ m.mark.seen.book) × (batches_of m.writer.desk.shown.value ≡ successes m.mark.seen.log) × (m.last_success.seen.book ≡ m.mark.seen.book) × (successes m.last_success.seen.log ≡ successes m.mark.seen.log) };
+    ghost invariant = { λ m. (m.head ≡ head_of m.mark.seen.book)
+        × (book_of m.writer.desk.shown.value ≡ m.mark.seen.book)
+        × (batches_of m.writer.desk.shown.value ≡ successes m.mark.seen.log)
+        × (m.last_success.seen.book ≡ m.mark.seen.book)
+        × (successes m.last_success.seen.log ≡ successes m.mark.seen.log) };
 }
 
 impl Merger {
@@ -54,14 +62,19 @@ impl Merger {
         add(&mut self.writer, copy)
     }
 
-    /// Makes all that is pending one batch at the end of the published list, perhaps an empty one, and gives a receipt of
-    /// the whole list. Gates show all of the batch or nothing of it.
+    /// Makes all that is pending one batch at the end of the published list, perhaps an empty one, and gives a receipt
+    /// of the whole list. Gates show all of the batch or nothing of it.
     ///
     /// It may wait for gates that are about to answer from what was published before. Takes time in what is pending and
     /// in what the publish before took.
     pub fn publish<R: Wait>(&mut self, rt: &R) -> Result<Receipt, PublishRefused>
-        ensures ok { OnOk result (self.new ≡ record self.old { published = self.old.published ++ self.old.pending ∷ []; pending = [] }) }
-        ensures receipt { IfOk result (λ told. told ≡ record { opening = self.old.opening; batches = self.old.published ++ self.old.pending ∷ [] }) }
+        ensures ok { OnOk result
+            (self.new ≡ record self.old { published = self.old.published ++ self.old.pending ∷ []; pending = [] }) }
+        ensures receipt { IfOk result
+            (λ told. told ≡ record {
+              opening = self.old.opening;
+              batches = self.old.published ++ self.old.pending ∷ [];
+            }) }
         ensures err { OnErr result (self.new ≡ self.old) }
     {
         if offer::<Brand>(&mut self.writer, &self.head, &mut self.mark).is_err() {

@@ -69,9 +69,13 @@ fn make_gates(
     service: &Service,
     gates: usize,
 ) -> Result<Vec<Gate>, OpenFault>
-    requires { ((view_of writer.old.desk.place).named ≡ true) × ((view_of writer.old.desk.place).front ≡ []) × (mark.now.seen.log ≡ []) }
-    ensures writer { (writer.new.desk.shown ≡ writer.old.desk.shown) × (view_of writer.new.desk.place ≡ view_of writer.old.desk.place) × (drop writer.new.behind writer.new.log.items ≡ drop writer.old.behind writer.old.log.items) }
-    ensures gates { IfOk result (λ made. made.items ≡ replicate gates (new_gate (view_of writer.old.desk.place).opening service.now)) }
+    requires { ((view_of writer.old.desk.place).named ≡ true) × ((view_of writer.old.desk.place).front ≡ [])
+        × (mark.now.seen.log ≡ []) }
+    ensures writer { (writer.new.desk.shown ≡ writer.old.desk.shown)
+        × (view_of writer.new.desk.place ≡ view_of writer.old.desk.place)
+        × (drop writer.new.behind writer.new.log.items ≡ drop writer.old.behind writer.old.log.items) }
+    ensures gates { IfOk result
+        (λ made. made.items ≡ replicate gates (new_gate (view_of writer.old.desk.place).opening service.now)) }
 {
     let mut made = Vec::new(alloc);
     for _done in 0..gates {
@@ -89,8 +93,11 @@ fn make_gate(
     mark: &Mark,
     service: &Service,
 ) -> Result<Gate, OpenFault>
-    requires { ((view_of writer.old.desk.place).named ≡ true) × ((view_of writer.old.desk.place).front ≡ []) × (mark.now.seen.log ≡ []) }
-    ensures writer { (writer.new.desk.shown ≡ writer.old.desk.shown) × (view_of writer.new.desk.place ≡ view_of writer.old.desk.place) × (drop writer.new.behind writer.new.log.items ≡ drop writer.old.behind writer.old.log.items) }
+    requires { ((view_of writer.old.desk.place).named ≡ true) × ((view_of writer.old.desk.place).front ≡ [])
+        × (mark.now.seen.log ≡ []) }
+    ensures writer { (writer.new.desk.shown ≡ writer.old.desk.shown)
+        × (view_of writer.new.desk.place ≡ view_of writer.old.desk.place)
+        × (drop writer.new.behind writer.new.log.items ≡ drop writer.old.behind writer.old.log.items) }
     ensures gate { IfOk result (λ gate. gate ≡ new_gate (view_of writer.old.desk.place).opening service.now) }
 {
     let Ok(service) = service.try_clone() else {

@@ -8,16 +8,19 @@ use crate::faults::GateFault;
 use crate::gates::Gate;
 use timegate::{Reply, Request};
 
-/// Asks the gates of two replicas the same. Where their fronts hold the same harvests, or have the same state at least, both
-/// replies are the same, whether the harvests came directly or in another replica's state.
+/// Asks the gates of two replicas the same. Where their fronts hold the same harvests, or have the same state at least,
+/// both replies are the same, whether the harvests came directly or in another replica's state.
 pub fn ask_both(
     first: &mut Gate,
     second: &mut Gate,
     request: &Request,
 ) -> Result<(Reply, Reply), GateFault>
     requires { second.old.base ≡ first.old.base }
-    ensures same_state { IfOk result (λ replies. lat (fold_of first.new.pass.front) ≡ lat (fold_of second.new.pass.front) → replies.0 ≡ replies.1) }
-    ensures same_harvests { IfOk result (λ replies. SameHarvests (fold_of first.new.pass.front) (fold_of second.new.pass.front) → replies.0 ≡ replies.1) }
+    ensures same_state { IfOk result
+        (λ replies. lat (fold_of first.new.pass.front) ≡ lat (fold_of second.new.pass.front) → replies.0 ≡ replies.1) }
+    ensures same_harvests { IfOk result
+        (λ replies. SameHarvests (fold_of first.new.pass.front) (fold_of second.new.pass.front)
+        → replies.0 ≡ replies.1) }
 {
     let one = first.answer(request)?;
     let other = second.answer(request)?;

@@ -2,8 +2,8 @@
 use crate::marks::Mark;
 use std::marker::Model;
 
-/// The list of batches that was published when it was told, for a gate to learn. Contracts alone know the list: when the
-/// program runs a receipt is one number.
+/// The list of batches that was published when it was told, for a gate to learn. Contracts alone know the list: when
+/// the program runs a receipt is one number.
 #[derive(Drop)]
 pub struct Receipt {
     pub(crate) mark: Mark,

@@ -18,7 +18,10 @@ use std::sync::Wait;
 /// Puts the merge behind what is pending.
 pub(crate) fn add(writer: &mut EditionWriter, merge: Merge) -> Result<(), NoMemory>
     ensures desk { writer.new.desk ≡ writer.old.desk }
-    ensures log { MatchResult result (λ _. drop writer.new.behind writer.new.log.items ≡ drop writer.old.behind writer.old.log.items ++ Add merge ∷ []) (λ _. drop writer.new.behind writer.new.log.items ≡ drop writer.old.behind writer.old.log.items) }
+    ensures log { MatchResult result
+        (λ _. drop writer.new.behind writer.new.log.items
+        ≡ drop writer.old.behind writer.old.log.items ++ Add merge ∷ [])
+        (λ _. drop writer.new.behind writer.new.log.items ≡ drop writer.old.behind writer.old.log.items) }
 {
     match writer.append(Change::Add(merge)) {
         Ok(()) => Ok(()),
@@ -29,7 +32,10 @@ pub(crate) fn add(writer: &mut EditionWriter, merge: Merge) -> Result<(), NoMemo
 /// Puts the mark behind what is pending.
 fn reach(writer: &mut EditionWriter, mark: Mark) -> Result<(), NoMemory>
     ensures desk { writer.new.desk ≡ writer.old.desk }
-    ensures log { MatchResult result (λ _. drop writer.new.behind writer.new.log.items ≡ drop writer.old.behind writer.old.log.items ++ Reach mark ∷ []) (λ _. drop writer.new.behind writer.new.log.items ≡ drop writer.old.behind writer.old.log.items) }
+    ensures log { MatchResult result
+        (λ _. drop writer.new.behind writer.new.log.items
+        ≡ drop writer.old.behind writer.old.log.items ++ Reach mark ∷ [])
+        (λ _. drop writer.new.behind writer.new.log.items ≡ drop writer.old.behind writer.old.log.items) }
 {
     match writer.append(Change::Reach(mark)) {
         Ok(()) => Ok(()),
@@ -45,11 +51,17 @@ pub(crate) fn offer<B: NamesEntry>(
 ) -> Result<(), NoMemory>
     requires entry { B.entry ≡ Attempt (merges_in (drop writer.old.behind writer.old.log.items)) }
     requires head { head.now ≡ head_of mark.old.seen.book }
-    requires shown { (book_of writer.old.desk.shown.value ≡ mark.old.seen.book) × (batches_of writer.old.desk.shown.value ≡ successes mark.old.seen.log) }
+    requires shown { (book_of writer.old.desk.shown.value ≡ mark.old.seen.book)
+        × (batches_of writer.old.desk.shown.value ≡ successes mark.old.seen.log) }
     ensures desk { writer.new.desk ≡ writer.old.desk }
-    ensures pending { merges_in (drop writer.new.behind writer.new.log.items) ≡ merges_in (drop writer.old.behind writer.old.log.items) }
-    ensures mark { (mark.new.seen.book ≡ mark.old.seen.book) × (successes mark.new.seen.log ≡ successes mark.old.seen.log) }
-    ensures ready { IfOk result (λ _. Offers writer.new.desk.shown.value (drop writer.new.behind writer.new.log.items) mark.new × (successes_with_last mark.new.seen.log ≡ successes mark.old.seen.log ++ merges_in (drop writer.old.behind writer.old.log.items) ∷ [])) }
+    ensures pending { merges_in (drop writer.new.behind writer.new.log.items)
+        ≡ merges_in (drop writer.old.behind writer.old.log.items) }
+    ensures mark { (mark.new.seen.book ≡ mark.old.seen.book)
+        × (successes mark.new.seen.log ≡ successes mark.old.seen.log) }
+    ensures ready { IfOk result
+        (λ _. Offers writer.new.desk.shown.value (drop writer.new.behind writer.new.log.items) mark.new
+        × (successes_with_last mark.new.seen.log
+        ≡ successes mark.old.seen.log ++ merges_in (drop writer.old.behind writer.old.log.items) ∷ [])) }
 {
     let Some(attempted) = mark.record::<B>(head) else {
         return Err(NoMemory);
@@ -63,10 +75,16 @@ pub(crate) fn show<R: Wait>(
     writer: EditionWriter,
     rt: &R,
 ) -> (EditionWriter, Result<(), AllocError>)
-    requires { IsReady writer.desk.shown.value (fold after_change writer.desk.shown.value (drop writer.behind writer.log.items)) }
+    requires { IsReady writer.desk.shown.value
+        (fold after_change writer.desk.shown.value (drop writer.behind writer.log.items)) }
     ensures { MatchResult result.1
-        (λ _. (result.0.desk.shown.value ≡ fold after_change writer.desk.shown.value (drop writer.behind writer.log.items)) × (view_of result.0.desk.place ≡ view_at result.0.desk.shown.value) × (drop result.0.behind result.0.log.items ≡ []))
-        (λ _. (result.0.desk.shown.value ≡ writer.desk.shown.value) × (view_of result.0.desk.place ≡ view_of writer.desk.place) × (drop result.0.behind result.0.log.items ≡ drop writer.behind writer.log.items)) }
+        (λ _. (result.0.desk.shown.value
+        ≡ fold after_change writer.desk.shown.value (drop writer.behind writer.log.items))
+        × (view_of result.0.desk.place ≡ view_at result.0.desk.shown.value)
+        × (drop result.0.behind result.0.log.items ≡ []))
+        (λ _. (result.0.desk.shown.value ≡ writer.desk.shown.value)
+        × (view_of result.0.desk.place ≡ view_of writer.desk.place)
+        × (drop result.0.behind result.0.log.items ≡ drop writer.behind writer.log.items)) }
 {
     writer.publish_as::<Publication, R>(rt)
 }

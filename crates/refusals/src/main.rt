@@ -1,9 +1,9 @@
-//! Performs an exchange of two replicas, and a walk over an archive's pages, while requests for memory may be refused, and
-//! looks for an answer that changed in place of the refusal, at that call or the next.
+//! Performs an exchange of two replicas, and a walk over an archive's pages, while requests for memory may be refused,
+//! and looks for an answer that changed in place of the refusal, at that call or the next.
 //!
 //! `tests/memory/run` refuses each request in turn. Whichever is refused, the same is printed: an event that is
-//! refused because memory ran out leaves every reply as it was, and takes place when it comes again; a walk that is refused
-//! memory says so, and what it fetched up to there is the beginning of the whole record.
+//! refused because memory ran out leaves every reply as it was, and takes place when it comes again; a walk that is
+//! refused memory says so, and what it fetched up to there is the beginning of the whole record.
 #![tactic(auto)]
 
 mod exchange;

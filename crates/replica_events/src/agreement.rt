@@ -6,7 +6,8 @@ ghost use Rattle.timegate.specs.declared.request.Request.{Request};
 ghost use Rattle.timegate.specs.Reply.{reply};
 ghost use Rattle.replica_events.specs.World.{Knowledge, World, Course};
 ghost use Rattle.replica_events.specs.History.{LearntAlike, history_of};
-ghost use Rattle.replica_events.specs.Agreement.{HasTaken, IsOfTaken, Gives, SameHarvests, Agree, ServesTimeMaps, ServesTimeGates, RedirectsWell};
+ghost use Rattle.replica_events.specs.Agreement.{HasTaken, IsOfTaken, Gives, SameHarvests, Agree, ServesTimeMaps};
+ghost use Rattle.replica_events.specs.Agreement.{ServesTimeGates, RedirectsWell};
 
 /// After every list of harvests taken, states sent, restarts, and deliveries that were lost, delayed, repeated or
 /// reordered, two replicas that have learnt the same harvests since their last restart, directly or through each

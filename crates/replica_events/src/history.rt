@@ -7,7 +7,8 @@ ghost use Rattle.replica_events.specs.declared.event.Event.TheVariants.{Deliver}
 ghost use Rattle.replica_events.specs.declared.event.Said.TheVariants.{Sent, Joined};
 ghost use Rattle.replica_events.specs.World.{Knowledge, World, Message, Course, message};
 ghost use Rattle.replica_events.specs.Agreement.{HasTaken};
-ghost use Rattle.replica_events.specs.History.{Happened, History, NoRestart, IsLocal, Learnt, Carries, HasSent, history_of};
+ghost use Rattle.replica_events.specs.History.{Happened, History, NoRestart, IsLocal, Learnt, Carries, HasSent};
+ghost use Rattle.replica_events.specs.History.{history_of};
 
 /// After every list of events, what a replica has taken is what it has learnt since its last restart: the harvests
 /// that it took itself, those of the states that it received, and those that the sender of a message that it was

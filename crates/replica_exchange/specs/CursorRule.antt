@@ -1,5 +1,6 @@
 -- How far a peer's merges are known, from where a delta starts, and which deltas follow on what is known.
-use Rattle.std.specs.Prelude.{◌≡◌, refl, List, codes, ℕ, Bool, true, false, cond, ◌&&◌, ◌||◌, ◌==◌, nat_le, nat_lt, Option, Some, None}
+use Rattle.std.specs.Prelude.{◌≡◌, refl, List, codes, ℕ, Bool, true, false, cond, ◌&&◌, ◌||◌, ◌==◌, nat_le, nat_lt}
+use Rattle.std.specs.Prelude.{Option, Some, None}
 use Rattle.std.specs.Ordering.{nat_cmp}
 use Rattle.std.specs.FinMap as map
 use Rattle.std.specs.Coded.{Coded, code_by, coded×, coded_ℕ}
@@ -9,14 +10,20 @@ use Rattle.replica_exchange.specs.declared.cursor.TakeFault.TheVariants.{Gap, No
 use Rattle.replica_exchange.specs.declared.delta.Delta.{Delta}
 use Rattle.replica_exchange.specs.Stamps.{StampedState, entries_above}
 
--- where a delta from a cursor starts: at the cursor's number where it is of this incarnation and no later than now, and else at the beginning
+-- where a delta from a cursor starts: at the cursor's number where it is of this incarnation and no later than now, and
+-- else at the beginning
 abbrev pub start_from : StampedState → Option Cursor → ℕ
 start_from s None = 0
 start_from s (Some c) = cond ((c.incarnation == s.incarnation) && nat_le c.number s.number) c.number 0
 
 -- from there to now, the entries with a stamp above the start
 abbrev pub delta_from : StampedState → Option Cursor → Delta
-delta_from s c = record { incarnation = s.incarnation; start = start_from s c; end = s.number; state = entries_above s (start_from s c) }
+delta_from s c = record {
+  incarnation = s.incarnation;
+  start = start_from s c;
+  end = s.number;
+  state = entries_above s (start_from s c);
+}
 
 -- the cursor is of the delta's incarnation, and no earlier than its start
 abbrev pub reaches : Option Cursor → Delta → Bool
@@ -46,7 +53,8 @@ taken_from held peer d = map.insert held peer (moved (map.get held peer) d)
 
 -- a cursor as a pair of its numbers
 abbrev pub coded_cursor : Coded Cursor
-coded_cursor = code_by (ℕ × ℕ) (coded× coded_ℕ coded_ℕ) (λ c. (c.incarnation, c.number)) (λ p. record { incarnation = p.0; number = p.1 }) (λ _. refl)
+coded_cursor = code_by (ℕ × ℕ) (coded× coded_ℕ coded_ℕ) (λ c. (c.incarnation, c.number))
+    (λ p. record { incarnation = p.0; number = p.1 }) (λ _. refl)
 
 -- a delta leaves a gap after the cursor that is held, or it follows and a growth was refused
 abbrev pub IsTakeCause : TakeFault → Option Cursor → Delta → Type 0

@@ -5,7 +5,8 @@ use Rattle.std.specs.List.{flat_map}
 use Rattle.memento_time.specs.declared.mementos.Memento.{Memento}
 use Rattle.memento_time.specs.Mementos.{IsMemento}
 use Rattle.harvest_lattice.specs.Lattice.{Key, Kept, Entries}
-use Rattle.replica_exchange.specs.StateText.{memento_line, entry_line, entry_text, entries_text, IsEntryLine, IsEntry, AreEntries, IsState, state_text}
+use Rattle.replica_exchange.specs.StateText.{memento_line, entry_line, entry_text, entries_text, IsEntryLine, IsEntry}
+use Rattle.replica_exchange.specs.StateText.{AreEntries, IsState, state_text}
 use Rattle.replica_exchange.specs.declared.delta.Delta.{Delta}
 use Rattle.replica_exchange.specs.DeltaText.{from_line, delta_text, IsDelta}
 use Rattle.replica_exchange.specs.Spelling.{Spelling}
@@ -36,7 +37,10 @@ stated = record { Is = IsState; spelled = λ state. entries_text (map.entries st
 
 -- a delta's line of its incarnation, start and end
 abbrev pub span : Spelling (ℕ × (ℕ × ℕ))
-span = record { Is = λ s. ((s.0 < 2 ^ 64) × (s.1.0 ≤ s.1.1)) × (s.1.1 < 2 ^ 64); spelled = λ s. from_line s.0 s.1.0 s.1.1 }
+span = record {
+  Is = λ s. ((s.0 < 2 ^ 64) × (s.1.0 ≤ s.1.1)) × (s.1.1 < 2 ^ 64);
+  spelled = λ s. from_line s.0 s.1.0 s.1.1;
+}
 
 -- a whole state's text
 abbrev pub whole_state : Spelling Entries

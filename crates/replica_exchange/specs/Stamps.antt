@@ -1,6 +1,7 @@
 -- Lists of merges, and from which merge on each entry is as it is.
 use Rattle.std.specs.Coded.{Coded, code_by, coded×, coded_ℕ}
-use Rattle.std.specs.Prelude.{◌≡◌, refl, ◌⊎◌, ◌+◌, ℕ, ◌≤◌, Bool, false, nat_lt, List, length, take, Option, Some, None, IsSome, MatchOption}
+use Rattle.std.specs.Prelude.{◌≡◌, refl, ◌⊎◌, ◌+◌, ℕ, ◌≤◌, Bool, false, nat_lt, List, length, take, Option, Some, None}
+use Rattle.std.specs.Prelude.{IsSome, MatchOption}
 use Rattle.std.specs.List.{flat_map}
 use Rattle.std.specs.FinMap as map
 use Rattle.memento_index.specs.declared.merge.Merge.{Merge}
@@ -29,7 +30,8 @@ pub record IsStamp (merges : List Merge) (k : Key) (n : ℕ) : Type 0 where
 abbrev pub Stamps : Type 0
 Stamps = map.FinMap key_cmp ℕ
 
--- a state with the stamp of each of its entries, the number of merges that made it, and the incarnation in which it took them
+-- a state with the stamp of each of its entries, the number of merges that made it, and the incarnation in which it
+-- took them
 pub record StampedState : Type 0 where
   pub entries : Entries
   pub stamps : Stamps
@@ -38,7 +40,8 @@ pub record StampedState : Type 0 where
 
 -- the key has this stamp and an entry, or neither
 abbrev pub IsStampAt : List Merge → Entries → Key → Option ℕ → Type 0
-IsStampAt merges entries k stamp = MatchOption stamp (map.get entries k ≡ None) (λ n. IsSome (map.get entries k) × IsStamp merges k n)
+IsStampAt merges entries k stamp =
+    MatchOption stamp (map.get entries k ≡ None) (λ n. IsSome (map.get entries k) × IsStamp merges k n)
 
 -- it is what these merges made: their state, the stamps of its entries, and how many they are
 pub record IsStamped (merges : List Merge) (s : StampedState) : Type 0 where
@@ -75,5 +78,7 @@ pub record IsAbsorbed (s : StampedState) (m : Merge) (t : StampedState) : Type 0
 -- a state with stamps as a tuple of its parts
 abbrev pub coded_stamped : Coded StampedState
 coded_stamped =
-    code_by (Entries × (Stamps × (ℕ × ℕ))) (coded× (map.code coded_key coded_kept) (coded× (map.code coded_key coded_ℕ) (coded× coded_ℕ coded_ℕ)))
-    (λ s. (s.entries, (s.stamps, (s.number, s.incarnation)))) (λ p. record { entries = p.0; stamps = p.1.0; number = p.1.1.0; incarnation = p.1.1.1 }) (λ _. refl)
+    code_by (Entries × (Stamps × (ℕ × ℕ)))
+    (coded× (map.code coded_key coded_kept) (coded× (map.code coded_key coded_ℕ) (coded× coded_ℕ coded_ℕ)))
+    (λ s. (s.entries, (s.stamps, (s.number, s.incarnation))))
+    (λ p. record { entries = p.0; stamps = p.1.0; number = p.1.1.0; incarnation = p.1.1.1 }) (λ _. refl)

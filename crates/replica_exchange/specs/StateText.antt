@@ -27,11 +27,13 @@ entry_line key revision count = line (codes "entry" ∷ key.0 ∷ decimal revisi
 
 -- an entry's line, and a line for each of its mementos in order
 abbrev pub entry_text : Key × Kept → List ℕ
-entry_text e = entry_line e.0 e.1.revision (length (set.items e.1.mementos)) ++ flat_map memento_line (set.items e.1.mementos)
+entry_text e = entry_line e.0 e.1.revision (length (set.items e.1.mementos))
+    ++ flat_map memento_line (set.items e.1.mementos)
 
 -- `entries N`, the entries, `end`
 abbrev pub entries_text : List (Key × Kept) → List ℕ
-entries_text es = line (codes "entries" ∷ decimal (length es) ∷ []) ++ (flat_map entry_text es ++ line (codes "end" ∷ []))
+entries_text es = line (codes "entries" ∷ decimal (length es) ∷ [])
+    ++ (flat_map entry_text es ++ line (codes "end" ∷ []))
 
 -- `memento-state 1`, and the entries by archive, then by original
 abbrev pub state_text : Entries → List ℕ

@@ -6,7 +6,8 @@ ghost use Rattle.harvest_lattice.specs.Sets as set;
 ghost use Rattle.harvest_lattice.specs.Lattice.{Entries, Key, Kept, AtMost, join};
 ghost use Rattle.memento_index.specs.declared.merge.Merge.{Merge};
 ghost use Rattle.replica_exchange.specs.StateText.{state_text, IsState};
-ghost use Rattle.replica_exchange.specs.Stamps.{StampedState, IsStamp, IsStamped, IsAbsorbed, state_after, entries_above};
+ghost use Rattle.replica_exchange.specs.Stamps.{StampedState, IsStamp, IsStamped, IsAbsorbed, state_after};
+ghost use Rattle.replica_exchange.specs.Stamps.{entries_above};
 ghost use Rattle.replica_exchange.specs.declared.delta.Delta.{Delta};
 ghost use Rattle.replica_exchange.specs.DeltaText.{delta_text, IsDelta};
 ghost use Rattle.replica_exchange.specs.LineOrder.{by_archive_then_original, by_second_then_address};
@@ -21,16 +22,18 @@ pub fn one_text_of_a_delta()
     ensures { (x y : Delta) → IsDelta x → IsDelta y → delta_text x ≡ delta_text y → x ≡ y }
 {}
 
-/// In the text of a state the entries stand by archive and then by original, and the mementos of each by second and then
-/// by address, none twice.
+/// In the text of a state the entries stand by archive and then by original, and the mementos of each by second and
+/// then by address, none twice.
 pub fn lines_stand_in_order()
-    ensures entries { (x : Entries) → IsStrictlySortedBy by_archive_then_original (map_list (λ e. e.0) (map.entries x)) }
+    ensures entries { (x : Entries)
+        → IsStrictlySortedBy by_archive_then_original (map_list (λ e. e.0) (map.entries x)) }
     ensures mementos { (kept : Kept) → IsStrictlySortedBy by_second_then_address (set.items kept.mementos) }
 {}
 
 /// What merges made is one: their state, and the one stamp of each of its entries.
 pub fn one_stamped_state()
-    ensures { (merges : List Merge) (s t : StampedState) → IsStamped merges s → IsStamped merges t → s.incarnation ≡ t.incarnation → s ≡ t }
+    ensures { (merges : List Merge) (s t : StampedState) → IsStamped merges s → IsStamped merges t
+        → s.incarnation ≡ t.incarnation → s ≡ t }
 {}
 
 /// One merge more gives its number as stamp to the entries that it changes, and leaves the other stamps.
@@ -38,13 +41,16 @@ pub fn one_merge_more()
     ensures stays { (merges : List Merge) (m : Merge) (k : Key) (n : ℕ) → IsStamp merges k n
         → map.get (state_after (merges ++ m ∷ [])) k ≡ map.get (state_after merges) k → IsStamp (merges ++ m ∷ []) k n }
     ensures changes { (merges : List Merge) (m : Merge) (k : Key)
-        → ¬ (map.get (state_after (merges ++ m ∷ [])) k ≡ map.get (state_after merges) k) → IsStamp (merges ++ m ∷ []) k (length merges + 1) }
+        → ¬ (map.get (state_after (merges ++ m ∷ [])) k ≡ map.get (state_after merges) k)
+        → IsStamp (merges ++ m ∷ []) k (length merges + 1) }
 {}
 
 /// So what absorbs one merge more is what the merges with it made; and what none made is empty.
 pub fn one_merge_is_absorbed()
-    ensures more { (merges : List Merge) (m : Merge) (s t : StampedState) → IsStamped merges s → IsAbsorbed s m t → IsStamped (merges ++ m ∷ []) t }
-    ensures none { (incarnation : ℕ) → IsStamped [] (record { entries = map.empty; stamps = map.empty; number = 0; incarnation = incarnation }) }
+    ensures more { (merges : List Merge) (m : Merge) (s t : StampedState) → IsStamped merges s → IsAbsorbed s m t
+        → IsStamped (merges ++ m ∷ []) t }
+    ensures none { (incarnation : ℕ)
+        → IsStamped [] (record { entries = map.empty; stamps = map.empty; number = 0; incarnation = incarnation }) }
 {}
 
 /// To what is at least the state of the first n merges, the entries above n add just what all the merges do. Above zero
@@ -52,5 +58,6 @@ pub fn one_merge_is_absorbed()
 pub fn deltas_suffice()
     ensures suffice { (merges : List Merge) (s : StampedState) (n : ℕ) (x : Entries) → IsStamped merges s →
         AtMost (state_after (take n merges)) x → join x (entries_above s n) ≡ join x (state_after merges) }
-    ensures all { (merges : List Merge) (s : StampedState) → IsStamped merges s → entries_above s 0 ≡ state_after merges }
+    ensures all { (merges : List Merge) (s : StampedState) → IsStamped merges s
+        → entries_above s 0 ≡ state_after merges }
 {}

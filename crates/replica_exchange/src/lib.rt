@@ -11,13 +11,14 @@
 //! end
 //! ```
 //!
-//! There are N entries, by ARCHIVE and then by ORIGINAL, and none twice. An entry is one `entry` line and then COUNT lines
-//! of mementos, by SECONDS and then by URI, none twice. Texts are compared by their bytes. N, REVISION, COUNT and SECONDS
-//! are decimals of 64 bits with no zero in front; SECONDS count from the start of 1970 and lie before the year 10000.
+//! There are N entries, by ARCHIVE and then by ORIGINAL, and none twice. An entry is one `entry` line and then COUNT
+//! lines of mementos, by SECONDS and then by URI, none twice. Texts are compared by their bytes. N, REVISION, COUNT and
+//! SECONDS are decimals of 64 bits with no zero in front; SECONDS count from the start of 1970 and lie before the year
+//! 10000.
 //!
-//! A replica numbers the merges that it absorbs, and stamps each entry with the number of the merge that last changed it
-//! (`Stamped`). A delta has the entries that the merges after the first START changed, up to the first END, under these
-//! two lines and then as above from `entries N` on, where START is at most END:
+//! A replica numbers the merges that it absorbs, and stamps each entry with the number of the merge that last changed
+//! it (`Stamped`). A delta has the entries that the merges after the first START changed, up to the first END, under
+//! these two lines and then as above from `entries N` on, where START is at most END:
 //!
 //! ```text
 //! memento-delta 1

@@ -80,7 +80,12 @@ impl Model for Stamped {
 
     ghost coded = { coded_stamped };
 
-    ghost view = { λ s. record { entries = s.index; stamps = stamps_in s.stamps; number = s.number; incarnation = s.incarnation } };
+    ghost view = { λ s. record {
+      entries = s.index;
+      stamps = stamps_in s.stamps;
+      number = s.number;
+      incarnation = s.incarnation;
+    } };
 
     ghost invariant = { λ s. IsOrdered text_cmp s.stamps };
 }
@@ -90,7 +95,8 @@ impl Stamped {
 
     /// What no merges made. Takes no memory.
     pub fn new(alloc: Global, incarnation: u64) -> Stamped
-        ensures empty { result ≡ record { entries = map.empty; stamps = map.empty; number = 0; incarnation = incarnation } }
+        ensures empty { result
+            ≡ record { entries = map.empty; stamps = map.empty; number = 0; incarnation = incarnation } }
         ensures stands { IsStamped [] result }
     {
         Stamped {
@@ -109,7 +115,8 @@ impl Stamped {
     /// the merge, and for each entry that changes logarithmic in the number of keys.
     pub fn absorb(&mut self, merge: &Merge) -> Result<(), StampFault>
         ensures ok { OnOk result (IsAbsorbed self.old merge.now self.new) }
-        ensures stands { (merges : List Merge) → IsStamped merges self.old → OnOk result (IsStamped (merges ++ merge.now ∷ []) self.new) }
+        ensures stands { (merges : List Merge) → IsStamped merges self.old
+            → OnOk result (IsStamped (merges ++ merge.now ∷ []) self.new) }
         ensures spent { IsErrOf result StampFault.NumbersSpent ↔ (self.old.number ≡ 18446744073709551615) }
         ensures err { OnErr result (self.new ≡ self.old) }
     {

@@ -144,7 +144,8 @@ fn fill(shelves: &mut StampShelves, archive: ArchiveName, original: &Original, s
     requires ordered { IsOrdered text_cmp shelves.old }
     requires room { IsSome (slot shelves.old (archive, original.now)) }
     ensures after { (k : Key)
-        → slot shelves.new k ≡ cond (eq_by_cmp key_cmp k (archive, original.now)) (Some (Some stamp)) (slot shelves.old k) }
+        → slot shelves.new k ≡ cond (eq_by_cmp key_cmp k (archive, original.now)) (Some (Some stamp))
+        (slot shelves.old k) }
     ensures ordered { IsOrdered text_cmp shelves.new }
 {
     let Some(shelf) = shelves.get_mut(&archive) else {

@@ -144,7 +144,8 @@ fn write_if_above(
 ) -> Result<(), AllocError>
     ensures written { OnOk result (out.new.items ≡ out.old.items
         ++ flat_map entry_text (filter (above stamped.now start) (((archive, original.now), entry.now) ∷ []))) }
-    ensures fits { OnOk result (All IsEntry (filter (above stamped.now start) (((archive, original.now), entry.now) ∷ []))) }
+    ensures fits { OnOk result
+        (All IsEntry (filter (above stamped.now start) (((archive, original.now), entry.now) ∷ []))) }
 {
     if !stamped.is_above(archive, original, start) {
         return Ok(());

@@ -1,5 +1,6 @@
 -- What a script's commands write.
-use Rattle.std.specs.Prelude.{◌≡◌, ℕ, ◌<◌, ◌≤◌, ◌⊎◌, List, [], ◌∷◌, ◌++◌, length, Option, None, Some, MatchOption, Result, Ok, Err, codes}
+use Rattle.std.specs.Prelude.{◌≡◌, ℕ, ◌<◌, ◌≤◌, ◌⊎◌, List, [], ◌∷◌, ◌++◌, length, Option, None, Some, MatchOption}
+use Rattle.std.specs.Prelude.{Result, Ok, Err, codes}
 use Rattle.std.specs.Option.{option_map}
 use Rattle.std.specs.List.{flat_map}
 use Rattle.std.specs.Fmt.{decimal}
@@ -22,7 +23,8 @@ use Rattle.replica_world.specs.declared.replaying.fault.ReplayFault.TheVariants 
 use Rattle.replica_events.specs.Faults.{words_of}
 use Rattle.replica_events.specs.World.{World, Answer, Effect, start}
 use Rattle.replica_world.specs.Fields.{utf8_text}
-use Rattle.replica_world.specs.Script.{Taking, Command, Take, Step, Start, script_of, commands_of, number_of_line, bad_line}
+use Rattle.replica_world.specs.Script.{Taking, Command, Take, Step, Start, script_of, commands_of, number_of_line}
+use Rattle.replica_world.specs.Script.{bad_line}
 use Rattle.replica_world.specs.Devices.{AppendsBeginning}
 
 -- ---- the texts

@@ -10,7 +10,8 @@ use Rattle.replica_events.specs.declared.event.Event.TheVariants as event
 use Rattle.replica_events.specs.World.{World, Answer, HasReplica, Run, start}
 use Rattle.replica_events.specs.History.{History, LearntAlike}
 use Rattle.replica_world.specs.Script.{Taking, Command, Take, Step}
-use Rattle.replica_world.specs.Output.{IsPage, most_mementos, harvest_of, accepted_line, answer_text, taken_line, refusal_text, reply_text}
+use Rattle.replica_world.specs.Output.{IsPage, most_mementos, harvest_of, accepted_line, answer_text, taken_line}
+use Rattle.replica_world.specs.Output.{refusal_text, reply_text}
 
 -- the event takes the harvest of a page of at most 100,000 mementos
 pub record IsHarvestTaking (t : Taking) (happens : Event) : Type 0 where

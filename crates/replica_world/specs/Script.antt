@@ -1,11 +1,13 @@
 -- A script as a list of commands: what each line says, with the block or the lines that follow it.
-use Rattle.std.specs.Prelude.{ℕ, zero, suc, ◌+◌, ◌-◌, ◌&&◌, List, [], ◌∷◌, ◌++◌, length, take, Option, None, Some, nat_le, ◌==◌, if◌then◌else◌, count_by, codes, bytes_eq}
+use Rattle.std.specs.Prelude.{ℕ, zero, suc, ◌+◌, ◌-◌, ◌&&◌, List, [], ◌∷◌, ◌++◌, length, take, Option, None, Some}
+use Rattle.std.specs.Prelude.{nat_le, ◌==◌, if◌then◌else◌, count_by, codes, bytes_eq}
 use Rattle.std.specs.Option.{option_map, option_and_then}
 use Rattle.timegate.specs.declared.request.Request.{Request}
 use Rattle.timemap_writer.specs.Service.{base_of}
 use Rattle.replica_events.specs.declared.event.Event.{Event}
 use Rattle.replica_events.specs.declared.event.Event.TheVariants.{Send, Deliver, Receive, Restart, Ask}
-use Rattle.replica_world.specs.Fields.{◌>>=◌, field, line_of, after_empty_lines, number_field, utf8_text, block_of, lines_of}
+use Rattle.replica_world.specs.Fields.{◌>>=◌, field, line_of, after_empty_lines, number_field, utf8_text, block_of}
+use Rattle.replica_world.specs.Fields.{lines_of}
 use Rattle.replica_world.specs.Form as form
 use Rattle.replica_world.specs.Form.{Form, TakeForm, form_of}
 

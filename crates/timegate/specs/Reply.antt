@@ -12,7 +12,8 @@ use Rattle.timegate.specs.declared.reply.Header.{Header}
 use Rattle.timegate.specs.declared.reply.Header.TheVariants.{Allow, Vary, Location, Link, ContentType}
 use Rattle.timegate.specs.declared.request.Request.{Request}
 use Rattle.timegate.specs.declared.route.Route.{Route}
-use Rattle.timegate.specs.declared.route.Route.TheVariants.{BadMethod, State, NoRoute, BadOriginal, BadDatetime, TimeGate, TimeMap}
+use Rattle.timegate.specs.declared.route.Route.TheVariants.{BadMethod, State, NoRoute, BadOriginal, BadDatetime}
+use Rattle.timegate.specs.declared.route.Route.TheVariants.{TimeGate, TimeMap}
 use Rattle.timegate.specs.Route.{is_head, is_timegate, route_of}
 
 -- the name of a header field

@@ -1,13 +1,15 @@
 -- What a request asks for: the TimeGate or the TimeMap of an original, the state bytes, or the reason that it is
 -- refused.
-use Rattle.std.specs.Prelude.{◌≡◌, ℕ, Bool, not, ◌&&◌, List, [], ◌∷◌, Option, None, Some, drop, length, codes, bytes_eq, nat_eq, if◌then◌else◌}
+use Rattle.std.specs.Prelude.{◌≡◌, ℕ, Bool, not, ◌&&◌, List, [], ◌∷◌, Option, None, Some, drop, length, codes, bytes_eq}
+use Rattle.std.specs.Prelude.{nat_eq, if◌then◌else◌}
 use Rattle.std.specs.List.{starts_with}
 use Rattle.std.specs.Str.{is_utf8}
 use Rattle.memento_time.specs.SecondOf.{asked_of}
 use Rattle.timemap_reader.specs.Original.{original_of}
 use Rattle.timegate.specs.declared.request.Request.{Request}
 use Rattle.timegate.specs.declared.route.Route.{Route}
-use Rattle.timegate.specs.declared.route.Route.TheVariants.{BadMethod, State, NoRoute, BadOriginal, BadDatetime, TimeGate, TimeMap}
+use Rattle.timegate.specs.declared.route.Route.TheVariants.{BadMethod, State, NoRoute, BadOriginal, BadDatetime}
+use Rattle.timegate.specs.declared.route.Route.TheVariants.{TimeGate, TimeMap}
 
 -- the method is GET, case-sensitive
 abbrev pub is_get : Request → Bool

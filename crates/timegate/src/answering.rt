@@ -3,7 +3,8 @@ ghost use Rattle.std.specs.Prelude.{◌≡◌, ◌++◌, ◌∷◌, [], List, If
 ghost use Rattle.harvest_lattice.specs.Sets as set;
 ghost use Rattle.harvest_lattice.specs.Knowledge.{Harvested, lat, shown_of};
 ghost use Rattle.replica_exchange.specs.StateText.{state_text};
-ghost use Rattle.timegate.specs.Reply.{reply_with, vary, short_reply, bad_method, redirect, timemap, reply_at, reply, reply_of};
+ghost use Rattle.timegate.specs.Reply.{reply_with, vary, short_reply, bad_method, redirect, timemap, reply_at, reply};
+ghost use Rattle.timegate.specs.Reply.{reply_of};
 ghost use Rattle.timegate.specs.Route.{original_in, route_of};
 ghost use Rattle.timegate.specs.Served.{IsServed};
 

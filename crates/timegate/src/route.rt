@@ -1,6 +1,7 @@
 //! What a request asks for.
 ghost use Rattle.std.specs.Prelude.{◌≡◌, IfOk, IfSome};
-ghost use Rattle.timegate.specs.Route.{is_get, is_head, is_state, is_timegate, is_timemap, NamesItself, original_at, original_in, timegate_route, route_of};
+ghost use Rattle.timegate.specs.Route.{is_get, is_head, is_state, is_timegate, is_timemap, NamesItself, original_at};
+ghost use Rattle.timegate.specs.Route.{original_in, timegate_route, route_of};
 
 use crate::request::Request;
 use memento_time::{Moment, NoMemory, Octets, Original};

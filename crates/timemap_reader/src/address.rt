@@ -1,5 +1,6 @@
 //! The addresses that a page's links name.
-ghost use Rattle.std.specs.Prelude.{◌≡◌, ◌==◌, ◌<◌, IsTrue, IfOk, IfSome, OnOk, is_some, length, option_map, string_bytes};
+ghost use Rattle.std.specs.Prelude.{◌≡◌, ◌==◌, ◌<◌, IsTrue, IfOk, IfSome, OnOk, is_some, length, option_map};
+ghost use Rattle.std.specs.Prelude.{string_bytes};
 ghost use Rattle.std.specs.List.{before_first};
 ghost use Rattle.url.specs.Parts.{serialize};
 ghost use Rattle.timemap_reader.specs.Address as spec;

@@ -1,5 +1,6 @@
 //! Pages of TimeMaps.
-ghost use Rattle.std.specs.Prelude.{◌≡◌, ◌≤◌, ◌<◌, ◌+◌, ◌^◌, ◌⊎◌, ◌++◌, [], ◌∷◌, Some, None, IfOk, OnOk, MatchResult, length};
+ghost use Rattle.std.specs.Prelude.{◌≡◌, ◌≤◌, ◌<◌, ◌+◌, ◌^◌, ◌⊎◌, ◌++◌, [], ◌∷◌, Some, None, IfOk, OnOk, MatchResult};
+ghost use Rattle.std.specs.Prelude.{length};
 ghost use Rattle.timemap_reader.specs.Answer.{IsAnswer, base_of, words_of};
 ghost use Rattle.timemap_reader.specs.Found.{IsFoundIn};
 ghost use Rattle.timemap_reader.specs.Page.{IsPageOf, left_out, named};

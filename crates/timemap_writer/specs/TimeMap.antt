@@ -1,6 +1,7 @@
 -- The TimeMap of an original (RFC 7089, section 5) and the Link header of a redirect to a memento (section 4.2): the
 -- links that they state, and their text.
-use Rattle.std.specs.Prelude.{ℕ, ◌-◌, ◌==◌, Bool, true, false, List, [], ◌∷◌, ◌++◌, length, codes, slice_get, Option, Some, None}
+use Rattle.std.specs.Prelude.{ℕ, ◌-◌, ◌==◌, Bool, true, false, List, [], ◌∷◌, ◌++◌, length, codes, slice_get, Option}
+use Rattle.std.specs.Prelude.{Some, None}
 use Rattle.link_format.specs.Grammar.{Param, Link}
 use Rattle.link_format.specs.Writing.{joined}
 use Rattle.memento_time.specs.declared.mementos.Memento.{Memento}

@@ -1,5 +1,6 @@
 //! What a reader of link-format finds in what is written.
-ghost use Rattle.std.specs.Prelude.{◌≡◌, ℕ, ◌+◌, ◌==◌, ◌++◌, true, codes, List, length, slice_get, option_map, All, Some, None, Ok};
+ghost use Rattle.std.specs.Prelude.{◌≡◌, ℕ, ◌+◌, ◌==◌, ◌++◌, true, codes, List, length, slice_get, option_map, All};
+ghost use Rattle.std.specs.Prelude.{Some, None, Ok};
 ghost use Rattle.url.specs.Parser.{parse_url};
 ghost use Rattle.url.specs.Parts.{Parts, serialize};
 ghost use Rattle.link_format.specs.Grammar.{Reading};
@@ -7,7 +8,8 @@ ghost use Rattle.memento_time.specs.declared.mementos.Memento.{Memento};
 ghost use Rattle.memento_time.specs.Mementos.{IsMemento};
 ghost use Rattle.memento_time.specs.Text.{IsOriginal};
 ghost use Rattle.timemap_writer.specs.Service.{IsBase, base_of};
-ghost use Rattle.timemap_writer.specs.TimeMap.{memento_link, memento_links, timemap_text, timemap_links, gate_links, redirect_links};
+ghost use Rattle.timemap_writer.specs.TimeMap.{memento_link, memento_links, timemap_text, timemap_links, gate_links};
+ghost use Rattle.timemap_writer.specs.TimeMap.{redirect_links};
 
 /// Each text is link-format (RFC 6690, section 2) whose links are the stated ones, in order. No text has two
 /// readings, so every reader of the grammar finds these links and no others.

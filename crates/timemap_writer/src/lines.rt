@@ -4,7 +4,8 @@ ghost use Rattle.std.specs.Option.{option_copied};
 ghost use Rattle.link_format.specs.Grammar.{IsName, IsTarget};
 ghost use Rattle.link_format.specs.Writing.{IsValue, link_text, params_text};
 ghost use Rattle.memento_time.specs.Second.{imf};
-ghost use Rattle.timemap_writer.specs.TimeMap.{datetime_of, original_link, timegate_link, timemap_link, memento_relations, memento_link};
+ghost use Rattle.timemap_writer.specs.TimeMap.{datetime_of, original_link, timegate_link, timemap_link};
+ghost use Rattle.timemap_writer.specs.TimeMap.{memento_relations, memento_link};
 
 use crate::service::Service;
 use link_format::{write_param, write_target};

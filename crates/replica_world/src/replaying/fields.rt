@@ -2,7 +2,8 @@
 ghost use Rattle.std.specs.Prelude.{◌≡◌, ◌≤◌, IfOk, length};
 ghost use Rattle.std.specs.Option.{option_map};
 ghost use Rattle.std.specs.List.{list_all};
-ghost use Rattle.replica_world.specs.Fields.{first_line, after_empty_lines, number_field, word_field, is_visible, utf8_text};
+ghost use Rattle.replica_world.specs.Fields.{first_line, after_empty_lines, number_field, word_field, is_visible};
+ghost use Rattle.replica_world.specs.Fields.{utf8_text};
 ghost use Rattle.replica_world.specs.Fields.{block_of, line_of, lines_of};
 
 use memento_time::{NoMemory, Octets};

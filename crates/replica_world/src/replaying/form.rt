@@ -1,7 +1,8 @@
 //! The lines of commands: what each says. How they are spelled is said at `replay`.
 ghost use Rattle.std.specs.Prelude.{◌≡◌};
 ghost use Rattle.std.specs.Option.{option_map};
-ghost use Rattle.replica_world.specs.Form.{take_of, map_of, gate_of, ask_of, send_of, deliver_of, receive_of, restart_of};
+ghost use Rattle.replica_world.specs.Form.{take_of, map_of, gate_of, ask_of, send_of, deliver_of, receive_of};
+ghost use Rattle.replica_world.specs.Form.{restart_of};
 ghost use Rattle.replica_world.specs.Form.{form_by_word, form_of};
 ghost use Rattle.replica_world.specs.Spelled.{form_view};
 

@@ -1,5 +1,6 @@
 //! A whole script.
-ghost use Rattle.std.specs.Prelude.{◌≡◌, ◌⊎◌, ◌+◌, ◌-◌, ◌≤◌, ◌==◌, true, length, take, count_by, None, IfOk, IfSome, MatchOption};
+ghost use Rattle.std.specs.Prelude.{◌≡◌, ◌⊎◌, ◌+◌, ◌-◌, ◌≤◌, ◌==◌, true, length, take, count_by, None, IfOk, IfSome};
+ghost use Rattle.std.specs.Prelude.{MatchOption};
 ghost use Rattle.replica_world.specs.Script.{command_at, number_of_line};
 ghost use Rattle.replica_events.specs.World.{World as Replicas};
 ghost use Rattle.replica_world.specs.Stands.{Stands};
@@ -135,8 +136,8 @@ fn replay_script<W: Write>(
 /// - `NoMemory`: the allocator refused a growth.
 ///
 /// Where reader and writer tell their bytes, what is written is the one output of the script; nothing after `Read`, and
-/// after `Write` and `NoMemory` a beginning of it. `Watched` carries the marks by which `Read` and `Write` are known to be
-/// the devices' doing: hand in devices whose marks are clear, as `Watched::new` makes them.
+/// after `Write` and `NoMemory` a beginning of it. `Watched` carries the marks by which `Read` and `Write` are known to
+/// be the devices' doing: hand in devices whose marks are clear, as `Watched::new` makes them.
 pub fn replay<R: Read, W: Write>(
     alloc: Global,
     reader: &mut Watched<R>,

@@ -1,6 +1,7 @@
 //! The texts that commands write.
 ghost use Rattle.std.specs.Prelude.{◌≡◌, ◌≢◌, ◌++◌, ◌∷◌, [], IfOk, OnOk, Err, codes, length, string_bytes};
-ghost use Rattle.replica_world.specs.Output.{line, number_line, refusal_text, header_line, reply_text, taken_line, refusal_line, answer_text, accepted_line};
+ghost use Rattle.replica_world.specs.Output.{line, number_line, refusal_text, header_line, reply_text, taken_line};
+ghost use Rattle.replica_world.specs.Output.{refusal_line, answer_text, accepted_line};
 
 use crate::replaying::output::Output;
 use memento_time::{NoMemory, Octets};

@@ -5,8 +5,8 @@ ghost use Rattle.std.specs.Io.KnownBytes.{ReadConsumes, WriteAppends};
 
 use std::io::{self, Read, Write};
 
-/// A reader or a writer, whether a call of it has failed, and how often it was read. Only `read` and `write` below, which
-/// call the device once, set the marks.
+/// A reader or a writer, whether a call of it has failed, and how often it was read. Only `read` and `write` below,
+/// which call the device once, set the marks.
 #[derive(Debug, Drop)]
 pub struct Watched<D> {
     pub device: D,
