@@ -165,10 +165,10 @@ fn unite(set: &mut Mementos, other: &Mementos) -> Result<(), Fail> {
 #[test]
 fn sets_are_united(rt: HostRuntime) -> Result<(), Fail> {
     let alloc = rt.alloc();
-    let mut all = set(alloc, &[THIRD, FIRST, THIRD])?;
+    let mut all = set(alloc, &[THIRD, SECOND, THIRD])?;
     assert!(rt; all.len() == 2);
-    let second = set(alloc, &[SECOND, FIRST])?;
-    assert!(rt; is_rest(alloc, &second, &all, &[SECOND])?);
+    let second = set(alloc, &[THIRD, FIRST])?;
+    assert!(rt; is_rest(alloc, &second, &all, &[FIRST])?);
     assert!(rt; !second.is_subset(&all));
     unite(&mut all, &second)?;
     assert!(rt; second.is_subset(&all));

@@ -1,9 +1,10 @@
 //! The parameters of a link, read again from its text.
-ghost use Rattle.std.specs.Prelude.{◌≡◌, ◌<◌, length, option_map, IfOk, IfSome, IfNone, false, Some, None};
+ghost use Rattle.std.specs.Prelude.{◌≡◌, ◌<◌, [], ◌∷◌, length, option_map, IfOk, IfSome, IfNone, false, Some, None};
+ghost use Rattle.std.specs.Option.{option_or};
 ghost use Rattle.std.specs.List.{slice_get};
 ghost use Rattle.std.specs.Cow.{cow_slice_items};
 ghost use Rattle.link_format.specs.Scan.{params_of, quoted_bytes};
-ghost use Rattle.link_format.specs.Spans.{meant_bytes};
+ghost use Rattle.link_format.specs.Spans.{meant_bytes, param_of, value_from};
 ghost use Rattle.link_format.specs.Values.{first_value, same_name, value_or_empty};
 
 use crate::scan::next_param;
@@ -90,4 +91,48 @@ pub(crate) fn find_param<'a>(text: &'a [u8], name: &[u8]) -> Option<ParamSpan<'a
         rest = after;
     }
     None
+}
+
+/// The one that is held, or else the next one, where it has the name.
+fn first_of<'a>(
+    held: Option<ParamSpan<'a>>,
+    next: ParamSpan<'a>,
+    name: &[u8],
+) -> Option<ParamSpan<'a>>
+    ensures { value_from result ≡ option_or (value_from held.entry)
+        (first_value name.now (param_of next.entry ∷ [])) }
+{
+    match held {
+        Some(_) => held,
+        None => {
+            if is_same_name(next.name, name) {
+                Some(next)
+            } else {
+                None
+            }
+        }
+    }
+}
+
+/// The first parameters of two names, found in one pass.
+pub(crate) fn find_params<'a>(
+    text: &'a [u8],
+    first: &[u8],
+    second: &[u8],
+) -> (Option<ParamSpan<'a>>, Option<ParamSpan<'a>>)
+    ensures first { value_from result.0 ≡ first_value first.now (params_of text.now) }
+    ensures second { value_from result.1 ≡ first_value second.now (params_of text.now) }
+{
+    let mut of_first = None;
+    let mut of_second = None;
+    let mut rest = text;
+    while let Some((next, after)) = next_param(rest) {
+        of_first = first_of(of_first, next, first);
+        of_second = first_of(of_second, next, second);
+        if of_first.is_some() && of_second.is_some() {
+            break;
+        }
+        rest = after;
+    }
+    (of_first, of_second)
 }

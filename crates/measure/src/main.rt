@@ -6,6 +6,9 @@
 //! - `measure states COUNT < TEXT`: reads the text of a state and writes it again, COUNT times.
 //! - `measure hostile COUNT < TEXT`: reads the text of a state and absorbs it in an index of nothing, COUNT times.
 //! - `measure memory COUNT`: fills an index with COUNT mementos, ten of each original.
+//! - `measure stamped COUNT`: takes these mementos with a replica that stamps its entries.
+//! - `measure last COUNT`, `measure all COUNT`: takes them too, and writes ten times the delta with the last merge, or with
+//!   all merges.
 //! - `measure walk COUNT`: walks over 64 pages of 1,500 mementos each, COUNT times.
 //! - `measure read COUNT`: fetches and reads these pages COUNT times, and does no more with them.
 //! - `measure round WORKERS`: a round of 1,000 jobs, each of a page that takes a millisecond.
@@ -13,6 +16,7 @@
 //! Each time it prints some counts, which must be those of the plain program. With no words it does nothing.
 #![tactic(auto)]
 
+mod deltas;
 mod hostile;
 mod keys;
 mod links;
@@ -39,6 +43,9 @@ fn measure(rt: &HostRuntime, kind: &str, count: u32) -> Result<()> {
         "keys" => keys::merge(rt, count),
         "hostile" => hostile::read_and_absorb(rt, &input(rt)?, count),
         "memory" => memory::fill(rt, count),
+        "stamped" => deltas::fill(rt, count),
+        "last" => deltas::write_last(rt, count),
+        "all" => deltas::write_all(rt, count),
         "states" => states::read_and_write(rt, &input(rt)?, count),
         _ => bail!("nothing of that name is measured"),
     }

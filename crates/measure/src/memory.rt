@@ -21,21 +21,28 @@ fn mementos(alloc: Global, first: u32, count: u32) -> Result<Vec<Memento>> {
     Ok(list)
 }
 
-/// An index of `count` mementos, ten of each original, three of them from each of three archives and the tenth from
-/// the last. Prints how many keys it has then.
+/// What three archives have of an original: ten mementos, three of each archive and the tenth of the last.
+pub(crate) fn harvests(alloc: Global, number: u32) -> Result<Vec<Harvest>> {
+    let text = format!(in alloc; "http://a.example/{number}")?;
+    let original = Original::new(alloc, text.as_bytes())?;
+    let mut list = Vec::new(alloc);
+    let mut first = number.saturating_mul(10);
+    for name in ARCHIVES {
+        let archive = ArchiveName::new(name.as_bytes()).context("no name")?;
+        let share = if name == "third.example" { 4 } else { 3 };
+        let captures = mementos(alloc, first, share)?;
+        first = first.saturating_add(share);
+        list.push(Harvest::new(archive, &original, 1, captures)?)?;
+    }
+    Ok(list)
+}
+
+/// An index of `count` mementos, ten of each original. Prints how many keys it has then.
 pub(crate) fn fill<R: Print + AllocGlobal>(rt: &R, count: u32) -> Result<()> {
     let alloc: Global = rt.alloc();
     let mut index = Index::new(alloc);
     for number in 0..count / 10 {
-        let text = format!(in alloc; "http://a.example/{number}")?;
-        let original = Original::new(alloc, text.as_bytes())?;
-        let mut first = number * 10;
-        for name in ARCHIVES {
-            let archive = ArchiveName::new(name.as_bytes()).context("no name")?;
-            let share = if name == "third.example" { 4 } else { 3 };
-            let list = mementos(alloc, first, share)?;
-            first = first.saturating_add(share);
-            let harvest = Harvest::new(archive, &original, 1, list)?;
+        for harvest in harvests(alloc, number)? {
             index.absorb(&Merge::Harvest(harvest))?;
         }
     }

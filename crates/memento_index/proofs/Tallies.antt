@@ -1,16 +1,18 @@
 -- Lists with counts, parted at a memento.
-use Rattle.std.proofs.Common.{◌≡◌, ℕ, ◌+◌, ◌<◌, ◌≤◌, Bool, true, false, cond, List, [], ◌∷◌, ◌++◌, reverse, length, get_or, drop, Option, Some, None, option_to_list, append_assoc, refl, sym, ap, ◌∙◌, subst, arith}
+use Rattle.std.proofs.Common.{◌≡◌, ℕ, zero, suc, ◌+◌, ◌-◌, ◌<◌, ◌≤◌, Bool, true, false, cond, List, [], ◌∷◌, ◌++◌, reverse, length, get_or, drop, Option, Some, None, option_to_list, append_assoc, refl, sym, ap, ◌∙◌, subst, arith}
 use Rattle.std.specs.Option.{IfSome}
+use Rattle.std.specs.List.{slice_get}
 use Rattle.std.specs.declared.cmp.Ordering.{Ordering}
 use Rattle.std.specs.declared.cmp.Ordering.TheVariants.{Less, Equal, Greater}
 use Rattle.std.specs.Ordering.{eq_by_cmp, is_eq, is_lt, ordering_reverse}
 use Rattle.std.specs.Cmp.{tied_itself}
 use Rattle.std.proofs.lemmas.Bool.{true≢false}
+use Rattle.std.specs.Prelude.{unwrap_or}
 use Rattle.std.proofs.lemmas.List.{reverse-append}
 use Rattle.memento_time.specs.Mementos.{memento_cmp}
 use Rattle.memento_time.specs.declared.mementos.Memento.{Memento}
 use Rattle.memento_time.proofs.MementoLemmas.{memento_cmp_total, memento_cmp_exact}
-use Rattle.memento_index.specs.Counts.{whole, once, count_of, AreBelow, AreAbove, IsTally, beginnings, endings, occurrences}
+use Rattle.memento_index.specs.Counts.{mementos_of, whole, once, count_of, AreBelow, AreAbove, IsTally, beginnings, endings, occurrences}
 use Rattle.std.proofs.lemmas.List.{at_drop_more}
 use Rattle.std.proofs.lemmas.List.Sorted.{sum_by-IsPermutation}
 use Rattle.std.specs.List.{sum_by}
@@ -47,9 +49,28 @@ below_front m (x ∷ rest) behind e up lt = (less_than x.memento e.memento m (la
     last_above n [] behind e above = above.0
     last_above n (x ∷ rest) behind e above = last_above n rest behind e above.1
 
+-- where the last is below a memento, all are
+pub below_last : (m last : Memento) (es : List Counted) (place : ℕ) → slice_get (mementos_of es) place ≡ Some last → place ≡ length (mementos_of es) - 1 → memento_cmp last m ≡ Less → IsTally es → AreBelow m es
+below_last m last [] place at is lt up = tt
+below_last m last (e ∷ []) zero at is lt up = (subst (λ n. memento_cmp n m ≡ Less) (sym (ap (λ o. unwrap_or o e.memento) at)) lt, tt)
+below_last m last (e ∷ []) (suc place) at is lt up = absurd (omega (arith, is))
+below_last m last (e ∷ f ∷ es) zero at is lt up = absurd (omega (arith, is))
+below_last m last (e ∷ f ∷ es) (suc place) at is lt up =
+    let rest = below_last m last (f ∷ es) place at (omega (arith, is)) lt up.2 in
+    (less_than e.memento f.memento m up.1.0 rest.0, rest)
+
 pub below_more : (m : Memento) (es : List Counted) (e : Counted) → AreBelow m es → memento_cmp e.memento m ≡ Less → AreBelow m (es ++ e ∷ [])
 below_more m [] e below lt = (lt, tt)
 below_more m (x ∷ es) e below lt = (below.0, below_more m es e below.1 lt)
+
+-- what stands before a part is a tally too
+pub tally_before : (es behind : List Counted) → IsTally (es ++ behind) → IsTally es
+tally_before [] behind up = tt
+tally_before (e ∷ es) behind up = (up.0, above_before e.memento es behind up.1, tally_before es behind up.2)
+  where
+    above_before : (m : Memento) (es behind : List Counted) → AreAbove m (es ++ behind) → AreAbove m es
+    above_before m [] behind above = tt
+    above_before m (e ∷ es) behind above = (above.0, above_before m es behind above.1)
 
 -- what stands behind a part is a tally too
 tally_behind : (front es : List Counted) → IsTally (front ++ es) → IsTally es

@@ -25,12 +25,11 @@ fn lift(list: &mut Tally, lifted: &mut Tally, memento: &Memento)
     ensures list_room { list.old.room ≤ list.new.room }
     ensures lifted_room { lifted.old.room ≤ lifted.new.room }
 {
-    while let Some(counted) = list.pop() {
-        if counted.memento.cmp(memento).is_lt() {
-            list.push(counted);
-            return;
+    while !list.is_below(memento) {
+        match list.pop() {
+            Some(counted) => lifted.push(counted),
+            None => return,
         }
-        lifted.push(counted);
     }
 }
 

@@ -1,7 +1,7 @@
 // Mementos beside the numbers of archives that show them.
 ghost use Rattle.std.specs.Prelude.{◌≡◌, ◌+◌, ◌<◌, ◌≤◌, [], ◌∷◌, ◌++◌, IfNone, IfSome, IfOk, length, map as map_list};
-ghost use Rattle.std.specs.Prelude.{option_to_list};
-ghost use Rattle.memento_index.specs.Counts.{mementos_of};
+ghost use Rattle.std.specs.Prelude.{option_to_list, IsTrue};
+ghost use Rattle.memento_index.specs.Counts.{mementos_of, AreBelow, IsTally};
 
 use crate::counted::Counted;
 use memento_time::{Memento, NoMemory};
@@ -78,6 +78,16 @@ impl Tally {
     {
         self.mementos.push(counted.memento).unwrap();
         self.counts.push(counted.count).unwrap();
+    }
+
+    // Whether all are below a memento: whether the last is, in a list in order.
+    pub fn is_below(&self, memento: &Memento) -> bool
+        ensures { IsTrue result → IsTally self.now.entries → AreBelow memento.now self.now.entries }
+    {
+        match self.mementos.last() {
+            Some(last) => last.cmp(memento).is_lt(),
+            None => true,
+        }
     }
 
     // Takes the last memento out.

@@ -4,11 +4,12 @@ ghost use Rattle.std.specs.Prelude.{length};
 ghost use Rattle.timemap_reader.specs.Answer.{IsAnswer, base_of, words_of};
 ghost use Rattle.timemap_reader.specs.Found.{IsFoundIn};
 ghost use Rattle.timemap_reader.specs.Page.{IsPageOf, left_out, named};
-ghost use Rattle.timemap_reader.specs.Role.{further_of, is_further_link, is_memento_link, memento_of, rel_of};
+ghost use Rattle.timemap_reader.specs.Role.{further_of, is_further_link, is_memento_link, memento_of};
+ghost use Rattle.timemap_reader.specs.Said.{IsRoleOf};
 
 use crate::address::is_http;
 use crate::firsts::firsts;
-use crate::role;
+use crate::role::{self, Role};
 use link_format::{LinkFault, LinkRef, Links, read_links};
 use memento_time::{Clean, Items, Memento, MementosBuilder, in_order};
 use std::alloc::{AllocError, Global};
@@ -86,9 +87,9 @@ impl Found {
         alloc: Global,
         base: &Url,
         link: &LinkRef<'_>,
-        rel: &[u8],
+        role: &Role<'_>,
     ) -> Result<(), AllocError>
-        requires rel { rel.now ≡ rel_of link.now }
+        requires role { IsRoleOf link.now role.now }
         requires room { self.old.dropped < 2 ^ 63 }
         ensures mementos { OnOk result (self.new.mementos
             ≡ self.old.mementos ++ named is_memento_link (memento_of base.now) (link.now ∷ [])) }
@@ -97,10 +98,10 @@ impl Found {
             ≡ self.old.dropped + left_out is_memento_link (memento_of base.now) (link.now ∷ [])) }
         ensures bound { OnOk result (self.new.dropped ≤ self.old.dropped + 1) }
     {
-        if !role::is_memento_link(rel) {
+        if !role::is_memento_link(&role.rel) {
             return Ok(());
         }
-        if !role::push_memento(&mut self.mementos, alloc, base, link)? {
+        if !role::push_memento(&mut self.mementos, alloc, base, link, role)? {
             self.dropped += 1;
         }
         Ok(())
@@ -112,9 +113,9 @@ impl Found {
         alloc: Global,
         base: &Url,
         link: &LinkRef<'_>,
-        rel: &[u8],
+        role: &Role<'_>,
     ) -> Result<(), AllocError>
-        requires rel { rel.now ≡ rel_of link.now }
+        requires role { IsRoleOf link.now role.now }
         requires room { self.old.dropped < 2 ^ 63 }
         ensures mementos { OnOk result (self.new.mementos ≡ self.old.mementos) }
         ensures further { OnOk result (self.new.further.items
@@ -123,7 +124,7 @@ impl Found {
             ≡ self.old.dropped + left_out is_further_link (further_of base.now) (link.now ∷ [])) }
         ensures bound { OnOk result (self.new.dropped ≤ self.old.dropped + 1) }
     {
-        if !role::is_further_link(link, rel)? {
+        if !role::is_further_link(link, &role.rel)? {
             return Ok(());
         }
         match role::further(alloc, base, link)? {
@@ -146,9 +147,9 @@ fn find(alloc: Global, base: &Url, links: &Links<'_>) -> Result<Found, AllocErro
     };
     for k in 0..links.len() {
         let link = links.link(k);
-        let rel = role::rel(&link)?;
-        found.add_memento(alloc, base, &link, &rel)?;
-        found.add_further(alloc, base, &link, &rel)?;
+        let role = role::read_role(&link)?;
+        found.add_memento(alloc, base, &link, &role)?;
+        found.add_further(alloc, base, &link, &role)?;
     }
     Ok(found)
 }

@@ -1,9 +1,13 @@
 //! What a link of a page is, by its relation types.
-ghost use Rattle.std.specs.Prelude.{◌≡◌, Some, IfOk, OnOk, is_some, codes};
+ghost use Rattle.std.specs.Prelude.{◌≡◌, Some, IfOk, OnOk, is_some, codes, option_map};
 ghost use Rattle.std.specs.Cow.{cow_slice_items};
+ghost use Rattle.std.specs.Option.{option_and_then};
 ghost use Rattle.link_format.specs.Bytes.{is_blank};
 ghost use Rattle.link_format.specs.Values.{first_value};
+ghost use Rattle.memento_time.specs.Blanks.{trim_blanks};
+ghost use Rattle.memento_time.specs.SecondOf.{second_of};
 ghost use Rattle.timemap_reader.specs.Found.{with_found};
+ghost use Rattle.timemap_reader.specs.Said.{IsRoleOf};
 ghost use Rattle.timemap_reader.specs.Role as spec;
 
 use crate::address::{before_byte, further_address, is_same_word, push_memento_at};
@@ -44,14 +48,23 @@ fn has_link_format(link: &LinkRef<'_>) -> Result<bool, AllocError>
     }
 }
 
-/// The value of the link's first `rel`, or an empty one.
-pub(crate) fn rel<'a>(link: &LinkRef<'a>) -> Result<CowSlice<'a, u8>, AllocError>
-    ensures { IfOk result (λ rel. cow_slice_items rel ≡ spec.rel_of link.now) }
+/// What says of a link whether it names a memento, and of which datetime: its first `rel`, or an empty one, and its first
+/// `datetime`, if it has one.
+#[derive(Drop)]
+pub(crate) struct Role<'a> {
+    pub rel: CowSlice<'a, u8>,
+    pub datetime: Option<CowSlice<'a, u8>>,
+}
+
+pub(crate) fn read_role<'a>(link: &LinkRef<'a>) -> Result<Role<'a>, AllocError>
+    ensures { IfOk result (IsRoleOf link.now) }
 {
-    match link.value_ref(b"rel")? {
-        Some(rel) => Ok(rel),
-        None => Ok(CowSlice::Borrowed(&[])),
-    }
+    let (rel, datetime) = link.value_refs(b"rel", b"datetime")?;
+    let rel = match rel {
+        Some(rel) => rel,
+        None => CowSlice::Borrowed(&[]),
+    };
+    Ok(Role { rel, datetime })
 }
 
 /// Whether a link with this `rel` names a memento.
@@ -69,26 +82,30 @@ pub(crate) fn is_further_link(link: &LinkRef<'_>, rel: &[u8]) -> Result<bool, Al
     Ok(lists(rel, b"timemap") && !lists(rel, b"self") && has_link_format(link)?)
 }
 
-fn datetime(link: &LinkRef<'_>) -> Result<Option<Moment>, AllocError>
-    ensures { IfOk result (λ at. at ≡ spec.datetime_of link.now) }
+/// The second that a link's first `datetime` names.
+fn moment(datetime: &Option<CowSlice<'_, u8>>) -> Option<Moment>
+    ensures { result ≡ option_and_then (λ value. second_of (trim_blanks value))
+        (option_map (λ v. cow_slice_items v) datetime.now) }
 {
-    match link.value_ref(b"datetime")? {
-        Some(text) => Ok(Moment::read_imf(trim_blanks(&text))),
-        None => Ok(None),
+    match datetime {
+        Some(text) => Moment::read_imf(trim_blanks(text)),
+        None => None,
     }
 }
 
-/// Adds the memento that the link names. False where its datetime or its address can't be read.
+/// Adds the memento that the link, whose role this is, names. False where its datetime or its address can't be read.
 pub(crate) fn push_memento(
     mementos: &mut MementosBuilder,
     alloc: Global,
     base: &Url,
     link: &LinkRef<'_>,
+    role: &Role<'_>,
 ) -> Result<bool, AllocError>
+    requires { IsRoleOf link.now role.now }
     ensures mementos { OnOk result (mementos.new ≡ with_found mementos.old (spec.memento_of base.now link.now)) }
     ensures found { IfOk result (λ found. found ≡ is_some (spec.memento_of base.now link.now)) }
 {
-    match datetime(link)? {
+    match moment(&role.datetime) {
         Some(at) => push_memento_at(mementos, at, alloc, base, link.target()),
         None => Ok(false),
     }

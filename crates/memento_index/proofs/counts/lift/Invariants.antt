@@ -2,8 +2,8 @@ use Rattle.std.proofs.Common.{◌≡◌, ◌+◌, ◌≤◌, length}
 use Rattle.memento_index.specs.Counts.{whole}
 use Rattle.memento_index.proofs.counts.lift.Given as goal
 
-abbrev pub invariant-loop-counted : goal.invariant-loop-counted
-invariant-loop-counted l = record {
+abbrev pub invariant-loop-list : goal.invariant-loop-list
+invariant-loop-list l = record {
   whole : whole l.list.entries l.lifted.entries ≡ whole l.initial.list.entries l.initial.lifted.entries;
   room : length l.list.entries + length l.lifted.entries ≤ l.lifted.room;
   len : length l.list.entries + length l.lifted.entries ≡ length l.initial.list.entries + length l.initial.lifted.entries;
@@ -11,5 +11,5 @@ invariant-loop-counted l = record {
   lifted_room : l.initial.lifted.room ≤ l.lifted.room;
 }
 
-abbrev pub decreases-loop-counted : goal.decreases-loop-counted
-decreases-loop-counted l = length l.list.entries
+abbrev pub decreases-loop-list : goal.decreases-loop-list
+decreases-loop-list l = length l.list.entries
