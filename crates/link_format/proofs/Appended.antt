@@ -1,8 +1,7 @@
 -- Pieces that are appended one after the other.
-use Rattle.std.proofs.Common.{◌≡◌, ◌≤◌, arith, ℕ, true, List, [], ◌∷◌, ◌++◌, length, take, refl, sym, ap, ◌∙◌, append_assoc, inl, inr}
-use Rattle.std.specs.Prelude.{◌==◌, ◌||◌, not}
-use Rattle.std.specs.List.{list_all}
-use Rattle.std.proofs.lemmas.Bool.{cases_Bool, and_parts, not-true}
+use Rattle.std.proofs.Common.{◌≡◌, ◌≤◌, arith, ℕ, List, [], ◌∷◌, ◌++◌, length, take, refl, sym, ap, ◌∙◌, append_assoc, inl, inr}
+use Rattle.std.specs.Prelude.{◌==◌, ◌||◌}
+use Rattle.std.proofs.lemmas.Bool.{cases_Bool}
 use Rattle.std.proofs.lemmas.List.{append-nil}
 use Rattle.std.proofs.Math.Seq.{take-append_seam}
 use Rattle.link_format.specs.Bytes.{is_plain}
@@ -28,13 +27,6 @@ escape_plain (b ∷ value) =
       | inl is ↦ let k = plain_parts b is in rw (k.1, k.0, k.2) (ap (λ (t : List ℕ). b ∷ t) (escape_plain value))
       | inr not_plain ↦ rw not_plain refl
     ]
-
--- what has nothing to escape is written as it is
-pub escape_nothing : (value : List ℕ) → list_all (λ b. not (b == 34 || b == 92)) value ≡ true → escape value ≡ value
-escape_nothing [] all = refl
-escape_nothing (b ∷ value) all =
-    let p = and_parts (not (b == 34 || b == 92)) (list_all (λ b. not (b == 34 || b == 92)) value) all in
-    rw (not-true (b == 34 || b == 92) p.0) (ap (λ (t : List ℕ). b ∷ t) (escape_nothing value p.1))
 
 pub escape_append : (first rest : List ℕ) → escape (first ++ rest) ≡ escape first ++ escape rest
 escape_append [] rest = refl
