@@ -1,12 +1,12 @@
 -- Pieces that are appended one after the other.
-use Rattle.std.proofs.Common.{◌≡◌, ◌≤◌, arith, ℕ, List, [], ◌∷◌, ◌++◌, length, take, refl, sym, ap, ◌∙◌, append_assoc, inl, inr}
+use Rattle.std.proofs.Common.{◌≡◌, ◌≤◌, arith, ℕ, List, [], ◌∷◌, ◌++◌, length, take, Some, refl, sym, ap, ◌∙◌, append_assoc, inl, inr}
 use Rattle.std.specs.Prelude.{◌==◌, ◌||◌}
 use Rattle.std.proofs.lemmas.Bool.{cases_Bool}
 use Rattle.std.proofs.lemmas.List.{append-nil}
 use Rattle.std.proofs.Math.Seq.{take-append_seam}
 use Rattle.link_format.specs.Bytes.{is_plain}
 use Rattle.link_format.specs.Scan.{front, past}
-use Rattle.link_format.specs.Writing.{Extends, escape}
+use Rattle.link_format.specs.Writing.{Extends, IsPlainValue, escape, param_text}
 use Rattle.link_format.proofs.Quoted.{plain_parts}
 
 pub extends_itself : (before : List ℕ) → Extends before before
@@ -27,6 +27,25 @@ escape_plain (b ∷ value) =
       | inl is ↦ let k = plain_parts b is in rw (k.1, k.0, k.2) (ap (λ (t : List ℕ). b ∷ t) (escape_plain value))
       | inr not_plain ↦ rw not_plain refl
     ]
+
+-- a plain value is written as it is
+pub escape_nothing : (value : List ℕ) → IsPlainValue value → escape value ≡ value
+escape_nothing [] plain = refl
+escape_nothing (b ∷ value) plain =
+    let k = plain_parts b plain.0 in
+    rw (k.1, k.2) (ap (λ (t : List ℕ). b ∷ t) (escape_nothing value plain.1))
+
+-- the pieces of a plain parameter
+pub plain_pieces : (out name value : List ℕ) → IsPlainValue value → ((((out ++ 59 ∷ 32 ∷ []) ++ name) ++ 61 ∷ 34 ∷ []) ++ value) ++ 34 ∷ [] ≡ out ++ param_text name (Some value)
+plain_pieces out name value plain =
+    let quoted : List ℕ = (61 ∷ 34 ∷ []) ++ (value ++ 34 ∷ []) in
+    let parted : (text : List ℕ) → List ℕ = λ text. out ++ 59 ∷ 32 ∷ ((name ++ 61 ∷ 34 ∷ text) ++ 34 ∷ []) in
+    let last : out ++ ((59 ∷ 32 ∷ []) ++ (name ++ quoted)) ≡ out ++ param_text name (Some value) =
+    ap (λ (t : List ℕ). out ++ 59 ∷ 32 ∷ t) (sym (append_assoc name (61 ∷ 34 ∷ value) (34 ∷ []))) ∙ ap parted (sym (escape_nothing value plain)) in
+    append_assoc (((out ++ 59 ∷ 32 ∷ []) ++ name) ++ 61 ∷ 34 ∷ []) value (34 ∷ [])
+    ∙ (append_assoc ((out ++ 59 ∷ 32 ∷ []) ++ name) (61 ∷ 34 ∷ []) (value ++ 34 ∷ [])
+    ∙ (append_assoc (out ++ 59 ∷ 32 ∷ []) name quoted
+    ∙ (append_assoc out (59 ∷ 32 ∷ []) (name ++ quoted) ∙ last)))
 
 pub escape_append : (first rest : List ℕ) → escape (first ++ rest) ≡ escape first ++ escape rest
 escape_append [] rest = refl

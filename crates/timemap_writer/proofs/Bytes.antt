@@ -17,7 +17,7 @@ use Rattle.memento_time.specs.Text.{IsCleanByte}
 use Rattle.memento_time.proofs.CivilLemmas.{civil_time-valid}
 use Rattle.link_format.specs.Bytes.{is_target_byte, is_plain, is_quotable}
 use Rattle.link_format.specs.Grammar.{Each, IsTarget}
-use Rattle.link_format.specs.Writing.{IsValue}
+use Rattle.link_format.specs.Writing.{IsValue, IsPlainValue}
 
 -- each byte passes where all do
 pub Each-from_list_all : (p : ℕ → Bool) (text : List ℕ) → list_all p text ≡ true → Each p text
@@ -91,3 +91,8 @@ imf_fixdate_plain p is =
 pub imf_value : (s : ℕ) → IsSecond s → IsValue (imf s)
 unfolding imf
 imf_value s is = plain_value _ (imf_fixdate_plain (civil_time s) (civil_time-valid s is))
+
+-- and each of its bytes as it is
+pub imf_plain : (s : ℕ) → IsSecond s → IsPlainValue (imf s)
+unfolding imf
+imf_plain s is = Each-from_list_all is_plain _ (imf_fixdate_plain (civil_time s) (civil_time-valid s is))

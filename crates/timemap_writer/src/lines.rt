@@ -2,13 +2,13 @@
 ghost use Rattle.std.specs.Prelude.{◌≡◌, ◌++◌, ◌∷◌, [], ◌≤◌, length, IfOk, OnOk, codes};
 ghost use Rattle.std.specs.Option.{option_copied};
 ghost use Rattle.link_format.specs.Grammar.{IsName, IsTarget};
-ghost use Rattle.link_format.specs.Writing.{IsValue, link_text, params_text};
+ghost use Rattle.link_format.specs.Writing.{IsValue, IsPlainValue, link_text, params_text};
 ghost use Rattle.memento_time.specs.Second.{imf};
 ghost use Rattle.timemap_writer.specs.TimeMap.{datetime_of, original_link, timegate_link, timemap_link};
 ghost use Rattle.timemap_writer.specs.TimeMap.{memento_relations, memento_link};
 
 use crate::service::Service;
-use link_format::{write_param, write_target};
+use link_format::{write_param, write_plain_param, write_target};
 use memento_time::{Memento, NoMemory, Original};
 use std::alloc::Global;
 
@@ -76,10 +76,10 @@ fn address(
     Ok(address)
 }
 
-/// The datetime of the memento, which a quoted text can say.
+/// The datetime of the memento, of which a quoted text says each byte as it is.
 fn datetime(memento: &Memento) -> [u8; 29]
     ensures value { result ≡ imf memento.now.at }
-    ensures valid { IsValue result }
+    ensures plain { IsPlainValue result }
 {
     // Read for its contract: the moment is one that has a date.
     let _second = memento.at.secs();
@@ -93,7 +93,7 @@ fn push_datetime(out: &mut Vec<u8>, name: &[u8], memento: Option<&Memento>) -> R
         ≡ out.old.items ++ params_text (datetime_of name.now (option_copied memento.entry))) }
 {
     if let Some(memento) = memento {
-        write_param(out, name, &datetime(memento))?;
+        write_plain_param(out, name, &datetime(memento))?;
     }
     Ok(())
 }
@@ -110,13 +110,14 @@ pub fn push_memento(
 {
     out.extend_from_slice(b",\n")?;
     write_target(out, memento.uri.as_bytes())?;
-    write_param(out, b"rel", relations(first, last))?;
-    write_param(out, b"datetime", &datetime(memento))?;
+    write_plain_param(out, b"rel", relations(first, last))?;
+    write_plain_param(out, b"datetime", &datetime(memento))?;
     Ok(())
 }
 
 fn relations(first: bool, last: bool) -> &'static [u8]
-    ensures { result.now ≡ memento_relations first last }
+    ensures value { result.now ≡ memento_relations first last }
+    ensures plain { IsPlainValue result.now }
 {
     match (first, last) {
         (true, true) => b"first last memento",

@@ -1,7 +1,7 @@
 use Rattle.std.proofs.Common.{subst, sym, ap, ◌∙◌}
 use Rattle.memento_time.specs.Second.{IsSecond}
-use Rattle.timemap_writer.proofs.Bytes.{imf_value}
+use Rattle.timemap_writer.proofs.Bytes.{imf_plain}
 use Rattle.timemap_writer.proofs.lines.datetime.Goals as goal
 
-pub returns-clause-valid : goal.returns-clause-valid
-returns-clause-valid c = rw c.to_imf.ensures (imf_value c.args.memento.now.at (subst IsSecond c.secs-second.ensures.value c.secs-second.ensures.bound))
+pub returns-clause-plain : goal.returns-clause-plain
+returns-clause-plain c = rw c.to_imf.ensures (imf_plain c.args.memento.now.at (subst IsSecond c.secs-second.ensures.value c.secs-second.ensures.bound))
