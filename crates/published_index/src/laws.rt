@@ -1,8 +1,11 @@
 //! What follows for one gate from its calls, and for the replies of two.
-ghost use Rattle.std.specs.Prelude.{◌≡◌, ℕ, [], ◌∷◌, ◌++◌, List, All, Contains, Some, Ok, fold, map};
+ghost use Rattle.std.specs.Prelude.{◌≡◌, ℕ, [], ◌∷◌, ◌++◌, true, List, All, Contains, Some, Ok, fold, map};
+ghost use Rattle.std.specs.FinMap as finite;
 ghost use mathlib.Core.List.{IsPrefix};
 ghost use Rattle.memento_index.specs.declared.merge.Merge.{Merge};
 ghost use Rattle.harvest_lattice.specs.Knowledge.{Harvested, lat};
+ghost use Rattle.replica_exchange.specs.declared.delta.Delta.{Delta};
+ghost use Rattle.replica_exchange.specs.CursorRule.{fits};
 ghost use Rattle.memento_index.specs.Merges.{adds_of};
 ghost use Rattle.timegate.specs.Reply.{reply};
 ghost use Rattle.timegate.specs.declared.request.Request.{Request};
@@ -11,8 +14,10 @@ ghost use Rattle.replica_events.specs.declared.event.Said.TheVariants.{Replied};
 ghost use Rattle.replica_events.specs.World.{World, Replica, Run, Step, replica, taking, with_replica};
 ghost use Rattle.published_index.specs.Batches.{Batch, fold_of, harvests_of, merges_of};
 ghost use Rattle.published_index.specs.Calls.{Call, Learn, Answer, Calls};
+ghost use Rattle.published_index.specs.Cursors.{Histories, HasReached, IsDeltaOf, with_delta, with_merge, with_publish};
 ghost use Rattle.published_index.specs.Events.{answer_to, event_of, IsReceivable};
 ghost use Rattle.published_index.specs.Passes.{Pass};
+ghost use Rattle.published_index.specs.Views.{MergerView};
 
 /// Whatever a gate is asked and told: the front of an earlier reply begins that of each later one.
 pub fn answers_never_go_back()
@@ -59,4 +64,18 @@ pub fn an_entry_is_an_ask()
 pub fn same_state_same_reply()
     ensures { (base : List ℕ) (first second : List Batch) (q : Request) → lat (fold_of first) ≡ lat (fold_of second)
         → reply base (fold_of first) q ≡ reply base (fold_of second) q }
+{}
+
+/// A merger without cursors claims nothing. Where for each cursor that it holds it has, published or pending, at least
+/// what the first so many merges of that peer's incarnation made, this stays so after each delta of those merges that is
+/// appended, after every other merge, and after a publish.
+pub fn held_cursors_are_reached()
+    ensures first { (histories : Histories) (m : MergerView) → m.cursors ≡ finite.empty → HasReached histories m }
+    ensures delta { (histories : Histories) (m : MergerView) (peer : ℕ) (d : Delta) → HasReached histories m
+        → IsDeltaOf histories peer d → fits (finite.get m.cursors peer) d ≡ true
+        → HasReached histories (with_delta m peer d) }
+    ensures merge { (histories : Histories) (m : MergerView) (merge : Merge) → HasReached histories m
+        → HasReached histories (with_merge m merge) }
+    ensures publish { (histories : Histories) (m : MergerView) → HasReached histories m
+        → HasReached histories (with_publish m) }
 {}

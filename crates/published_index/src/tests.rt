@@ -120,7 +120,7 @@ fn ask_after(gate: &mut Gate, receipt: Receipt, request: &Request) -> Result<Rep
 fn two_merges_are_shown_by_one_publish(rt: HostRuntime) -> Result<(), Fail> {
     let asked = timemap_request(&rt)?;
     let (one, two) = (first_merge(&rt)?, second_merge(&rt)?);
-    let Ok((mut merger, mut gates)) = open(&rt, rt.alloc(), service(&rt)?, 1) else {
+    let Ok((mut merger, mut gates)) = open(&rt, rt.alloc(), service(&rt)?, 1, 1) else {
         return Err(Fail::from("not opened"));
     };
     let first = merger.append(&one);
@@ -166,7 +166,7 @@ fn ask_after_both(gate: &mut Gate, newer: Receipt, older: Receipt, request: &Req
 fn an_older_receipt_that_is_learnt_later_takes_nothing_away(rt: HostRuntime) -> Result<(), Fail> {
     let asked = timemap_request(&rt)?;
     let (one, two) = (first_merge(&rt)?, second_merge(&rt)?);
-    let Ok((mut merger, mut gates)) = open(&rt, rt.alloc(), service(&rt)?, 1) else {
+    let Ok((mut merger, mut gates)) = open(&rt, rt.alloc(), service(&rt)?, 1, 1) else {
         return Err(Fail::from("not opened"));
     };
     let older = publish_merge(&rt, &mut merger, &one);
@@ -184,7 +184,7 @@ fn an_older_receipt_that_is_learnt_later_takes_nothing_away(rt: HostRuntime) -> 
 fn sixty_four_gates_show_what_was_published(rt: HostRuntime) -> Result<(), Fail> {
     let asked = timegate_request(&rt)?;
     let merge = first_merge(&rt)?;
-    let Ok((mut merger, mut gates)) = open(&rt, rt.alloc(), service(&rt)?, 64) else {
+    let Ok((mut merger, mut gates)) = open(&rt, rt.alloc(), service(&rt)?, 64, 1) else {
         return Err(Fail::from("not opened"));
     };
     let appended = merger.append(&merge);
@@ -204,7 +204,7 @@ fn sixty_four_gates_show_what_was_published(rt: HostRuntime) -> Result<(), Fail>
 #[test]
 fn a_gate_is_closed_once_its_merger_is_and_not_before(rt: HostRuntime) -> Result<(), Fail> {
     let asked = timegate_request(&rt)?;
-    let Ok((mut merger, mut gates)) = open(&rt, rt.alloc(), service(&rt)?, 1) else {
+    let Ok((mut merger, mut gates)) = open(&rt, rt.alloc(), service(&rt)?, 1, 1) else {
         return Err(Fail::from("not opened"));
     };
     let Some(mut gate) = gates.pop() else {
@@ -258,7 +258,7 @@ fn ask_and_stay<R: Clock>(
 #[test]
 fn a_gate_that_stays_in_its_entry_keeps_no_other_waiting(rt: HostRuntime) -> Result<(), Fail> {
     let asked = timegate_request(&rt)?;
-    let Ok((merger, mut gates)) = open(&rt, rt.alloc(), service(&rt)?, 2) else {
+    let Ok((merger, mut gates)) = open(&rt, rt.alloc(), service(&rt)?, 2, 1) else {
         return Err(Fail::from("not opened"));
     };
     let flag = AtomicU64::new(0);
@@ -287,7 +287,7 @@ fn publish_one<R: Wait>(
 ) -> Option<(Merger, Gate)>
     ensures { IfSome result (λ made. made.1.base ≡ service) }
 {
-    let Ok((mut merger, mut gates)) = open(rt, alloc, service, 1) else {
+    let Ok((mut merger, mut gates)) = open(rt, alloc, service, 1, 1) else {
         return None;
     };
     let appended = merger.append(merge);
