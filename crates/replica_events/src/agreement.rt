@@ -17,8 +17,8 @@ ghost use Rattle.replica_events.specs.Agreement.{ServesTimeGates, RedirectsWell}
 /// reply; each redirect names a memento of the latest harvests, and none of these lies nearer to the asked datetime.
 ///
 /// `learnt` says it of every course of events. The other clauses say of every world what this rests on: a replica's
-/// reply, unless a delta is asked for, is that of what it has taken, two replicas agree already where the states of what they have taken are the
-/// same, and a TimeGate redirects wherever anything of the original is shown.
+/// reply, unless a delta is asked for, is that of what it has taken, two replicas agree already where the states of
+/// what they have taken are the same, and a TimeGate redirects wherever anything of the original is shown.
 pub fn replicas_agree()
     ensures learnt { (base : List ℕ) (course : Course base) (i j : ℕ) (known other : Knowledge) →
         HasTaken course.world i known → HasTaken course.world j other →
