@@ -3,10 +3,8 @@ use Rattle.std.proofs.Common.{◌≡◌, List, [], ◌∷◌, ◌++◌, fold, re
 use Rattle.std.proofs.lemmas.List.Elements.{Contains-append_left}
 use mathlib.Core.List.{IsPrefix}
 use Rattle.memento_index.specs.declared.merge.Merge.{Merge}
-use Rattle.harvest_lattice.specs.Lattice.{Entries}
-use Rattle.harvest_lattice.specs.Knowledge.{Harvested, lat}
+use Rattle.harvest_lattice.specs.Knowledge.{Harvested}
 use Rattle.memento_index.specs.Merges.{adds_of}
-use Rattle.harvest_lattice.proofs.Knowledge.{lat-append}
 use Rattle.published_index.specs.declared.editions.Edition.{Edition}
 use Rattle.published_index.specs.declared.editions.Change.{Change}
 use Rattle.published_index.specs.declared.editions.Change.TheVariants.{Reach, Add}

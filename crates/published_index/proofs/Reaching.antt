@@ -1,11 +1,10 @@
 -- What a merger's cursors say stays true.
-use Rattle.std.proofs.Common.{◌≡◌, ℕ, ◌<◌, ◌≤◌, Bool, true, false, cond, ◌&&◌, ◌||◌, ◌==◌, List, [], ◌∷◌, ◌++◌, length, take, take_all, Option, Some, None, IfSome, refl, sym, ap, subst, ◌∙◌, append_assoc, append-nil, arith}
+use Rattle.std.proofs.Common.{◌≡◌, ℕ, ◌≤◌, Bool, true, false, cond, ◌&&◌, ◌==◌, List, [], ◌∷◌, ◌++◌, length, take, take_all, Option, Some, None, IfSome, refl, sym, ap, subst, ◌∙◌, append_assoc, append-nil, arith}
 use Rattle.std.specs.Prelude.{nat_le, nat_lt}
 use Rattle.std.specs.List.{flat_map}
 use Rattle.std.specs.Ordering.{nat_cmp, eq_by_cmp}
 use Rattle.std.specs.Cmp.{nat_cmp_total, Equal-is}
 use Rattle.std.specs.FinMap as map
-use Rattle.std.proofs.lemmas.Bool.{true≢false}
 use Rattle.std.proofs.lemmas.Bool.Decides.{nat_tests}
 use Rattle.std.proofs.lemmas.List.{length-take}
 use Rattle.memento_index.specs.declared.merge.Merge.{Merge}
@@ -18,9 +17,9 @@ use Rattle.harvest_lattice.proofs.Knowledge.{at_most_nil, lat-adds}
 use Rattle.replica_exchange.specs.declared.cursor.Cursor.{Cursor}
 use Rattle.replica_exchange.specs.declared.delta.Delta.{Delta}
 use Rattle.replica_exchange.specs.Stamps.{StampedState, IsStamped, state_after, entries_above}
-use Rattle.replica_exchange.specs.CursorRule.{Held, start_from, delta_from, fits, moved, taken_from}
+use Rattle.replica_exchange.specs.CursorRule.{Held, start_from, fits, moved}
 use Rattle.replica_exchange.proofs.StampLemmas.{state_append, state_push, take_take, prefixes_at_most, above_suffices}
-use Rattle.published_index.specs.Batches.{Batch, merges_of}
+use Rattle.published_index.specs.Batches.{merges_of}
 use Rattle.published_index.specs.Cursors.{Histories, IsDeltaOf, HasReached, state_of, with_merge, with_delta, with_publish}
 use Rattle.published_index.specs.Views.{MergerView}
 use Rattle.published_index.proofs.Folding.{merges-append}

@@ -1,6 +1,6 @@
 use Rattle.std.proofs.Common.{◌≡◌, refl, subst, sym}
 use Rattle.memento_index.specs.declared.merge.Merge.{Merge}
-use Rattle.replica_exchange.specs.Stamps.{StampedState, IsAbsorbed}
+use Rattle.replica_exchange.specs.Stamps.{IsAbsorbed}
 use Rattle.published_index.specs.declared.editions.Edition.{Edition}
 use Rattle.published_index.specs.declared.editions.Change.{Change}
 use Rattle.published_index.specs.declared.editions.Change.TheVariants.{Add}
