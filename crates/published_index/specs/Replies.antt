@@ -7,7 +7,8 @@ use Rattle.timegate.specs.Reply.{reply_of}
 use Rattle.published_index.specs.Batches.{Batch, merges_of}
 
 -- the reply of one that made of the front's merges, in this incarnation, its state and stamps
-pub record IsReplyFrom (base : List ℕ) (incarnation : ℕ) (front : List Batch) (q : Request) (made : Reply) : Type 0 where
+pub record IsReplyFrom (base : List ℕ) (incarnation : ℕ) (front : List Batch) (q : Request) (made : Reply)
+    : Type 0 where
   pub stamped : StampedState
   pub merges : IsStamped (merges_of front) stamped
   pub own : stamped.incarnation ≡ incarnation

@@ -32,7 +32,8 @@ is_same_entry a b = same_code ((coded_option coded_kept).code a) ((coded_option 
 
 -- the stamp at a key once the state is this: where the entry has changed it is the new number
 abbrev pub stamp_with : StampedState → Entries → Key → Option ℕ
-stamp_with s now k = cond (is_same_entry (map.get now k) (map.get s.entries k)) (map.get s.stamps k) (Some (s.number + 1))
+stamp_with s now k =
+    cond (is_same_entry (map.get now k) (map.get s.entries k)) (map.get s.stamps k) (Some (s.number + 1))
 
 -- the stamps of all keys
 abbrev pub stamps_with : StampedState → Entries → Stamps

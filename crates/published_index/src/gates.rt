@@ -18,8 +18,8 @@ use timemap_writer::Service;
 
 /// Answers requests from what is published, and never waits. It can be moved to a thread of its own.
 ///
-/// Contracts see it as its opening and incarnation, the base of its service, and a pass: the front, which is the list of
-/// batches that its last reply was made from, and the longest list that it was told since.
+/// Contracts see it as its opening and incarnation, the base of its service, and a pass: the front, which is the list
+/// of batches that its last reply was made from, and the longest list that it was told since.
 #[derive(Drop)]
 pub struct Gate {
     pub(crate) alloc: Global,

@@ -1,5 +1,6 @@
 //! What follows for one gate from its calls, and for the replies of two.
-ghost use Rattle.std.specs.Prelude.{◌≡◌, ℕ, ◌+◌, ◌≤◌, [], ◌∷◌, ◌++◌, true, length, List, All, Contains, Some, Ok, fold, map};
+ghost use Rattle.std.specs.Prelude.{◌≡◌, ℕ, ◌+◌, ◌≤◌, [], ◌∷◌, ◌++◌, true, length, List, All, Contains, Some};
+ghost use Rattle.std.specs.Prelude.{Ok, fold, map};
 ghost use Rattle.std.specs.FinMap as finite;
 ghost use mathlib.Core.List.{IsPrefix};
 ghost use Rattle.memento_index.specs.declared.merge.Merge.{Merge};
@@ -72,8 +73,8 @@ pub fn same_state_same_reply()
 {}
 
 /// A merger without cursors claims nothing. Where for each cursor that it holds it has, published or pending, at least
-/// what the first so many merges of that peer's incarnation made, this stays so after each delta of those merges that is
-/// appended, after every other merge, and after a publish.
+/// what the first so many merges of that peer's incarnation made, this stays so after each delta of those merges that
+/// is appended, after every other merge, and after a publish.
 pub fn held_cursors_are_reached()
     ensures first { (histories : Histories) (m : MergerView) → m.cursors ≡ finite.empty → HasReached histories m }
     ensures delta { (histories : Histories) (m : MergerView) (peer : ℕ) (d : Delta) → HasReached histories m

@@ -103,9 +103,9 @@ impl Merger {
     /// Makes all that is pending one batch at the end of the published list, perhaps an empty one, and gives a receipt
     /// of the whole list. Gates show all of the batch or nothing of it.
     ///
-    /// It is refused where a growth is, or where the merges of the incarnation are as many as a number of 64 bits counts.
-    /// It may wait for gates that are about to answer from what was published before. Takes time in what is pending and
-    /// in what the publish before took.
+    /// It is refused where a growth is, and where the merges are more than a number of 64 bits counts. It may wait for
+    /// gates that are about to answer from what was published before. Takes time in what is pending and in what the
+    /// publish before took.
     pub fn publish<R: Wait>(&mut self, rt: &R) -> Result<Receipt, PublishRefused>
         ensures ok { OnOk result (self.new ≡ with_publish self.old) }
         ensures receipt { IfOk result
