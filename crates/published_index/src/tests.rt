@@ -434,7 +434,7 @@ fn a_delta_behind_a_gap_is_refused(rt: HostRuntime) -> Result<(), Fail> {
         return Err(Fail::from("not published"));
     };
     let refused = match open(&rt, rt.alloc(), other, 1, 8) {
-        Ok((mut fresh, _)) => {
+        Ok((mut fresh, _gates)) => {
             let refused = is_gap(&rt, &mut gate, &mut fresh, end_of_one());
             fresh.close(&rt);
             refused

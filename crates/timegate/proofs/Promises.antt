@@ -111,7 +111,7 @@ delta_elsewhere q other None = tt
 delta_elsewhere q other (Some cursor) = other
 
 -- the first route that fits
-abbrev first_of : Bool → Bool → Bool → Bool → Bool → Bool → Route → Route → Route → Route
+abbrev pub first_of : Bool → Bool → Bool → Bool → Bool → Bool → Route → Route → Route → Route
 first_of refused state whole from gate map_here delta_from_route gate_route map_route =
     if refused then BadMethod
     else if state then State
@@ -208,24 +208,24 @@ map_at : (asked : List (List ℕ)) (original : List ℕ)
 unfolding route_of
 map_at asked original = refl
 
-abbrev asking : List ℕ → List ℕ → List (List ℕ) → Request
+abbrev pub asking : List ℕ → List ℕ → List (List ℕ) → Request
 asking method target asked = record { method = method; target = target; asked = asked }
 
-at_target : (q : Request) (target : List ℕ) → q.method ≡ codes "GET" → q.target ≡ target → route_of q ≡ route_of (asking (codes "GET") target q.asked)
-at_target q target method same =
-    ap (λ (m : List ℕ). route_of (asking m q.target q.asked)) method ∙ ap (λ (t : List ℕ). route_of (asking (codes "GET") t q.asked)) same
+pub at_target : (q : Request) (method target : List ℕ) → q.method ≡ method → q.target ≡ target → route_of q ≡ route_of (asking method target q.asked)
+at_target q method target named same =
+    ap (λ (m : List ℕ). route_of (asking m q.target q.asked)) named ∙ ap (λ (t : List ℕ). route_of (asking method t q.asked)) same
 
 gate_served : (base original : List ℕ) (q : Request) → original_at original ≡ Some original → q.method ≡ codes "GET"
     → base ++ q.target ≡ timegate_address base original → route_of q ≡ timegate_route q.asked original
 gate_served base original q names method address =
     let target : q.target ≡ codes "/timegate/" ++ original = append_cancel_left base q.target (codes "/timegate/" ++ original) (address ∙ append_assoc base (codes "/timegate/") original) in
-    at_target q (codes "/timegate/" ++ original) method target ∙ gate_at q.asked original ∙ ap (original_route (timegate_route q.asked)) names
+    at_target q (codes "GET") (codes "/timegate/" ++ original) method target ∙ gate_at q.asked original ∙ ap (original_route (timegate_route q.asked)) names
 
 map_served : (base original : List ℕ) (q : Request) → original_at original ≡ Some original → q.method ≡ codes "GET"
     → base ++ q.target ≡ timemap_address base original → route_of q ≡ TimeMap original
 map_served base original q names method address =
     let target : q.target ≡ codes "/timemap/link/" ++ original = append_cancel_left base q.target (codes "/timemap/link/" ++ original) (address ∙ append_assoc base (codes "/timemap/link/") original) in
-    at_target q (codes "/timemap/link/" ++ original) method target ∙ map_at q.asked original ∙ ap (original_route TimeMap) names
+    at_target q (codes "GET") (codes "/timemap/link/" ++ original) method target ∙ map_at q.asked original ∙ ap (original_route TimeMap) names
 
 -- what stands there of an original that names itself
 pub served : (base original : List ℕ) → NamesItself original → IsServed base original

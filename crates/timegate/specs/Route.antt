@@ -1,9 +1,10 @@
 -- What a request asks for: the TimeGate or the TimeMap of an original, the state bytes, a delta, or the reason that it
 -- is refused.
 use Rattle.std.specs.Prelude.{◌≡◌, ℕ, Bool, not, ◌&&◌, List, [], ◌∷◌, Option, None, Some, drop, length, codes, bytes_eq}
-use Rattle.std.specs.Prelude.{nat_eq, if◌then◌else◌}
+use Rattle.std.specs.Prelude.{◌<◌, ◌^◌, ◌++◌, ◌⊎◌, IfSome, nat_eq, if◌then◌else◌}
 use Rattle.std.specs.List.{starts_with}
 use Rattle.std.specs.Str.{is_utf8}
+use Rattle.std.specs.Fmt.{decimal}
 use Rattle.memento_time.specs.SecondOf.{asked_of}
 use Rattle.text_fields.specs.Decimals.{number_of}
 use Rattle.text_fields.specs.Parts.{parts_at}
@@ -124,6 +125,21 @@ route_of q =
     else if is_timegate q then original_route (timegate_route q.asked) (original_at (drop (length timegates) q.target))
     else if is_timemap q then original_route TimeMap (original_at (drop (length timemaps) q.target))
     else NoRoute
+
+-- the target of the delta from a cursor, or from none
+abbrev pub delta_target : Option Cursor → List ℕ
+delta_target None = codes "/delta"
+delta_target (Some c) = deltas ++ decimal c.incarnation ++ slash ∷ decimal c.number
+
+-- its numbers have 64 bits
+abbrev pub IsCursor : Cursor → Type 0
+IsCursor c = (c.incarnation < 2 ^ 64) × (c.number < 2 ^ 64)
+
+-- a GET or HEAD of the target of this delta
+pub record AsksDelta (q : Request) (cursor : Option Cursor) : Type 0 where
+  pub method : (q.method ≡ codes "GET") ⊎ (q.method ≡ codes "HEAD")
+  pub fits : IfSome cursor IsCursor
+  pub target : q.target ≡ delta_target cursor
 
 -- a reply follows from the harvests that were taken, and from nothing else that a replica keeps
 abbrev pub IsOfTaken : Request → Type 0

@@ -2,11 +2,12 @@
 ghost use Rattle.std.specs.Prelude.{◌≡◌, ◌↔◌, ◌∷◌, [], ℕ, List, Option, Contains, codes, if◌then◌else◌};
 ghost use Rattle.harvest_lattice.specs.Knowledge.{Harvested, lat};
 ghost use Rattle.replica_exchange.specs.Stamps.{StampedState};
+ghost use Rattle.replica_exchange.specs.declared.cursor.Cursor.{Cursor};
 ghost use Rattle.timegate.specs.declared.request.Request.{Request};
-ghost use Rattle.timegate.specs.declared.route.Route.TheVariants.{TimeGate};
+ghost use Rattle.timegate.specs.declared.route.Route.TheVariants.{Delta, TimeGate};
 ghost use Rattle.timegate.specs.Redirect.{Redirects, IsGateReply};
 ghost use Rattle.timegate.specs.Reply.{reply, reply_of};
-ghost use Rattle.timegate.specs.Route.{IsOfTaken, is_timegate, route_of};
+ghost use Rattle.timegate.specs.Route.{AsksDelta, IsOfTaken, is_timegate, route_of};
 ghost use Rattle.timegate.specs.Promises.{as_get, without_body, vary_values, AreInOrder};
 
 /// But for the deltas, a reply is a function of the state of the harvests that were taken.
@@ -49,4 +50,10 @@ pub fn timegates_vary()
 /// The headers stand in the order of `Header`, and none twice.
 pub fn headers_stand_in_order()
     ensures { (base : List ℕ) (s : StampedState) (q : Request) → AreInOrder (reply_of base s q).headers }
+{}
+
+/// A delta is asked for at `/delta`, and one from a cursor behind `/delta/` at the decimals of its incarnation and its
+/// number with a slash between. No other request asks for one.
+pub fn deltas_stand_at_their_cursors()
+    ensures { (q : Request) (cursor : Option Cursor) → (route_of q ≡ Delta cursor) ↔ AsksDelta q cursor }
 {}
