@@ -6,7 +6,7 @@ ghost use Rattle.aggregator.specs.Lines.{round_words};
 use crate::runtimes::SocketRuntime;
 use crate::settings::Settings;
 use harvester::{Job, Outcome, have_first_urls, run_round};
-use hyper_edge::{HyperFetch, pull_state};
+use hyper_edge::{HyperFetch, pull_delta};
 use memento_index::Merge;
 use memento_time::{ArchiveName, Clean, Original};
 use published_index::Merger;
@@ -24,7 +24,7 @@ pub(crate) struct Round {
     jobs: u64,
     /// Harvests that were appended.
     harvests: u64,
-    /// Peers' states that were appended.
+    /// Peers' deltas that were appended.
     pulls: u64,
     /// Whether what was appended is published; else it stays pending.
     published: bool,
@@ -59,8 +59,8 @@ impl Round {
         for (archive, timemap) in &settings.archives {
             round.harvest(rt, settings, merger, *archive, timemap, revision);
         }
-        for peer in &settings.peers {
-            round.pull(rt, merger, peer);
+        for (number, peer) in (1..).zip(&settings.peers) {
+            round.pull(rt, merger, number, peer);
         }
         round.published = merger.publish(rt).is_ok();
         round
@@ -114,15 +114,15 @@ impl Round {
         }
     }
 
-    // Appends what a peer knows, where it answers with a state.
-    fn pull<R>(&mut self, rt: &R, merger: &mut Merger, peer: &Clean)
+    // Appends what the peer of this number has learnt since it was pulled last, where it answers with a delta.
+    fn pull<R>(&mut self, rt: &R, merger: &mut Merger, number: u64, peer: &Clean)
     where
         R: SocketRuntime,
     {
-        let Ok(state) = pull_state(rt, peer) else {
+        let Ok(delta) = pull_delta(rt, peer, merger.cursor(number)) else {
             return;
         };
-        if merger.append(&Merge::State(state)).is_ok() {
+        if merger.append_delta(number, &delta).is_ok() {
             self.pulls = self.pulls.saturating_add(1);
         }
     }
@@ -171,15 +171,22 @@ fn job_of(
     })
 }
 
-// The clock's seconds since 1970, and 0 before or where there is no clock.
-fn seconds_now(rt: &impl Clock) -> u64 {
+// What has passed since 1970 by the clock: nothing before, or where there is no clock.
+fn passed_since_1970(rt: &impl Clock) -> Duration {
     let Ok(now) = SystemTime::now(rt) else {
-        return 0;
+        return Duration::ZERO;
     };
-    match now.duration_since(UNIX_EPOCH) {
-        Ok(passed) => passed.as_secs(),
-        Err(_) => 0,
-    }
+    now.duration_since(UNIX_EPOCH).unwrap_or(Duration::ZERO)
+}
+
+// The revision of the harvests of a round: the clock's seconds since 1970.
+fn seconds_now(rt: &impl Clock) -> u64 {
+    passed_since_1970(rt).as_secs()
+}
+
+/// The incarnation of a replica that starts now: the clock's nanoseconds since 1970, as far as 64 bits tell them.
+pub(crate) fn nanoseconds_now(rt: &impl Clock) -> u64 {
+    u64::try_from(passed_since_1970(rt).as_nanos()).unwrap_or(u64::MAX)
 }
 
 /// Waits as long as the settings say between two rounds.

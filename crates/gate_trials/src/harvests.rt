@@ -7,6 +7,9 @@ use std::alloc::Global;
 use timegate::Request;
 use timemap_writer::Service;
 
+/// The incarnation of every merger here: nobody asks for deltas.
+pub(crate) const INCARNATION: u64 = 1;
+
 /// 1 January 2000.
 const FIRST_SECOND: u64 = 946_684_800;
 

@@ -1,7 +1,7 @@
 //! Publishes and questions, each called again where memory was refused.
 ghost use Rattle.std.specs.Prelude.{◌≡◌, All, IfOk};
 
-use crate::harvests::{merge, request, service};
+use crate::harvests::{INCARNATION, merge, request, service};
 use crate::replies::is_same;
 use anyhow::{Result, anyhow, bail};
 use memento_index::Merge;
@@ -31,7 +31,7 @@ fn make_play(alloc: Global) -> Result<Play> {
 fn begin<R: Wait>(rt: &R, alloc: Global) -> Result<(Merger, Vec<Gate>)>
     ensures { IfOk result (λ begun. All (λ gate. gate.opening ≡ begun.0.opening) begun.1.items) }
 {
-    Ok(open(rt, alloc, service(alloc)?, 1)?)
+    Ok(open(rt, alloc, service(alloc)?, 1, INCARNATION)?)
 }
 
 /// The reply, at the second try where the first is refused for want of memory.

@@ -1,7 +1,7 @@
 //! Rounds of a publish beside a gate that isn't told of it.
 ghost use Rattle.std.specs.Prelude.{◌≡◌};
 
-use crate::harvests::{merge, request, service};
+use crate::harvests::{INCARNATION, merge, request, service};
 use anyhow::{Result, bail};
 use memento_index::Merge;
 use published_index::{Gate, GateFault, Merger, open};
@@ -93,7 +93,7 @@ fn play_once<R: Threads + Wait + Sync>(
     merge: &Merge,
     request: &Request,
 ) -> Result<()> {
-    let (mut merger, mut gates) = open(rt, alloc, service, 2)?;
+    let (mut merger, mut gates) = open(rt, alloc, service, 2, INCARNATION)?;
     let appended = merger.append(merge);
     let mut seen = (Shown::Other, false);
     if let (Some(informed), Some(other)) = (gates.pop(), gates.pop()) {

@@ -1,6 +1,6 @@
 //! How many replies a second gates give, how long a publish takes and how much memory, over an index of 1,000,000
 //! mementos.
-use crate::harvests::{many, question, service};
+use crate::harvests::{INCARNATION, many, question, service};
 use anyhow::{Context, Result, bail};
 use published_index::{Gate, MOST_GATES, Merger, open};
 use std::alloc::Global;
@@ -68,7 +68,7 @@ fn fill<R: Wait>(rt: &R, alloc: Global, merger: &mut Merger) -> Result<()> {
 
 /// Publishes 1,000,000 mementos, for whoever watches how much memory that takes.
 pub(crate) fn hold<R: Wait>(rt: &R, alloc: Global) -> Result<()> {
-    let (mut merger, _gates) = open(rt, alloc, service(alloc)?, 1)?;
+    let (mut merger, _gates) = open(rt, alloc, service(alloc)?, 1, INCARNATION)?;
     let filled = fill(rt, alloc, &mut merger);
     merger.close(rt);
     filled
@@ -182,7 +182,7 @@ pub(crate) fn measure_readers<R: Threads + Wait + Clock + Print + Sync>(
     if gates == 0 || gates > MOST_GATES {
         bail!("there are 1 to {MOST_GATES} gates");
     }
-    let (mut merger, made) = open(rt, alloc, service(alloc)?, gates)?;
+    let (mut merger, made) = open(rt, alloc, service(alloc)?, gates, INCARNATION)?;
     let speeds = measure_gates(rt, alloc, &mut merger, made);
     merger.close(rt);
     let Speeds {
@@ -229,7 +229,7 @@ fn time_publishes<R: Wait + Clock + Print>(
 
 /// Prints how long publishes take, by the number of pending harvests of 100 mementos.
 pub(crate) fn measure_publishes<R: Wait + Clock + Print>(rt: &R, alloc: Global) -> Result<()> {
-    let (mut merger, _gates) = open(rt, alloc, service(alloc)?, 1)?;
+    let (mut merger, _gates) = open(rt, alloc, service(alloc)?, 1, INCARNATION)?;
     let timed = time_publishes(rt, alloc, &mut merger);
     merger.close(rt);
     timed

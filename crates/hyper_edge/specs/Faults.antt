@@ -27,9 +27,9 @@ edge_words edge.Bind = codes "an address that can't be bound"
 edge_words edge.Accept = codes "no further connection"
 edge_words edge.NoMemory = codes "no memory"
 
--- why a peer's state isn't pulled
+-- why a peer's delta isn't pulled
 abbrev pub pull_words : PullFault → List ℕ
 pull_words pull.Failed = codes "no answer"
 pull_words (pull.Status status) = codes "status " ++ decimal status
-pull_words pull.BadState = codes "not the text of a state"
+pull_words pull.BadState = codes "not the text of a delta"
 pull_words pull.NoMemory = codes "no memory"

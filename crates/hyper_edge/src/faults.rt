@@ -41,14 +41,14 @@ pub enum EdgeFault {
     NoMemory,
 }
 
-/// Why a peer's state isn't pulled.
+/// Why a peer's delta isn't pulled.
 #[derive(Clone, Copy, Debug, PartialEq, Eq)]
 pub enum PullFault {
     /// No answer came.
     Failed,
     /// The peer answered with another status than 200.
     Status(u16),
-    /// The body is no state's text, or longer than 268,435,456 bytes.
+    /// The body is no delta's text, or longer than 268,435,456 bytes.
     BadState,
     /// The allocator refused a growth.
     NoMemory,
@@ -96,7 +96,7 @@ impl fmt::Display for PullFault {
         match self {
             PullFault::Failed => f.write_str("no answer"),
             PullFault::Status(status) => write!(f, "status {status}"),
-            PullFault::BadState => f.write_str("not the text of a state"),
+            PullFault::BadState => f.write_str("not the text of a delta"),
             PullFault::NoMemory => f.write_str("no memory"),
         }
     }

@@ -23,7 +23,7 @@ pub use answers::Answers;
 pub use binding::{Bound, bind};
 pub use faults::{EdgeFault, FormFault, PullFault, RespondFault};
 pub use fetching::HyperFetch;
-pub use pulls::pull_state;
+pub use pulls::pull_delta;
 pub use requests::request_of;
 pub use responses::form;
 pub use services::GateService;

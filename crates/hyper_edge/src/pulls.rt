@@ -1,46 +1,55 @@
-//! Pulls the states of peers.
-ghost use Rattle.std.specs.Prelude.{◌≢◌, ◌≤◌, IfErr, IfOk, length};
-ghost use Rattle.replica_exchange.specs.StateText.{IsState, state_text};
+//! Pulls what peers have learnt.
+ghost use Rattle.std.specs.Prelude.{◌≡◌, ◌≢◌, ◌≤◌, ◌++◌, IfErr, IfOk, length};
+ghost use Rattle.replica_exchange.specs.DeltaText.{IsDelta, delta_text};
+ghost use Rattle.timegate.specs.Route.{delta_target};
 
 use crate::exchanges::get;
 use crate::faults::PullFault;
-use harvest_lattice::State;
 use memento_time::Clean;
-use replica_exchange::read_state;
+use replica_exchange::{Cursor, Delta, read_delta};
 use std::alloc::{AllocGlobal, Global};
 use std::net::{Net, TcpListener, TcpStream};
 use std::random::RandomSource;
 use std::sync::Wait;
 use std::time::Clock;
 
-/// The most bytes that a state's text may have.
-const MAX_STATE: usize = 268_435_456;
+/// The most bytes that a delta's text may have.
+const MAX_DELTA: usize = 268_435_456;
 
-/// The state of a peer: what it answers for `/state` under its base, which is kept without the last `/`.
-pub fn pull_state<R>(rt: &R, peer: &Clean) -> Result<State, PullFault>
+/// The delta of a peer from a cursor, or from none: what it answers for `/delta/I/N` or `/delta` under its base, which
+/// is kept without the last `/`.
+pub fn pull_delta<R>(rt: &R, peer: &Clean, cursor: Option<Cursor>) -> Result<Delta, PullFault>
 where
     R: Wait + Clock + Net<Listener = TcpListener, Stream = TcpStream> + RandomSource + AllocGlobal,
-    ensures state { IfOk result IsState }
-    ensures bounded { IfOk result (λ state. length (state_text state) ≤ 268435456) }
+    ensures delta { IfOk result IsDelta }
+    ensures bounded { IfOk result (λ delta. length (delta_text delta) ≤ 268435456) }
     ensures status { IfErr result (λ fault. fault ≢ PullFault.Status 200) }
 {
     let alloc = rt.alloc();
-    let url = state_url(alloc, peer)?;
-    let answer = get(rt, url.as_str(), MAX_STATE)?;
+    let url = delta_url(alloc, peer, cursor)?;
+    let answer = get(rt, url.as_str(), MAX_DELTA)?;
     if answer.status != 200 {
         return Err(PullFault::Status(answer.status));
     }
-    let state = read_state(alloc, answer.body.as_slice())?;
-    Ok(state)
+    let delta = read_delta(alloc, answer.body.as_slice())?;
+    Ok(delta)
 }
 
-fn state_url(alloc: Global, peer: &Clean) -> Result<String, PullFault>
-    ensures { IfErr result (λ fault. fault ≢ PullFault.Status 200) }
+// The address of the delta under the peer's base.
+fn delta_url(alloc: Global, peer: &Clean, cursor: Option<Cursor>) -> Result<String, PullFault>
+    ensures address { IfOk result (λ url. url ≡ peer.now ++ delta_target cursor) }
+    ensures status { IfErr result (λ fault. fault ≢ PullFault.Status 200) }
 {
     let Ok(base) = str::from_utf8(peer.as_bytes()) else {
         return Err(PullFault::Failed);
     };
-    let Ok(url) = format!(in alloc; "{base}/state") else {
+    let written = match cursor {
+        None => format!(in alloc; "{base}/delta"),
+        Some(cursor) => {
+            format!(in alloc; "{base}/delta/{}/{}", cursor.incarnation, cursor.number)
+        }
+    };
+    let Ok(url) = written else {
         return Err(PullFault::NoMemory);
     };
     Ok(url)

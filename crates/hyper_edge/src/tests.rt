@@ -1,5 +1,5 @@
 //! Over loopback: what is sent is what was answered.
-use crate::{Answers, GateService, HyperFetch, PullFault, bind, pull_state, serve_gate};
+use crate::{Answers, GateService, HyperFetch, PullFault, bind, pull_delta, serve_gate};
 use harvester::{Answer, Fetch, FetchFault};
 use memento_time::{Clean, Items, Octets};
 use published_index::GateFault;
@@ -120,8 +120,8 @@ fn fault_is_503(rt: HostRuntime) -> Result<(), Fail> {
 }
 
 #[test]
-fn nobody_has_no_state(rt: HostRuntime) -> Result<(), Fail> {
+fn nobody_has_no_delta(rt: HostRuntime) -> Result<(), Fail> {
     let peer = Clean::new(rt.alloc(), b"http://127.0.0.1:1")?;
-    assert!(rt; matches!(pull_state(&rt, &peer), Err(PullFault::Failed)));
+    assert!(rt; matches!(pull_delta(&rt, &peer, None), Err(PullFault::Failed)));
     Ok(())
 }

@@ -1,12 +1,18 @@
--- Replies made from fronts that have one state.
-use Rattle.std.proofs.Common.{◌≡◌, ℕ, List, ap, sym, ◌∙◌}
-use Rattle.harvest_lattice.specs.Knowledge.{lat}
-use Rattle.harvest_lattice.specs.Lattice.{Entries}
-use Rattle.timegate.specs.Reply.{reply, reply_of}
+-- What a reply made from a front is, and replies made from fronts that have one state.
+use Rattle.std.proofs.Common.{◌≡◌, ℕ, List, Result, Ok, Err, IfOk, ◌∙◌}
+use Rattle.timegate.specs.Reply.{reply}
+use Rattle.timegate.specs.Route.{IsOfTaken}
 use Rattle.timegate.specs.declared.request.Request.{Request}
+use Rattle.timegate.specs.declared.reply.Reply.{Reply}
 use Rattle.timegate.proofs.Replies.{reply_from_state}
+use Rattle.published_index.specs.declared.faults.GateFault.{GateFault}
 use Rattle.published_index.specs.Batches.{Batch, fold_of}
+use Rattle.published_index.specs.Replies.{IsReplyFrom}
 
-pub same_reply : (base : List ℕ) (first second : List Batch) (q : Request) → lat (fold_of first) ≡ lat (fold_of second) → reply base (fold_of first) q ≡ reply base (fold_of second) q
-same_reply base first second q same =
-    reply_from_state base (fold_of first) q ∙ (ap (λ (s : Entries). reply_of base s q) same ∙ sym (reply_from_state base (fold_of second) q))
+pub reply_from_front : (base : List ℕ) (incarnation : ℕ) (front : List Batch) (q : Request) (made : Reply) → IsReplyFrom base incarnation front q made → IsOfTaken q → made ≡ reply base (fold_of front) q
+reply_from_front base incarnation front q made from taken = from.is ∙ reply_from_state base (fold_of front) from.stamped q from.merges.entries taken
+
+-- but for the deltas, the reply of what the front's merges add
+pub taken_reply : (r : Result Reply GateFault) (base : List ℕ) (incarnation : ℕ) (front : List Batch) (q : Request) → IfOk r (IsReplyFrom base incarnation front q) → IsOfTaken q → IfOk r (λ made. made ≡ reply base (fold_of front) q)
+taken_reply (Ok made) base incarnation front q from taken = reply_from_front base incarnation front q made from taken
+taken_reply (Err fault) base incarnation front q from taken = tt

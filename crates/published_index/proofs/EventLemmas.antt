@@ -1,21 +1,24 @@
 -- A publish is the events of its batch, and an entry is an Ask.
-use Rattle.std.proofs.Common.{◌≡◌, ℕ, zero, suc, List, [], ◌∷◌, ◌++◌, map, All, Some, Ok, Option, MatchOption, refl, sym, ap, ◌∙◌, subst, inl, append_assoc, append-nil}
+use Rattle.std.proofs.Common.{◌≡◌, ℕ, zero, suc, List, [], ◌∷◌, ◌++◌, map, length, ◌+◌, ◌≤◌, arith, All, Some, Ok, Option, MatchOption, refl, sym, ap, ◌∙◌, subst, inl, append_assoc, append-nil}
 use Rattle.std.specs.Prelude.{slice_get, slice_set}
-use Rattle.std.proofs.lemmas.List.{set-set}
+use Rattle.std.proofs.lemmas.List.{set-set, length_push}
 use Rattle.std.proofs.lemmas.List.Elements.{All-head, All-tail}
 use Rattle.memento_index.specs.declared.merge.Merge.{Merge}
 use Rattle.memento_index.specs.declared.merge.Merge.TheVariants.{Harvest, State}
 use Rattle.memento_index.specs.Merges.{adds_of}
-use Rattle.replica_exchange.specs.StateText.{state_text}
+use Rattle.harvest_lattice.specs.Lattice.{Entries}
+use Rattle.harvest_lattice.specs.Knowledge.{lat}
+use Rattle.replica_exchange.specs.Stamps.{IsStamped}
+use Rattle.timegate.specs.declared.reply.Reply.{Reply}
 use Rattle.timegate.specs.declared.request.Request.{Request}
-use Rattle.timegate.specs.Reply.{reply}
+use Rattle.timegate.specs.Reply.{reply_of}
 use Rattle.replica_events.specs.declared.event.Event.TheVariants.{Ask}
-use Rattle.replica_events.specs.declared.event.Said.TheVariants.{Taken, Joined, Replied}
-use Rattle.replica_events.specs.declared.event.Refused.TheVariants.{NoReplica}
-use Rattle.replica_events.specs.World.{World, Replica, Outcome, Accepts, Refuses, IfText, Step, Run, Knowledge, replica, with_replica, taking}
-use Rattle.published_index.specs.Batches.{Batch, fold_of, harvests_of}
-use Rattle.published_index.specs.Events.{event_of, answer_to, IsReceivable}
-use Rattle.published_index.proofs.Folding.{fold-batch}
+use Rattle.replica_events.specs.declared.event.Said.TheVariants.{Replied}
+use Rattle.replica_events.specs.World.{World, Replica, Step, Run, Knowledge, replica, with_replica, taking, last_number, replica_reply}
+use Rattle.published_index.specs.Batches.{Batch, fold_of, harvests_of, merges_of}
+use Rattle.published_index.specs.Events.{event_of, answer_to, IsReceivable, merging}
+use Rattle.published_index.specs.Replies.{IsReplyFrom}
+use Rattle.published_index.proofs.Folding.{fold-batch, merges-append}
 
 get_set : {X : Type 0} (xs : List X) (p : ℕ) (old new : X) → slice_get xs p ≡ Some old → slice_get (slice_set xs p new) p ≡ Some new
 get_set [] p old new there = cc
@@ -41,36 +44,54 @@ put_twice : (w : World) (i : ℕ) (one other : Replica) → with_replica (with_r
 put_twice w zero one other = refl
 put_twice w (suc p) one other = ap (λ (rs : List Replica). record w { replicas = rs }) (set-set w.replicas p one other)
 
-take_nothing : (r : Replica) → taking r [] ≡ r
-take_nothing r = ap (λ (k : Knowledge). record r { taken = k }) (append-nil r.taken)
+merge_nothing : (r : Replica) → merging r [] ≡ r
+merge_nothing r =
+    let taken : r.taken ++ [] ≡ r.taken = append-nil r.taken in
+    let merges : r.merges ++ [] ≡ r.merges = append-nil r.merges in
+    λ i. record r { taken = taken i; merges = merges i }
 
-take_more : (r : Replica) (one other : Knowledge) → taking (taking r one) other ≡ taking r (one ++ other)
-take_more r one other = ap (λ (k : Knowledge). record r { taken = k }) (append_assoc r.taken one other)
+merge_more : (r : Replica) (m : Merge) (batch : Batch) → merging (taking r (adds_of m) m) batch ≡ merging r (m ∷ batch)
+merge_more r m batch =
+    let taken : (r.taken ++ adds_of m) ++ harvests_of batch ≡ r.taken ++ (adds_of m ++ harvests_of batch) = append_assoc r.taken (adds_of m) (harvests_of batch) in
+    let merges : (r.merges ++ m ∷ []) ++ batch ≡ r.merges ++ m ∷ batch = append_assoc r.merges (m ∷ []) batch in
+    λ i. record r { taken = taken i; merges = merges i }
 
 -- what happens at a replica that is there
 at_replica : (w : World) (i : ℕ) (r : Replica) (happens : Replica → Type 0) (otherwise : Type 0) → replica w i ≡ Some r → happens r → MatchOption (replica w i) otherwise happens
 at_replica w i r happens otherwise there is = let At : Option Replica → Type 0 = λ o. MatchOption o otherwise happens in subst At (sym there) is
 
 -- a merge is one event
-takes : (base : List ℕ) (w : World) (i : ℕ) (r : Replica) (m : Merge) → replica w i ≡ Some r → IsReceivable m → Step base w (event_of i m) (answer_to m) (with_replica w i (taking r (adds_of m)))
-takes base w i r (Harvest h) there fits = inl (at_replica w i r _ _ there (refl, refl))
-takes base w i r (State s) there fits = inl (at_replica w i r _ _ there (inl (s, record { state = fits.0; text = refl; within = fits.1 }, (refl, refl))))
+takes : (base : List ℕ) (w : World) (i : ℕ) (r : Replica) (m : Merge) → replica w i ≡ Some r → IsReceivable m → ¬ (length r.merges ≡ last_number)
+    → Step base w (event_of i m) (answer_to m) (with_replica w i (taking r (adds_of m) m))
+takes base w i r (Harvest h) there fits left = inl (at_replica w i r _ _ there (inl (left, (refl, refl))))
+takes base w i r (State s) there fits left = inl (at_replica w i r _ _ there (inl (s, record { state = fits.0; text = refl; within = fits.1 }, inl (left, (refl, refl)))))
 
 -- a batch is its events, one after the other
-pub batch_runs : (base : List ℕ) (w : World) (i : ℕ) (r : Replica) (batch : Batch) → replica w i ≡ Some r → All IsReceivable batch
-    → Run base w (map (event_of i) batch) (map answer_to batch) (with_replica w i (taking r (harvests_of batch)))
-batch_runs base w i r [] there fits = ap (with_replica w i) (take_nothing r) ∙ put_same w i r there
-batch_runs base w i r (m ∷ ms) there fits =
-    let mid = with_replica w i (taking r (adds_of m)) in
-    let end : with_replica mid i (taking (taking r (adds_of m)) (harvests_of ms)) ≡ with_replica w i (taking r (adds_of m ++ harvests_of ms)) =
-    put_twice w i (taking r (adds_of m)) _ ∙ ap (with_replica w i) (take_more r (adds_of m) (harvests_of ms)) in
-    (mid, takes base w i r m there (All-head IsReceivable m ms fits), subst (Run base mid (map (event_of i) ms) (map answer_to ms)) end (batch_runs base mid i (taking r (adds_of m)) ms (put_there w i r _ there) (All-tail IsReceivable m ms fits)))
+pub batch_runs : (base : List ℕ) (w : World) (i : ℕ) (r : Replica) (batch : Batch) → replica w i ≡ Some r → All IsReceivable batch → length r.merges + length batch ≤ last_number
+    → Run base w (map (event_of i) batch) (map answer_to batch) (with_replica w i (merging r batch))
+batch_runs base w i r [] there fits left = ap (with_replica w i) (merge_nothing r) ∙ put_same w i r there
+batch_runs base w i r (m ∷ ms) there fits left =
+    let next = taking r (adds_of m) m in
+    let mid = with_replica w i next in
+    let end : with_replica mid i (merging next ms) ≡ with_replica w i (merging r (m ∷ ms)) = put_twice w i next _ ∙ ap (with_replica w i) (merge_more r m ms) in
+    let count = length_push r.merges m in
+    let first : ¬ (length r.merges ≡ last_number) = (λ spent. omega (arith, spent, left)) in
+    let later : length next.merges + length ms ≤ last_number = omega (arith, count, left) in
+    (mid, takes base w i r m there (All-head IsReceivable m ms fits) first, subst (Run base mid (map (event_of i) ms) (map answer_to ms)) end (batch_runs base mid i next ms (put_there w i r _ there) (All-tail IsReceivable m ms fits) later))
 
 -- and takes what the published list has with it
-pub batch_taken : (list : List Batch) (batch : Batch) (r : Replica) → r.taken ≡ fold_of list → (taking r (harvests_of batch)).taken ≡ fold_of (list ++ batch ∷ [])
+pub batch_taken : (list : List Batch) (batch : Batch) (r : Replica) → r.taken ≡ fold_of list → (merging r batch).taken ≡ fold_of (list ++ batch ∷ [])
 batch_taken list batch r is = ap (λ (k : Knowledge). k ++ harvests_of batch) is ∙ sym (fold-batch list batch)
 
+pub batch_merged : (list : List Batch) (batch : Batch) (r : Replica) → r.merges ≡ merges_of list → (merging r batch).merges ≡ merges_of (list ++ batch ∷ [])
+batch_merged list batch r is = ap (λ (ms : Batch). ms ++ batch) is ∙ sym (merges-append list batch)
+
 -- an entry is an Ask at its front
-pub entry_asks : (base : List ℕ) (w : World) (i : ℕ) (r : Replica) (front : List Batch) (q : Request) → replica w i ≡ Some r → r.taken ≡ fold_of front
-    → Step base w (Ask i q) (Ok (Replied (reply base (fold_of front) q))) w
-entry_asks base w i r front q there is = inl (at_replica w i r _ _ there (ap (λ (k : Knowledge). Ok (Replied (reply base k q))) (sym is), refl))
+pub entry_asks : (base : List ℕ) (w : World) (i : ℕ) (r : Replica) (front : List Batch) (q : Request) (made : Reply) → replica w i ≡ Some r → r.taken ≡ fold_of front → r.merges ≡ merges_of front
+    → IsReplyFrom base r.incarnation front q made → Step base w (Ask i q) (Ok (Replied made)) w
+entry_asks base w i r front q made there taken merges from =
+    let s = from.stamped in
+    let stamped : IsStamped r.merges s = subst (λ (ms : Batch). IsStamped ms s) (sym merges) from.merges in
+    let entries : s.entries ≡ lat r.taken = from.merges.entries ∙ ap (λ (k : Knowledge). lat k) (sym taken) in
+    let said : made ≡ replica_reply base r s q = from.is ∙ ap (λ (e : Entries). reply_of base (record s { entries = e }) q) entries in
+    inl (at_replica w i r _ _ there (s, stamped, from.own, (ap (λ (m : Reply). Ok (Replied m)) said, refl)))

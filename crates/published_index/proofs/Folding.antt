@@ -3,16 +3,15 @@ use Rattle.std.proofs.Common.{◌≡◌, List, [], ◌∷◌, ◌++◌, fold, re
 use Rattle.std.proofs.lemmas.List.Elements.{Contains-append_left}
 use mathlib.Core.List.{IsPrefix}
 use Rattle.memento_index.specs.declared.merge.Merge.{Merge}
-use Rattle.harvest_lattice.specs.Lattice.{Entries}
-use Rattle.harvest_lattice.specs.Knowledge.{Harvested, lat}
+use Rattle.harvest_lattice.specs.Knowledge.{Harvested}
 use Rattle.memento_index.specs.Merges.{adds_of}
-use Rattle.harvest_lattice.proofs.Knowledge.{lat-append}
 use Rattle.published_index.specs.declared.editions.Edition.{Edition}
 use Rattle.published_index.specs.declared.editions.Change.{Change}
 use Rattle.published_index.specs.declared.editions.Change.TheVariants.{Reach, Add}
 use Rattle.published_index.specs.declared.marks.Mark.{Mark}
 use Rattle.published_index.specs.Batches.{Batch, merges_of, harvests_of, fold_of}
-use Rattle.published_index.specs.Changes.{state_with, after_change, merges_in}
+use Rattle.published_index.specs.Changes.{after_change, merges_in}
+use Rattle.published_index.specs.Stamping.{stamped_with}
 
 pub merges-append : (list : List Batch) (batch : Batch) → merges_of (list ++ batch ∷ []) ≡ merges_of list ++ batch
 merges-append [] batch = append-nil batch
@@ -22,21 +21,14 @@ harvests-append : (ms ns : List Merge) → harvests_of (ms ++ ns) ≡ harvests_o
 harvests-append [] ns = refl
 harvests-append (m ∷ ms) ns = ap (λ (h : List Harvested). adds_of m ++ h) (harvests-append ms ns) ∙ sym (append_assoc (adds_of m) (harvests_of ms) (harvests_of ns))
 
-joins : (hs : List Harvested) (batch : Batch) → fold state_with (lat hs) batch ≡ lat (hs ++ harvests_of batch)
-joins hs [] = ap lat (sym (append-nil hs))
-joins hs (m ∷ ms) = ap (λ (i : Entries). fold state_with i ms) (sym (lat-append hs (adds_of m))) ∙ (joins (hs ++ adds_of m) ms ∙ ap lat (append_assoc hs (adds_of m) (harvests_of ms)))
-
 pub fold-batch : (list : List Batch) (batch : Batch) → fold_of (list ++ batch ∷ []) ≡ fold_of list ++ harvests_of batch
 fold-batch list batch = ap harvests_of (merges-append list batch) ∙ harvests-append (merges_of list) batch
 
-pub takes_batch : (list : List Batch) (batch : Batch) → lat (fold_of (list ++ batch ∷ [])) ≡ fold state_with (lat (fold_of list)) batch
-takes_batch list batch = ap lat (fold-batch list batch) ∙ sym (joins (fold_of list) batch)
-
--- changes whose last is a mark: the index takes what they add, and the mark is the last
-pub changes : (x : Edition) (cs : List Change) (mark : Mark) → fold after_change x (cs ++ Reach mark ∷ []) ≡ record { index = fold state_with x.index (merges_in cs); mark = mark }
+-- changes whose last is a mark: what they add is absorbed, and the mark is the last
+pub changes : (x : Edition) (cs : List Change) (mark : Mark) → fold after_change x (cs ++ Reach mark ∷ []) ≡ record { stamped = fold stamped_with x.stamped (merges_in cs); mark = mark }
 changes x [] mark = refl
-changes x (Reach m ∷ cs) mark = changes (record { index = x.index; mark = m }) cs mark
-changes x (Add m ∷ cs) mark = changes (record { index = state_with x.index m; mark = x.mark }) cs mark
+changes x (Reach m ∷ cs) mark = changes (record { stamped = x.stamped; mark = m }) cs mark
+changes x (Add m ∷ cs) mark = changes (record { stamped = stamped_with x.stamped m; mark = x.mark }) cs mark
 
 pub merges_in-append : (cs : List Change) (m : Merge) → merges_in (cs ++ Add m ∷ []) ≡ merges_in cs ++ m ∷ []
 merges_in-append [] m = refl

@@ -24,10 +24,10 @@ nothing_covered : (x : Edition) → Covers x no_view
 nothing_covered x = ((batches_of x, refl), (λ (named : false ≡ true). absurd cc))
 
 covered_itself : (x : Edition) → Covers x (view_at x)
-covered_itself x = (prefix_self (batches_of x), (λ _. refl))
+covered_itself x = (prefix_self (batches_of x), (λ _. (refl, refl)))
 
 covers_next : (x y : Edition) → IsReady x y → (p : ReaderView) → Covers x p → Covers y p
-covers_next x y ready p c = (prefix_trans p.front (batches_of x) (batches_of y) c.0 ready.1, (λ named. c.1 named ∙ ap opening_of (sym ready.0)))
+covers_next x y ready p c = (prefix_trans p.front (batches_of x) (batches_of y) c.0 ready.batches, (λ named. ((c.1 named).0 ∙ ap opening_of (sym ready.book), (c.1 named).1 ∙ sym ready.incarnation)))
 
 pub admits : Admits Keeps no_view
 admits x passes h = (h.0, covered_snoc x passes no_view h.1 (nothing_covered x))
@@ -37,7 +37,7 @@ enters seat v x passes h at = (view_at x, (h.0, covered_set x passes seat (view_
 
 pub shows : (seat : ℕ) (v : ReaderView) (x y : Edition) → IsReady x y → TurnsAt Keeps seat v x y Shows
 shows seat v x y ready passes h at =
-    (view_at y, (ready.2 h.0, covered_set y passes seat (view_at y) (λ j p there. covers_next x y ready p (h.1 j p there)) (covered_itself y)), refl)
+    (view_at y, (ready.whole h.0, covered_set y passes seat (view_at y) (λ j p there. covers_next x y ready p (h.1 j p there)) (covered_itself y)), refl)
 
 pub forks : (seat : ℕ) (p : ReaderView) → Forks Keeps seat p p p
 forks seat p x passes h at = let c = h.1 seat p at in (h.0, covered_snoc x (set passes seat p) p (covered_set x passes seat p h.1 c) c)
@@ -51,4 +51,4 @@ pub opens : (x : Edition) → IsWhole x → Keeps x (no_view ∷ [])
 opens x whole = (whole, covered_snoc x [] no_view (λ j p at. absurd (some-ne-none p (sym at))) (nothing_covered x))
 
 pub ready_itself : (x : Edition) → IsReady x x
-ready_itself x = (refl, prefix_self (batches_of x), (λ w. w))
+ready_itself x = record { book = refl; incarnation = refl; batches = prefix_self (batches_of x); whole = λ w. w }

@@ -11,4 +11,6 @@ pub mod Answering
 pub mod Outcomes
 pub mod Running
 pub mod Agreeing
+pub mod Stamping
+pub mod Reaching
 pub mod EventLemmas

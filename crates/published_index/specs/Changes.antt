@@ -1,24 +1,19 @@
 -- What the merger's log of changes holds, and what it does to a copy.
-use Rattle.std.specs.Prelude.{◌≡◌, List, [], ◌∷◌}
+use Rattle.std.specs.Prelude.{List, [], ◌∷◌}
 use Rattle.logbook.specs.Pages.{Book}
 use Rattle.memento_index.specs.declared.merge.Merge.{Merge}
-use Rattle.harvest_lattice.specs.Lattice.{Entries, join}
-use Rattle.harvest_lattice.specs.Knowledge.{lat}
-use Rattle.memento_index.specs.Merges.{adds_of}
+use Rattle.replica_exchange.specs.Stamps.{IsStamped}
 use Rattle.published_index.specs.declared.editions.Edition.{Edition}
 use Rattle.published_index.specs.declared.editions.Change.{Change}
 use Rattle.published_index.specs.declared.editions.Change.TheVariants.{Reach, Add}
-use Rattle.published_index.specs.Batches.{Batch, fold_of}
+use Rattle.published_index.specs.Batches.{Batch, merges_of}
 use Rattle.published_index.specs.Marks.{successes_with_last}
+use Rattle.published_index.specs.Stamping.{stamped_with}
 
--- the state after a merge
-abbrev pub state_with : Entries → Merge → Entries
-state_with state m = join state (lat (adds_of m))
-
--- the copy after a change: a merge joins the index, and a mark is put in place
+-- the copy after a change: a merge is absorbed, and a mark is put in place
 abbrev pub after_change : Edition → Change → Edition
-after_change x (Add m) = record { index = state_with x.index m; mark = x.mark }
-after_change x (Reach mark) = record { index = x.index; mark = mark }
+after_change x (Add m) = record { stamped = stamped_with x.stamped m; mark = x.mark }
+after_change x (Reach mark) = record { stamped = x.stamped; mark = mark }
 
 -- the merges that changes add
 abbrev pub merges_in : List Change → List Merge
@@ -30,9 +25,9 @@ merges_in (Add m ∷ cs) = m ∷ merges_in cs
 abbrev pub batches_of : Edition → List Batch
 batches_of x = successes_with_last x.mark.seen.log
 
--- the index stands for the copy's batches
+-- the state with its stamps is what the merges of the copy's batches made
 abbrev pub IsWhole : Edition → Type 0
-IsWhole x = x.index ≡ lat (fold_of (batches_of x))
+IsWhole x = IsStamped (merges_of (batches_of x)) x.stamped
 
 -- the log that the copy's mark is of
 abbrev pub book_of : Edition → Book

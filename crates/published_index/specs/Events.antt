@@ -1,5 +1,5 @@
--- A merge as an event of a replica, and what is said to it.
-use Rattle.std.specs.Prelude.{◌≤◌, ℕ, List, length, Ok}
+-- A merge as an event of a replica, what is said to it, and what a batch makes of the replica.
+use Rattle.std.specs.Prelude.{◌≤◌, ◌++◌, ℕ, length, Ok}
 use Rattle.memento_index.specs.declared.merge.Merge.{Merge}
 use Rattle.memento_index.specs.declared.merge.Merge.TheVariants.{Harvest, State}
 use Rattle.replica_exchange.specs.StateText.{IsState, state_text}
@@ -7,7 +7,8 @@ use Rattle.replica_exchange.specs.Faults.{longest_text}
 use Rattle.replica_events.specs.declared.event.Event.{Event}
 use Rattle.replica_events.specs.declared.event.Event.TheVariants.{Take, Receive}
 use Rattle.replica_events.specs.declared.event.Said.TheVariants.{Taken, Joined}
-use Rattle.replica_events.specs.World.{Answer}
+use Rattle.replica_events.specs.World.{Answer, Replica}
+use Rattle.published_index.specs.Batches.{Batch, harvests_of}
 
 -- the event by which the replica of this number takes the merge: a harvest is taken, a state is received as its text
 abbrev pub event_of : ℕ → Merge → Event
@@ -23,3 +24,7 @@ answer_to (State s) = Ok Joined
 abbrev pub IsReceivable : Merge → Type 0
 IsReceivable (Harvest h) = Unit {0}
 IsReceivable (State s) = IsState s × (length (state_text s) ≤ longest_text)
+
+-- the replica once it has merged a batch
+abbrev pub merging : Replica → Batch → Replica
+merging r batch = record r { taken = r.taken ++ harvests_of batch; merges = r.merges ++ batch }

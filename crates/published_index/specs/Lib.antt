@@ -1,9 +1,12 @@
 pub mod Batches
 pub mod Calls
+pub mod Cursors
 pub mod Changes
 pub mod Events
 pub mod Faults
 pub mod Marks
 pub mod Passes
+pub mod Replies
 pub mod Rule
+pub mod Stamping
 pub mod Views

@@ -51,4 +51,4 @@ no_opening = record { number = 0; log_name = 0; cells_name = 0 }
 
 -- the view of a reader that has seen no copy
 abbrev pub no_view : ReaderView
-no_view = record { named = false; opening = no_opening; front = [] }
+no_view = record { named = false; opening = no_opening; incarnation = 0; front = [] }

@@ -10,17 +10,26 @@ use Rattle.published_index.specs.declared.marks.Mark.{Mark}
 use Rattle.published_index.specs.Changes.{after_change, IsWhole, batches_of, book_of}
 use Rattle.published_index.specs.Passes.{opening_of}
 
+-- the copy is of the view's opening, and in its incarnation
+abbrev pub IsOf : Edition → ReaderView → Type 0
+IsOf x view = (view.opening ≡ opening_of (book_of x)) × (view.incarnation ≡ x.stamped.incarnation)
+
 -- the copy's batches begin with the view's front, and the copy is of the view's opening
 abbrev pub Covers : Edition → ReaderView → Type 0
-Covers x view = IsPrefix view.front (batches_of x) × (view.named ≡ true → view.opening ≡ opening_of (book_of x))
+Covers x view = IsPrefix view.front (batches_of x) × (view.named ≡ true → IsOf x view)
 
--- the index stands for the copy's batches, which cover each view
+-- the copy is what its batches made, and it covers each view
 abbrev pub Keeps : Edition → List ReaderView → Type 0
 Keeps x views = IsWhole x × ((seat : ℕ) (view : ReaderView) → get_elem? views seat ≡ some view → Covers x view)
 
 -- the view of the copy's opening whose front is all its batches
 abbrev pub view_at : Edition → ReaderView
-view_at x = record { named = true; opening = opening_of (book_of x); front = batches_of x }
+view_at x = record {
+  named = true;
+  opening = opening_of (book_of x);
+  incarnation = x.stamped.incarnation;
+  front = batches_of x;
+}
 
 -- an entry: the new front is the copy's batches
 abbrev pub Enters : ReaderView → Edition → Edition → ReaderView → Type 0
@@ -34,9 +43,13 @@ Shows old x y new = new ≡ view_at y
 abbrev pub view_of_note : ReaderView → ReaderView → ReaderView
 view_of_note view note = note
 
--- y may be shown after x: it is of the same log, its batches begin with those of x, and it is whole where x was
-abbrev pub IsReady : Edition → Edition → Type 0
-IsReady x y = (book_of y ≡ book_of x) × IsPrefix (batches_of x) (batches_of y) × (IsWhole x → IsWhole y)
+-- y may be shown after x: it is of the same log and incarnation, its batches begin with those of x, and it is whole
+-- where x was
+pub record IsReady (x y : Edition) : Type 0 where
+  pub book : book_of y ≡ book_of x
+  pub incarnation : y.stamped.incarnation ≡ x.stamped.incarnation
+  pub batches : IsPrefix (batches_of x) (batches_of y)
+  pub whole : IsWhole x → IsWhole y
 
 -- the changes make of x a copy with this mark, which may be shown after x
 abbrev pub Offers : Edition → List Change → Mark → Type 0

@@ -2,12 +2,11 @@
 ghost use Rattle.std.specs.Prelude.{◌≡◌, ◌⊎◌, true, IfOk, IfErr, IfSome, IsTrue};
 ghost use mathlib.Core.List.{IsPrefix};
 ghost use Rattle.left_right.specs.Sides.{view as view_of};
-ghost use Rattle.timegate.specs.Reply.{reply};
-ghost use Rattle.published_index.specs.Batches.{fold_of};
 ghost use Rattle.published_index.specs.Changes.{batches_of, book_of};
 ghost use Rattle.published_index.specs.Marks.{successes, successes_with_last};
 ghost use Rattle.published_index.specs.declared.faults.GateFault.TheVariants.{NoMemory};
 ghost use Rattle.published_index.specs.Passes.{opening_of, told_list};
+ghost use Rattle.published_index.specs.Replies.{IsReplyFrom};
 
 use crate::editions::Edition;
 use crate::faults::GateFault;
@@ -57,12 +56,13 @@ pub(crate) fn ask<F: FnOnce()>(
     requires named { (view_of reader.place).named ≡ true }
     requires opening { IfSome told.now (λ m. opening_of m.seen.book ≡ (view_of reader.place).opening) }
     ensures same { ((view_of result.0.place).named ≡ true)
-        × ((view_of result.0.place).opening ≡ (view_of reader.place).opening) }
+        × ((view_of result.0.place).opening ≡ (view_of reader.place).opening)
+        × ((view_of result.0.place).incarnation ≡ (view_of reader.place).incarnation) }
     ensures seen { IsPrefix (view_of reader.place).front (view_of result.0.place).front }
     ensures mark { IfSome result.1 (λ made. successes_with_last made.0.seen.log ≡ (view_of result.0.place).front) }
     ensures told { IfSome result.1 (λ _. IsPrefix (told_list told.now) (view_of result.0.place).front) }
-    ensures reply { IfSome result.1
-        (λ made. IfOk made.1 (λ r. r ≡ reply service.now (fold_of (view_of result.0.place).front) request.now)) }
+    ensures reply { IfSome result.1 (λ made. IfOk made.1 (IsReplyFrom service.now
+        (view_of reader.place).incarnation (view_of result.0.place).front request.now)) }
     ensures fault { IfSome result.1 (λ made. IfErr made.1 (λ fault. fault ≡ NoMemory)) }
 {
     match reader.enter_as::<Entry>() {
@@ -72,7 +72,7 @@ pub(crate) fn ask<F: FnOnce()>(
                 return (reading.leave(), None);
             }
             let mark = edition.mark.copy();
-            match answer(alloc, service, &edition.index, request) {
+            match answer(alloc, service, &edition.stamped, request) {
                 Ok(made) => {
                     then();
                     (reading.leave(), Some((mark, Ok(made))))
@@ -97,12 +97,13 @@ pub(crate) fn ask_in_place<F: FnOnce()>(
     requires named { (view_of reader.old.place).named ≡ true }
     requires opening { IfSome told.now (λ m. opening_of m.seen.book ≡ (view_of reader.old.place).opening) }
     ensures same { ((view_of reader.new.place).named ≡ true)
-        × ((view_of reader.new.place).opening ≡ (view_of reader.old.place).opening) }
+        × ((view_of reader.new.place).opening ≡ (view_of reader.old.place).opening)
+        × ((view_of reader.new.place).incarnation ≡ (view_of reader.old.place).incarnation) }
     ensures seen { IsPrefix (view_of reader.old.place).front (view_of reader.new.place).front }
     ensures mark { IfSome result (λ made. successes_with_last made.0.seen.log ≡ (view_of reader.new.place).front) }
     ensures told { IfSome result (λ _. IsPrefix (told_list told.now) (view_of reader.new.place).front) }
-    ensures reply { IfSome result
-        (λ made. IfOk made.1 (λ r. r ≡ reply service.now (fold_of (view_of reader.new.place).front) request.now)) }
+    ensures reply { IfSome result (λ made. IfOk made.1 (IsReplyFrom service.now
+        (view_of reader.old.place).incarnation (view_of reader.new.place).front request.now)) }
     ensures fault { IfSome result (λ made. IfErr made.1 (λ fault. fault ≡ NoMemory)) }
 {
     replace_with(reader, then, |reader, then| {

@@ -1,10 +1,11 @@
 //! The two copies of what is published, and what changes them.
 ghost use Rattle.std.specs.Prelude.{◌≡◌};
-ghost use Rattle.std.specs.FinMap as map;
+ghost use Rattle.published_index.specs.Stamping.{unmerged};
 
 use crate::marks::Mark;
 use left_right::Absorb;
-use memento_index::{Index, Merge};
+use memento_index::Merge;
+use replica_exchange::Stamped;
 use std::alloc::{AllocError, Global};
 
 /// What the merger's log holds for the copies: the merges of a batch, and behind them the mark that it reaches.
@@ -14,19 +15,19 @@ pub enum Change {
     Reach(Mark),
 }
 
-/// One copy: an index, and the mark of the last attempt that is in it.
+/// One copy: an index with its stamps, and the mark of the last attempt that is in it.
 #[derive(Drop)]
 pub struct Edition {
-    pub index: Index,
+    pub stamped: Stamped,
     pub mark: Mark,
 }
 
 impl Edition {
-    pub fn new(alloc: Global, mark: &Mark) -> Edition
-        ensures { result ≡ record { index = map.empty; mark = mark.now } }
+    pub fn new(alloc: Global, incarnation: u64, mark: &Mark) -> Edition
+        ensures { result ≡ record { stamped = unmerged incarnation; mark = mark.now } }
     {
         Edition {
-            index: Index::new(alloc),
+            stamped: Stamped::new(alloc, incarnation),
             mark: mark.copy(),
         }
     }
@@ -43,7 +44,7 @@ impl Absorb<Change> for Edition {
 
     fn absorb_first(&mut self, operation: &Change, _other: &Edition) -> Result<(), AllocError> {
         match operation {
-            Change::Add(merge) => match self.index.absorb(merge) {
+            Change::Add(merge) => match self.stamped.absorb(merge) {
                 Ok(()) => Ok(()),
                 Err(_) => Err(AllocError),
             },

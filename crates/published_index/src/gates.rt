@@ -1,8 +1,10 @@
 //! One who answers from what is published.
 ghost use Rattle.std.specs.Prelude.{◌≡◌, IfOk, IfErr, OnOk};
 ghost use Rattle.timegate.specs.Reply.{reply};
+ghost use Rattle.timegate.specs.Route.{IsOfTaken};
 ghost use Rattle.published_index.specs.Batches.{fold_of};
 ghost use Rattle.published_index.specs.Passes.{Advances, Learns, AfterFault};
+ghost use Rattle.published_index.specs.Replies.{IsReplyFrom};
 
 use crate::asking::{ask_in_place, longest};
 use crate::faults::GateFault;
@@ -16,8 +18,8 @@ use timemap_writer::Service;
 
 /// Answers requests from what is published, and never waits. It can be moved to a thread of its own.
 ///
-/// Contracts see it as its opening, the base of its service, and a pass: the front, which is the list of batches that
-/// its last reply was made from, and the longest list that it was told since.
+/// Contracts see it as its opening and incarnation, the base of its service, and a pass: the front, which is the list
+/// of batches that its last reply was made from, and the longest list that it was told since.
 #[derive(Drop)]
 pub struct Gate {
     pub(crate) alloc: Global,
@@ -45,6 +47,7 @@ impl Model for Gate {
 
     ghost view = { λ g. record {
       opening = (view_of g.reader.place).opening;
+      incarnation = (view_of g.reader.place).incarnation;
       base = g.service;
       pass = record { front = successes_with_last g.seen.seen.log; told = told_list g.told };
     } };
@@ -62,7 +65,11 @@ impl Gate {
     pub fn answer(&mut self, request: &Request) -> Result<Reply, GateFault>
         ensures same { self.new ≡ record self.old { pass = self.new.pass } }
         ensures advances { OnOk result (Advances self.old.pass self.new.pass) }
-        ensures reply { IfOk result (λ made. made ≡ reply self.old.base (fold_of self.new.pass.front) request.now) }
+        ensures reply { IsOfTaken request.now →
+            IfOk result (λ made. made ≡ reply self.old.base (fold_of self.new.pass.front) request.now) }
+        // Deltas are those of the front's merges in the opening's incarnation.
+        ensures stamped { IfOk result
+            (IsReplyFrom self.old.base self.old.incarnation self.new.pass.front request.now) }
         ensures no_memory { result ≡ Err GateFault.NoMemory → Advances self.old.pass self.new.pass }
         ensures closed { result ≡ Err GateFault.Closed → self.new ≡ self.old }
     {
@@ -77,9 +84,8 @@ impl Gate {
     ) -> Result<Reply, GateFault>
         requires { F.IsAlwaysCallable then }
         ensures same { self.new ≡ record self.old { pass = self.new.pass } }
-        ensures reply { IfOk result
-            (λ made. Advances self.old.pass self.new.pass
-            × (made ≡ reply self.old.base (fold_of self.new.pass.front) request.now)) }
+        ensures reply { IfOk result (λ made. Advances self.old.pass self.new.pass
+            × IsReplyFrom self.old.base self.old.incarnation self.new.pass.front request.now made) }
         ensures refused { IfErr result (λ fault. AfterFault fault self.old.pass self.new.pass) }
     {
         let Some((mark, made)) = ask_in_place(

@@ -1,5 +1,8 @@
 //! The one who publishes.
-ghost use Rattle.std.specs.Prelude.{◌≡◌, [], ◌∷◌, ◌++◌, IfOk, OnOk, OnErr};
+ghost use Rattle.std.specs.Prelude.{◌≡◌, ◌∷◌, [], ◌++◌, true, IfOk, IfErr, OnOk, OnErr};
+ghost use Rattle.std.specs.FinMap as map;
+ghost use Rattle.replica_exchange.specs.CursorRule as rule;
+ghost use Rattle.published_index.specs.Cursors.{with_merge, with_delta, with_publish};
 
 use crate::faults::PublishRefused;
 use crate::marks::{Head, Mark};
@@ -9,11 +12,13 @@ use crate::writing::{add, offer, show};
 use core::mem::replace_with;
 use memento_index::Merge;
 use memento_time::NoMemory;
+use replica_exchange::{Cursor, Cursors, Delta, TakeFault};
 use std::marker::{Brand, Model};
 use std::sync::Wait;
 
 /// Takes merges in, and publishes those that are pending all at once. Contracts see it as the list of batches that were
-/// published, one for each publish that succeeded, and the batch of merges that are pending.
+/// published, one for each publish that succeeded, the batch of merges that are pending, and for each peer the cursor
+/// that says how far its merges are known.
 ///
 /// It is not `Drop`, since its end may wait for readers: end it by `close`.
 pub struct Merger {
@@ -24,6 +29,7 @@ pub struct Merger {
     /// The log as it was when a publish last succeeded. A gate that learnt of a later attempt would find no copy that
     /// has it.
     pub(crate) last_success: Mark,
+    pub(crate) cursors: Cursors,
 }
 
 impl Model for Merger {
@@ -31,18 +37,19 @@ impl Model for Merger {
     ghost use Rattle.published_index.specs.Changes.{merges_in, batches_of, book_of};
     ghost use Rattle.published_index.specs.Marks.{successes, head_of};
     ghost use Rattle.published_index.specs.Passes.{opening_of};
-    ghost use Rattle.published_index.specs.Views.{MergerView};
+    ghost use Rattle.published_index.specs.Views.{MergerView, coded_held};
     ghost use Rattle.std.specs.Coded.{codes};
     ghost use Rattle.memento_index.specs.contracts.merge.Merge as merge;
 
     ghost Value = { MergerView };
 
-    ghost coded = { Prim.hlevel (codes, merge.the_row.coded) };
+    ghost coded = { Prim.hlevel (codes, merge.the_row.coded, coded_held) };
 
     ghost view = { λ m. record {
       opening = opening_of m.mark.seen.book;
       published = successes m.mark.seen.log;
       pending = merges_in (drop m.writer.behind m.writer.log.items);
+      cursors = m.cursors;
     } };
 
     ghost invariant = { λ m. (m.head ≡ head_of m.mark.seen.book)
@@ -55,21 +62,52 @@ impl Model for Merger {
 impl Merger {
     /// Puts a copy of the merge at the end of what is pending.
     pub fn append(&mut self, merge: &Merge) -> Result<(), NoMemory>
-        ensures ok { OnOk result (self.new ≡ record self.old { pending = self.old.pending ++ merge.now ∷ [] }) }
+        ensures ok { OnOk result (self.new ≡ with_merge self.old merge.now) }
         ensures err { OnErr result (self.new ≡ self.old) }
     {
         let copy = merge.try_clone()?;
         add(&mut self.writer, copy)
     }
 
+    /// Puts a copy of the state of a peer's delta at the end of what is pending, and moves the peer's cursor, where the
+    /// delta starts at the beginning or at what the cursor reaches.
+    pub fn append_delta(&mut self, peer: u64, delta: &Delta) -> Result<(), TakeFault>
+        ensures ok { OnOk result (self.new ≡ with_delta self.old peer delta.now) }
+        ensures fits { OnOk result (rule.fits (map.get self.old.cursors peer) delta.now ≡ true) }
+        ensures cause { IfErr result (λ fault. rule.IsTakeCause fault (map.get self.old.cursors peer) delta.now) }
+        ensures err { OnErr result (self.new ≡ self.old) }
+    {
+        if !self.cursors.fits(peer, delta) {
+            let held = self.cursors.held(peer);
+            return Err(TakeFault::Gap { held });
+        }
+        let (Ok(state), Ok(mut moved)) = (delta.state.try_clone(), self.cursors.try_clone()) else {
+            return Err(TakeFault::NoMemory);
+        };
+        moved.take(peer, delta)?;
+        // What is appended can't be taken back, so the cursors move last.
+        let Ok(()) = add(&mut self.writer, Merge::State(state)) else {
+            return Err(TakeFault::NoMemory);
+        };
+        self.cursors = moved;
+        Ok(())
+    }
+
+    /// The cursor that is held for a peer.
+    pub fn cursor(&self, peer: u64) -> Option<Cursor>
+        ensures { result ≡ map.get self.now.cursors peer }
+    {
+        self.cursors.held(peer)
+    }
+
     /// Makes all that is pending one batch at the end of the published list, perhaps an empty one, and gives a receipt
     /// of the whole list. Gates show all of the batch or nothing of it.
     ///
-    /// It may wait for gates that are about to answer from what was published before. Takes time in what is pending and
-    /// in what the publish before took.
+    /// It is refused where a growth is, and where the merges are more than a number of 64 bits counts. It may wait for
+    /// gates that are about to answer from what was published before. Takes time in what is pending and in what the
+    /// publish before took.
     pub fn publish<R: Wait>(&mut self, rt: &R) -> Result<Receipt, PublishRefused>
-        ensures ok { OnOk result
-            (self.new ≡ record self.old { published = self.old.published ++ self.old.pending ∷ []; pending = [] }) }
+        ensures ok { OnOk result (self.new ≡ with_publish self.old) }
         ensures receipt { IfOk result
             (λ told. told ≡ record {
               opening = self.old.opening;
@@ -105,6 +143,7 @@ impl Merger {
             head: _,
             mark: _,
             last_success: _,
+            cursors: _,
         } = self;
         drop(writer.take(rt));
     }

@@ -1,5 +1,6 @@
 //! A merger and its gates.
 ghost use Rattle.std.specs.Prelude.{◌≡◌, ◌≤◌, [], true, drop, replicate, IfOk};
+ghost use Rattle.std.specs.FinMap as map;
 ghost use Rattle.left_right.specs.Sides.{view as view_of};
 ghost use Rattle.published_index.specs.Views.{new_gate};
 
@@ -10,6 +11,7 @@ use crate::marks::Mark;
 use crate::mergers::Merger;
 use crate::rules::{EditionWriter, Learning, Telling};
 use crate::writing::show;
+use replica_exchange::Cursors;
 use std::alloc::Global;
 use std::sync::Wait;
 use timemap_writer::Service;
@@ -17,7 +19,8 @@ use timemap_writer::Service;
 /// So many gates may share one merger.
 pub const MOST_GATES: usize = 64;
 
-/// A merger with nothing pending or published, and so many gates that have seen nothing and were told nothing.
+/// A merger with nothing pending or published and without cursors, and so many gates that have seen nothing and were
+/// told nothing. Their deltas are of this incarnation; those of two openings are to differ.
 ///
 /// `NoMemory`: the allocator refused a growth. `NoPlace`: there was no place for a reader; no cause is promised.
 pub fn open<R: Wait>(
@@ -25,15 +28,18 @@ pub fn open<R: Wait>(
     alloc: Global,
     service: Service,
     gates: usize,
+    incarnation: u64,
 ) -> Result<(Merger, Vec<Gate>), OpenFault>
     requires { (1 ≤ gates) × (gates ≤ MOST_GATES) }
     ensures published { IfOk result (λ opened. opened.0.published ≡ []) }
     ensures pending { IfOk result (λ opened. opened.0.pending ≡ []) }
-    ensures gates { IfOk result (λ opened. opened.1.items ≡ replicate gates (new_gate opened.0.opening service)) }
+    ensures cursors { IfOk result (λ opened. opened.0.cursors ≡ map.empty) }
+    ensures gates { IfOk result
+        (λ opened. opened.1.items ≡ replicate gates (new_gate opened.0.opening incarnation service)) }
 {
     let (mark, head) = Mark::first();
-    let first = Edition::new(alloc, &mark);
-    let second = Edition::new(alloc, &mark);
+    let first = Edition::new(alloc, incarnation, &mark);
+    let second = Edition::new(alloc, incarnation, &mark);
     let Ok(writer) = EditionWriter::new(alloc, first, second, gates) else {
         return Err(OpenFault::NoMemory);
     };
@@ -51,6 +57,7 @@ pub fn open<R: Wait>(
                     head,
                     mark,
                     last_success,
+                    cursors: Cursors::new(alloc),
                 },
                 made,
             ))
@@ -75,7 +82,8 @@ fn make_gates(
         × (view_of writer.new.desk.place ≡ view_of writer.old.desk.place)
         × (drop writer.new.behind writer.new.log.items ≡ drop writer.old.behind writer.old.log.items) }
     ensures gates { IfOk result
-        (λ made. made.items ≡ replicate gates (new_gate (view_of writer.old.desk.place).opening service.now)) }
+        (λ made. made.items ≡ replicate gates (new_gate (view_of writer.old.desk.place).opening
+        (view_of writer.old.desk.place).incarnation service.now)) }
 {
     let mut made = Vec::new(alloc);
     for _done in 0..gates {
@@ -98,7 +106,8 @@ fn make_gate(
     ensures writer { (writer.new.desk.shown ≡ writer.old.desk.shown)
         × (view_of writer.new.desk.place ≡ view_of writer.old.desk.place)
         × (drop writer.new.behind writer.new.log.items ≡ drop writer.old.behind writer.old.log.items) }
-    ensures gate { IfOk result (λ gate. gate ≡ new_gate (view_of writer.old.desk.place).opening service.now) }
+    ensures gate { IfOk result (λ gate. gate ≡ new_gate (view_of writer.old.desk.place).opening
+        (view_of writer.old.desk.place).incarnation service.now) }
 {
     let Ok(service) = service.try_clone() else {
         return Err(OpenFault::NoMemory);

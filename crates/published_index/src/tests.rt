@@ -6,6 +6,7 @@ use crate::{Gate, GateFault, Merger, Receipt, ask_both, open};
 use harvest_lattice::{Harvest, State};
 use memento_index::Merge;
 use memento_time::{ArchiveName, Clean, Items, Memento, Moment, Octets, Original};
+use replica_exchange::{Cursor, Delta, TakeFault, read_delta};
 use std::alloc::Global;
 use std::sync::Wait;
 use std::sync::atomic::{AtomicU64, Ordering};
@@ -120,7 +121,7 @@ fn ask_after(gate: &mut Gate, receipt: Receipt, request: &Request) -> Result<Rep
 fn two_merges_are_shown_by_one_publish(rt: HostRuntime) -> Result<(), Fail> {
     let asked = timemap_request(&rt)?;
     let (one, two) = (first_merge(&rt)?, second_merge(&rt)?);
-    let Ok((mut merger, mut gates)) = open(&rt, rt.alloc(), service(&rt)?, 1) else {
+    let Ok((mut merger, mut gates)) = open(&rt, rt.alloc(), service(&rt)?, 1, 1) else {
         return Err(Fail::from("not opened"));
     };
     let first = merger.append(&one);
@@ -166,7 +167,7 @@ fn ask_after_both(gate: &mut Gate, newer: Receipt, older: Receipt, request: &Req
 fn an_older_receipt_that_is_learnt_later_takes_nothing_away(rt: HostRuntime) -> Result<(), Fail> {
     let asked = timemap_request(&rt)?;
     let (one, two) = (first_merge(&rt)?, second_merge(&rt)?);
-    let Ok((mut merger, mut gates)) = open(&rt, rt.alloc(), service(&rt)?, 1) else {
+    let Ok((mut merger, mut gates)) = open(&rt, rt.alloc(), service(&rt)?, 1, 1) else {
         return Err(Fail::from("not opened"));
     };
     let older = publish_merge(&rt, &mut merger, &one);
@@ -184,7 +185,7 @@ fn an_older_receipt_that_is_learnt_later_takes_nothing_away(rt: HostRuntime) -> 
 fn sixty_four_gates_show_what_was_published(rt: HostRuntime) -> Result<(), Fail> {
     let asked = timegate_request(&rt)?;
     let merge = first_merge(&rt)?;
-    let Ok((mut merger, mut gates)) = open(&rt, rt.alloc(), service(&rt)?, 64) else {
+    let Ok((mut merger, mut gates)) = open(&rt, rt.alloc(), service(&rt)?, 64, 1) else {
         return Err(Fail::from("not opened"));
     };
     let appended = merger.append(&merge);
@@ -204,7 +205,7 @@ fn sixty_four_gates_show_what_was_published(rt: HostRuntime) -> Result<(), Fail>
 #[test]
 fn a_gate_is_closed_once_its_merger_is_and_not_before(rt: HostRuntime) -> Result<(), Fail> {
     let asked = timegate_request(&rt)?;
-    let Ok((mut merger, mut gates)) = open(&rt, rt.alloc(), service(&rt)?, 1) else {
+    let Ok((mut merger, mut gates)) = open(&rt, rt.alloc(), service(&rt)?, 1, 1) else {
         return Err(Fail::from("not opened"));
     };
     let Some(mut gate) = gates.pop() else {
@@ -258,7 +259,7 @@ fn ask_and_stay<R: Clock>(
 #[test]
 fn a_gate_that_stays_in_its_entry_keeps_no_other_waiting(rt: HostRuntime) -> Result<(), Fail> {
     let asked = timegate_request(&rt)?;
-    let Ok((merger, mut gates)) = open(&rt, rt.alloc(), service(&rt)?, 2) else {
+    let Ok((merger, mut gates)) = open(&rt, rt.alloc(), service(&rt)?, 2, 1) else {
         return Err(Fail::from("not opened"));
     };
     let flag = AtomicU64::new(0);
@@ -283,11 +284,12 @@ fn publish_one<R: Wait>(
     rt: &R,
     alloc: Global,
     service: Service,
+    incarnation: u64,
     merge: &Merge,
 ) -> Option<(Merger, Gate)>
     ensures { IfSome result (λ made. made.1.base ≡ service) }
 {
-    let Ok((mut merger, mut gates)) = open(rt, alloc, service, 1) else {
+    let Ok((mut merger, mut gates)) = open(rt, alloc, service, 1, incarnation) else {
         return None;
     };
     let appended = merger.append(merge);
@@ -320,11 +322,18 @@ fn gates_of_two_replicas_with_one_state_answer_alike(rt: HostRuntime) -> Result<
     let base = service(&rt)?;
     let copy = base.try_clone()?;
     let mut alike = false;
-    if let Some((merger, mut gate)) = publish_one(&rt, rt.alloc(), base, &Merge::Harvest(direct)) {
+    if let Some((merger, mut gate)) = publish_one(
+        &rt,
+        rt.alloc(),
+        base,
+        1,
+        &Merge::Harvest(direct),
+    ) {
         if let Some((other_merger, mut other)) = publish_one(
             &rt,
             rt.alloc(),
             copy,
+            2,
             &Merge::State(state),
         ) {
             alike = answer_alike(&mut gate, &mut other, &asked);
@@ -333,5 +342,106 @@ fn gates_of_two_replicas_with_one_state_answer_alike(rt: HostRuntime) -> Result<
         merger.close(&rt);
     }
     assert!(rt; alike);
+    Ok(())
+}
+
+fn delta_request(rt: &HostRuntime, cursor: Option<Cursor>) -> Result<Request, Fail> {
+    match cursor {
+        None => request(rt, b"/delta"),
+        Some(cursor) => {
+            let target = format!(in rt.alloc(); "/delta/{}/{}", cursor.incarnation, cursor.number)?;
+            request(rt, target.as_bytes())
+        }
+    }
+}
+
+/// The delta from a cursor, as the gate tells it.
+fn ask_delta(rt: &HostRuntime, gate: &mut Gate, cursor: Option<Cursor>) -> Result<Delta, Fail> {
+    let request = delta_request(rt, cursor)?;
+    let reply = gate.answer(&request)?;
+    Ok(read_delta(rt.alloc(), reply.body.as_slice())?)
+}
+
+/// Appends the gate's delta from the cursor that is held for its replica, and says how many entries it has.
+fn pull(rt: &HostRuntime, gate: &mut Gate, merger: &mut Merger) -> Result<usize, Fail> {
+    let delta = ask_delta(rt, gate, merger.cursor(1))?;
+    merger.append_delta(1, &delta)?;
+    Ok(delta.state.len())
+}
+
+/// Two pulls and the cursor after them.
+fn pull_twice(
+    rt: &HostRuntime,
+    gate: &mut Gate,
+    merger: &mut Merger,
+) -> Result<(usize, usize, Option<Cursor>), Fail> {
+    let first = pull(rt, gate, merger)?;
+    let second = pull(rt, gate, merger)?;
+    Ok((first, second, merger.cursor(1)))
+}
+
+/// Whether the gate's delta from a cursor is refused as a gap behind nothing.
+fn is_gap(
+    rt: &HostRuntime,
+    gate: &mut Gate,
+    merger: &mut Merger,
+    cursor: Option<Cursor>,
+) -> Result<bool, Fail> {
+    let delta = ask_delta(rt, gate, cursor)?;
+    let refused = merger.append_delta(1, &delta);
+    Ok(refused == Err(TakeFault::Gap { held: None }) && merger.cursor(1).is_none())
+}
+
+/// The end of what a replica of incarnation 7 knows that took one harvest.
+fn end_of_one() -> Option<Cursor> {
+    Some(Cursor {
+        incarnation: 7,
+        number: 1,
+    })
+}
+
+#[test]
+fn deltas_go_from_a_gate_to_another_merger(rt: HostRuntime) -> Result<(), Fail> {
+    let asked = timegate_request(&rt)?;
+    let merge = first_merge(&rt)?;
+    let (base, other) = (service(&rt)?, service(&rt)?);
+    let Some((sender, mut gate)) = publish_one(&rt, rt.alloc(), base, 7, &merge) else {
+        return Err(Fail::from("not published"));
+    };
+    let mut shown = Shown::Other;
+    let pulled = match open(&rt, rt.alloc(), other, 1, 8) {
+        Ok((mut merger, mut gates)) => {
+            let pulled = pull_twice(&rt, &mut gate, &mut merger);
+            if let (Ok(_), Some(mut reader)) = (merger.publish(&rt), gates.pop()) {
+                shown = shown_by(reader.answer(&asked));
+            }
+            merger.close(&rt);
+            pulled
+        }
+        Err(_) => Err(Fail::from("not opened")),
+    };
+    sender.close(&rt);
+    assert_eq!(rt; pulled?, (1, 0, end_of_one()));
+    assert_eq!(rt; shown, Shown::First);
+    Ok(())
+}
+
+#[test]
+fn a_delta_behind_a_gap_is_refused(rt: HostRuntime) -> Result<(), Fail> {
+    let merge = first_merge(&rt)?;
+    let (base, other) = (service(&rt)?, service(&rt)?);
+    let Some((sender, mut gate)) = publish_one(&rt, rt.alloc(), base, 7, &merge) else {
+        return Err(Fail::from("not published"));
+    };
+    let refused = match open(&rt, rt.alloc(), other, 1, 8) {
+        Ok((mut fresh, _gates)) => {
+            let refused = is_gap(&rt, &mut gate, &mut fresh, end_of_one());
+            fresh.close(&rt);
+            refused
+        }
+        Err(_) => Err(Fail::from("not opened")),
+    };
+    sender.close(&rt);
+    assert!(rt; refused?);
     Ok(())
 }

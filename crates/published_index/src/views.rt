@@ -8,10 +8,11 @@ pub struct Opening {
     pub cells_name: u64,
 }
 
-/// Of which opening the copy was that was seen last, once one was, and which batches it held. A clause reads an array
-/// as a list of any length.
+/// Of which opening and incarnation the copy was that was seen last, once one was, and which batches it held. A clause
+/// reads an array as a list of any length.
 pub struct ReaderView {
     pub named: bool,
     pub opening: Opening,
+    pub incarnation: u64,
     pub front: [[Merge; 0]; 0],
 }

@@ -1,83 +1,32 @@
 -- After a run, what replicas have taken is what they have learnt.
-use Rattle.std.proofs.Common.{◌≡◌, ◌↔◌, ℕ, zero, suc, ◌+◌, ◌≤◌, ◌⊎◌, List, [], ◌∷◌, ◌++◌, length, Option, Some, None, Ok, Err, Contains, MatchOption, slice_get, slice_set, replicate, zip, refl, sym, ap, subst, ◌∙◌, append_assoc, append-nil, inl, inr, arith}
+use Rattle.std.proofs.Common.{◌≡◌, ◌↔◌, ℕ, ◌+◌, ◌≤◌, ◌⊎◌, List, [], ◌∷◌, ◌++◌, length, Option, Some, None, Ok, Err, Contains, MatchOption, zip, refl, sym, ap, subst, ◌∙◌, append_assoc, append-nil, inl, inr, arith}
 use Rattle.std.proofs.lemmas.List.{length_push}
 use Rattle.std.proofs.lemmas.Option.{same_Some}
 use Rattle.std.proofs.lemmas.List.Elements.{Contains-append_left, Contains-append_right, Contains-append_cases, Contains-push, Contains-push_cases}
 use Rattle.harvest_lattice.specs.Lattice.{Entries}
-use Rattle.harvest_lattice.specs.Knowledge.{Harvested, lat, adds}
+use Rattle.harvest_lattice.specs.Knowledge.{Harvested, adds}
 use Rattle.replica_exchange.proofs.StateLemmas.{one_text}
 use Rattle.timegate.specs.declared.reply.Reply.{Reply}
 use Rattle.timegate.specs.declared.request.Request.{Request}
-use Rattle.timegate.specs.Reply.{reply}
 use Rattle.replica_events.specs.declared.event.Event.{Event}
-use Rattle.replica_events.specs.declared.event.Event.TheVariants.{Take, Send, Deliver, Receive, Restart, Ask}
+use Rattle.replica_events.specs.declared.event.Event.TheVariants.{Take, Send, SendFrom, Deliver, Receive, Restart, Ask}
+use Rattle.replica_events.specs.declared.event.Said.{Said}
 use Rattle.replica_events.specs.declared.event.Said.TheVariants.{Taken, Sent, Joined, Restarted, Replied}
 use Rattle.replica_events.specs.declared.event.Refused.{Refused}
-use Rattle.replica_events.specs.declared.event.Refused.TheVariants.{NoReplica, NoMessage, BadState, NoMemory}
-use Rattle.replica_exchange.specs.StateText.{state_text}
+use Rattle.replica_events.specs.declared.event.Refused.TheVariants.{NoReplica, NoMessage, BadState, NoMemory, Gap, NumbersSpent}
+use Rattle.memento_index.specs.declared.merge.Merge.TheVariants as merge
+use Rattle.std.specs.FinMap as map
+use Rattle.replica_exchange.specs.declared.cursor.Cursor.{Cursor}
+use Rattle.replica_exchange.specs.declared.delta.Delta.{Delta}
+use Rattle.replica_exchange.specs.DeltaText.{delta_text}
+use Rattle.replica_exchange.specs.CursorRule.{delta_from}
 use Rattle.replica_events.specs.World as world
-use Rattle.replica_events.specs.World.{Knowledge, World, Replica, Message, Answer, Outcome, Course, Step, Run, Effect, Accepts, Refuses, WithMessage, IfWithinLimit, IsText, IfText, numbered, replica, message, with_replica, with_message, taking, sent_by, replica_reply, fresh, start}
+use Rattle.replica_events.specs.World.{Knowledge, World, Replica, Message, Answer, Outcome, Course, Step, Run, Effect, Accepts, Refuses, WithMessage, WithStamped, IfWithinLimit, IfNumberLeft, IsText, IfText, Merges, Joins, numbered, replica, message, with_replica, with_message, taking, joining, sent_by, own_cursor, replica_reply, fresh, start, restarting}
 use Rattle.replica_events.specs.Agreement.{HasTaken, SameHarvests}
 use Rattle.replica_events.specs.History.{Happened, History, history_of, sender_of, Learnt, LearntAlike, Carries, HasSent}
+use Rattle.replica_events.proofs.Numbers.{IsPlaced, replica_placed, messages_stay, Pushed, pushed}
+use Rattle.replica_events.proofs.Moments.{at_first, no_message_at_first}
 use Rattle.replica_events.proofs.Histories.{IsRestart, Gains, Sends, carries_still, carries_now, carries_before, carries_sent, learnt_push, nothing_after_restart, nothing_at_first}
-
--- ---- places
-
--- the element of the new one's number is the new one, and each other is as it was
-abbrev Placed : {X : Type 0} → List X → ℕ → X → ℕ → X → Type 0
-Placed xs p new q x = ((q ≡ p) × (x ≡ new)) ⊎ (¬ (q ≡ p) × (slice_get xs q ≡ Some x))
-
-placed_under : {X : Type 0} (y : X) (xs : List X) (p : ℕ) (new : X) (q : ℕ) (x : X) → Placed xs p new q x → Placed (y ∷ xs) (suc p) new (suc q) x
-placed_under y xs p new q x (inl (same, is)) = inl (ap suc same, is)
-placed_under y xs p new q x (inr (other, is)) = inr (λ same. other (omega (arith, same)), is)
-
-placed : {X : Type 0} (xs : List X) (p : ℕ) (old new : X) (q : ℕ) (x : X) → slice_get xs p ≡ Some old → slice_get (slice_set xs p new) q ≡ Some x → Placed xs p new q x
-placed [] p old new q x there is = cc
-placed (y ∷ xs) zero old new zero x there is = inl (refl, cc)
-placed (y ∷ xs) zero old new (suc q) x there is = inr (λ same. omega (arith, same), is)
-placed (y ∷ xs) (suc p) old new zero x there is = inr (λ same. omega (arith, same), is)
-placed (y ∷ xs) (suc p) old new (suc q) x there is = placed_under y xs p new q x (placed xs p old new q x there is)
-
--- the replica of the new one's number is the new one, and each other is as it was
-abbrev IsPlaced : World → ℕ → Replica → ℕ → Replica → Type 0
-IsPlaced w i new j r = ((j ≡ i) × (r ≡ new)) ⊎ (¬ (j ≡ i) × (replica w j ≡ Some r))
-
-numbers_placed : (w : World) (p : ℕ) (new : Replica) (q : ℕ) (r : Replica) → Placed w.replicas p new q r → IsPlaced w (suc p) new (suc q) r
-numbers_placed w p new q r (inl (same, is)) = inl (ap suc same, is)
-numbers_placed w p new q r (inr (other, is)) = inr (λ same. other (omega (arith, same)), is)
-
-replica_placed : (w : World) (i : ℕ) (old new : Replica) (j : ℕ) (r : Replica) → replica w i ≡ Some old → replica (with_replica w i new) j ≡ Some r → IsPlaced w i new j r
-replica_placed w zero old new j r there is = cc
-replica_placed w (suc p) old new zero r there is = cc
-replica_placed w (suc p) old new (suc q) r there is = numbers_placed w p new q r (placed w.replicas p old new q r there is)
-
-messages_stay : (w : World) (i : ℕ) (r : Replica) → (with_replica w i r).messages ≡ w.messages
-messages_stay w zero r = refl
-messages_stay w (suc p) r = refl
-
--- the element is the last one, or had the number before
-abbrev Pushed : {X : Type 0} → List X → X → ℕ → X → Type 0
-Pushed xs last k x = ((k ≡ length xs + 1) × (x ≡ last)) ⊎ ((k ≤ length xs) × (numbered xs k ≡ Some x))
-
-get_pushed : {X : Type 0} (xs : List X) (last : X) (place : ℕ) (x : X) → slice_get (xs ++ last ∷ []) place ≡ Some x
-    → ((place ≡ length xs) × (x ≡ last)) ⊎ ((suc place ≤ length xs) × (slice_get xs place ≡ Some x))
-get_pushed [] last zero x is = inl (refl, cc)
-get_pushed [] last (suc place) x is = cc
-get_pushed (y ∷ xs) last zero x is = inr (omega arith, is)
-get_pushed (y ∷ xs) last (suc place) x is = under (get_pushed xs last place x is)
-  where
-    under : ((place ≡ length xs) × (x ≡ last)) ⊎ ((suc place ≤ length xs) × (slice_get xs place ≡ Some x))
-        → ((suc place ≡ suc (length xs)) × (x ≡ last)) ⊎ ((suc (suc place) ≤ suc (length xs)) × (slice_get xs place ≡ Some x))
-    under (inl (at, last_is)) = inl (ap suc at, last_is)
-    under (inr (within, there)) = inr (omega (arith, within), there)
-
-pushed : {X : Type 0} (xs : List X) (last : X) (k : ℕ) (x : X) → numbered (xs ++ last ∷ []) k ≡ Some x → Pushed xs last k x
-pushed xs last zero x is = cc
-pushed xs last (suc place) x is = numbers (get_pushed xs last place x is)
-  where
-    numbers : ((place ≡ length xs) × (x ≡ last)) ⊎ ((suc place ≤ length xs) × (slice_get xs place ≡ Some x)) → Pushed xs last (suc place) x
-    numbers (inl (at, last_is)) = inl (omega (arith, at), last_is)
-    numbers (inr (within, there)) = inr (within, there)
 
 -- ---- one event
 
@@ -87,7 +36,7 @@ record Explains (history : History) (w : World) : Type 0 where
   pub carried : (k : ℕ) (m : Message) → message w k ≡ Some m → (h : Harvested) → Contains m.taken h ↔ Carries history k h
   pub numbers : (sending : Event) (k : ℕ) → Contains history (sending, Ok (Sent k)) → k ≤ length w.messages
   pub sent : (k : ℕ) (m : Message) → message w k ≡ Some m → HasSent history m.sender k
-  pub bytes : (k : ℕ) (m : Message) → message w k ≡ Some m → m.bytes ≡ state_text (lat m.taken)
+  pub bytes : (k : ℕ) (m : Message) → message w k ≡ Some m → m.bytes ≡ delta_text m.delta
 
 -- the answer isn't that a message was sent
 abbrev IsUnsent : Answer → Type 0
@@ -159,13 +108,13 @@ replied history i q r w explains = idles history (Ask i q) (Ok (Replied r)) w ex
     none j h (inr (inr (message, event_is, answer_is, c))) = cc
 
 -- one replica takes more
-gains : (history : History) (event : Event) (answer : Answer) (w : World) (i : ℕ) (r : Replica) (more : Knowledge) → Explains history w → replica w i ≡ Some r
+gains : (history : History) (event : Event) (answer : Answer) (w : World) (i : ℕ) (r next : Replica) (more : Knowledge) → next.taken ≡ r.taken ++ more → Explains history w → replica w i ≡ Some r
     → IsUnsent answer → ((j : ℕ) → ¬ IsRestart event answer j)
     → ((h : Harvested) → Contains more h ↔ Gains history event answer i h) → ((j : ℕ) (h : Harvested) → Gains history event answer j h → j ≡ i)
-    → Explains (history ++ (event, answer) ∷ []) (with_replica w i (taking r more))
-gains history event answer w i r more explains there unsent other brings only =
-    without_message history event answer w (with_replica w i (taking r more)) explains (messages_stay w i (taking r more)) unsent
-    (λ j s is h. at j s h (replica_placed w i r (taking r more) j s there is))
+    → Explains (history ++ (event, answer) ∷ []) (with_replica w i next)
+gains history event answer w i r next more next_is explains there unsent other brings only =
+    without_message history event answer w (with_replica w i next) explains (messages_stay w i next) unsent
+    (λ j s is h. at j s h (replica_placed w i r next j s there is))
   where
     here : (h : Harvested) → Contains (r.taken ++ more) h ↔ Learnt (history ++ (event, answer) ∷ []) i h
     here h =
@@ -176,10 +125,11 @@ gains history event answer w i r more explains there unsent other brings only =
         joined (inl before) = Contains-append_left r.taken more h before
         joined (inr now) = Contains-append_right r.taken more h now
 
-    at : (j : ℕ) (s : Replica) (h : Harvested) → IsPlaced w i (taking r more) j s → Contains s.taken h ↔ Learnt (history ++ (event, answer) ∷ []) j h
+    at : (j : ℕ) (s : Replica) (h : Harvested) → IsPlaced w i next j s → Contains s.taken h ↔ Learnt (history ++ (event, answer) ∷ []) j h
     at j s h (inl (same, is)) =
         subst (λ (s : Replica). Contains s.taken h ↔ Learnt (history ++ (event, answer) ∷ []) j h) (sym is)
-        (subst (λ (j : ℕ). Contains (r.taken ++ more) h ↔ Learnt (history ++ (event, answer) ∷ []) j h) (sym same) (here h))
+        (subst (λ (j : ℕ). Contains next.taken h ↔ Learnt (history ++ (event, answer) ∷ []) j h) (sym same)
+        (subst (λ (known : Knowledge). Contains known h ↔ Learnt (history ++ (event, answer) ∷ []) i h) (sym next_is) (here h)))
     at j s h (inr (elsewhere, is)) = same_learnt history event answer j h (explains.taken j s is h) (λ g. elsewhere (only j h g)) (other j)
 
 only_one : (g h : Harvested) → Contains (g ∷ []) h → g ≡ h
@@ -190,9 +140,9 @@ only_one g h at = last (Contains-push_cases [] g h at)
     last (inr is) = is
 
 taken : (history : History) (w : World) (i : ℕ) (g : Harvested) (r : Replica) → Explains history w → replica w i ≡ Some r
-    → Explains (history ++ (Take i g, Ok Taken) ∷ []) (with_replica w i (taking r (g ∷ [])))
+    → Explains (history ++ (Take i g, Ok Taken) ∷ []) (with_replica w i (taking r (g ∷ []) (merge.Harvest g)))
 taken history w i g r explains there =
-    gains history (Take i g) (Ok Taken) w i r (g ∷ []) explains there (λ message answer_is. cc) other (λ h. (λ at. to h (only_one g h at), from h)) only
+    gains history (Take i g) (Ok Taken) w i r (taking r (g ∷ []) (merge.Harvest g)) (g ∷ []) refl explains there (λ message answer_is. cc) other (λ h. (λ at. to h (only_one g h at), from h)) only
   where
     other : (j : ℕ) → ¬ IsRestart (Take i g) (Ok Taken) j
     other j (event_is, answer_is) = cc
@@ -211,9 +161,9 @@ taken history w i g r explains there =
     only j h (inr (inr (message, event_is, answer_is, c))) = cc
 
 received : (history : History) (w : World) (i : ℕ) (bytes : List ℕ) (s : Entries) (r : Replica) → Explains history w → replica w i ≡ Some r → IsText bytes s
-    → Explains (history ++ (Receive i bytes, Ok Joined) ∷ []) (with_replica w i (taking r (adds s)))
+    → Explains (history ++ (Receive i bytes, Ok Joined) ∷ []) (with_replica w i (taking r (adds s) (merge.State s)))
 received history w i bytes s r explains there text =
-    gains history (Receive i bytes) (Ok Joined) w i r (adds s) explains there (λ message answer_is. cc) other (λ h. (to h, from h)) only
+    gains history (Receive i bytes) (Ok Joined) w i r (taking r (adds s) (merge.State s)) (adds s) refl explains there (λ message answer_is. cc) other (λ h. (to h, from h)) only
   where
     other : (j : ℕ) → ¬ IsRestart (Receive i bytes) (Ok Joined) j
     other j (event_is, answer_is) = cc
@@ -235,9 +185,9 @@ received history w i bytes s r explains there text =
     only j h (inr (inr (message, event_is, answer_is, c))) = cc
 
 delivered : (history : History) (w : World) (i k : ℕ) (m : Message) (r : Replica) → Explains history w → replica w i ≡ Some r → message w k ≡ Some m
-    → Explains (history ++ (Deliver i k, Ok Joined) ∷ []) (with_replica w i (taking r m.taken))
+    → Explains (history ++ (Deliver i k, Ok Joined) ∷ []) (with_replica w i (joining r m))
 delivered history w i k m r explains there sent =
-    gains history (Deliver i k) (Ok Joined) w i r m.taken explains there (λ message answer_is. cc) other (λ h. (to h, from h)) only
+    gains history (Deliver i k) (Ok Joined) w i r (joining r m) m.taken refl explains there (λ message answer_is. cc) other (λ h. (to h, from h)) only
   where
     other : (j : ℕ) → ¬ IsRestart (Deliver i k) (Ok Joined) j
     other j (event_is, answer_is) = cc
@@ -257,10 +207,10 @@ delivered history w i k m r explains there sent =
     only j h (inr (inl (bytes, state, event_is, answer_is, text, at))) = cc
     only j h (inr (inr (number, event_is, answer_is, c))) = cc
 
-restarted : (history : History) (w : World) (i : ℕ) (r : Replica) → Explains history w → replica w i ≡ Some r → Explains (history ++ (Restart i, Ok Restarted) ∷ []) (with_replica w i fresh)
+restarted : (history : History) (w : World) (i : ℕ) (r : Replica) → Explains history w → replica w i ≡ Some r → Explains (history ++ (Restart i, Ok Restarted) ∷ []) (restarting w i)
 restarted history w i r explains there =
-    without_message history (Restart i) (Ok Restarted) w (with_replica w i fresh) explains (messages_stay w i fresh) (λ message answer_is. cc)
-    (λ j s is h. at j s h (replica_placed w i r fresh j s there is))
+    without_message history (Restart i) (Ok Restarted) w (restarting w i) explains (messages_stay w i (fresh (w.last + 1))) (λ message answer_is. cc)
+    (λ j s is h. at j s h (replica_placed w i r (fresh (w.last + 1)) j s there is))
   where
     none : (j : ℕ) (h : Harvested) → ¬ Gains history (Restart i) (Ok Restarted) j h
     none j h (inl (event_is, answer_is)) = cc
@@ -276,23 +226,23 @@ restarted history w i r explains there =
     same : (j : ℕ) → IsRestart (Restart i) (Ok Restarted) j → j ≡ i
     same j (event_is, answer_is) = cc
 
-    at : (j : ℕ) (s : Replica) (h : Harvested) → IsPlaced w i fresh j s → Contains s.taken h ↔ Learnt (history ++ (Restart i, Ok Restarted) ∷ []) j h
+    at : (j : ℕ) (s : Replica) (h : Harvested) → IsPlaced w i (fresh (w.last + 1)) j s → Contains s.taken h ↔ Learnt (history ++ (Restart i, Ok Restarted) ∷ []) j h
     at j s h (inl (j_is, is)) =
         subst (λ (s : Replica). Contains s.taken h ↔ Learnt (history ++ (Restart i, Ok Restarted) ∷ []) j h) (sym is)
         (subst (λ (j : ℕ). Contains [] h ↔ Learnt (history ++ (Restart i, Ok Restarted) ∷ []) j h) (sym j_is) (here h))
     at j s h (inr (elsewhere, is)) = same_learnt history (Restart i) (Ok Restarted) j h (explains.taken j s is h) (none j h) (λ again. elsewhere (same j again))
 
-sent : (history : History) (w : World) (event : Event) (i : ℕ) (r : Replica) → sender_of event ≡ Some i → Explains history w → replica w i ≡ Some r
-    → Explains (history ++ (event, Ok (Sent (length w.messages + 1))) ∷ []) (with_message w (sent_by i r))
-sent history w event i r sends explains there = record {
+sent : (history : History) (w : World) (event : Event) (i : ℕ) (r : Replica) (d : Delta) → sender_of event ≡ Some i → Explains history w → replica w i ≡ Some r
+    → Explains (history ++ (event, Ok (Sent (length w.messages + 1))) ∷ []) (with_message w (sent_by i r d))
+sent history w event i r d sends explains there = record {
   taken = λ j s is h. same_learnt history event said j h (explains.taken j s is h) (none j h) (other j);
-  carried = λ k m is h. at k m h (pushed w.messages (sent_by i r) k m is);
+  carried = λ k m is h. at k m h (pushed w.messages (sent_by i r d) k m is);
   numbers = λ sending k has.
-      let count = length_push w.messages (sent_by i r) in
+      let count = length_push w.messages (sent_by i r d) in
       let few : k ≤ length w.messages + 1 = bound sending k (Contains-push_cases history (event, said) (sending, Ok (Sent k)) has) in
       omega (arith, count, few);
-  sent = λ k m is. sender k m (pushed w.messages (sent_by i r) k m is);
-  bytes = λ k m is. text k m (pushed w.messages (sent_by i r) k m is);
+  sent = λ k m is. sender k m (pushed w.messages (sent_by i r d) k m is);
+  bytes = λ k m is. text k m (pushed w.messages (sent_by i r d) k m is);
 }
   where
     said : Answer
@@ -332,7 +282,7 @@ sent history w event i r sends explains there = record {
         let is : k ≡ length w.messages + 1 = cc in
         absurd (omega (arith, is, few))
 
-    at : (k : ℕ) (m : Message) (h : Harvested) → Pushed w.messages (sent_by i r) k m → Contains m.taken h ↔ Carries (history ++ (event, said) ∷ []) k h
+    at : (k : ℕ) (m : Message) (h : Harvested) → Pushed w.messages (sent_by i r d) k m → Contains m.taken h ↔ Carries (history ++ (event, said) ∷ []) k h
     at k m h (inl (k_is, is)) =
         subst (λ (m : Message). Contains m.taken h ↔ Carries (history ++ (event, said) ∷ []) k h) (sym is)
         (subst (λ (k : ℕ). Contains r.taken h ↔ Carries (history ++ (event, said) ∷ []) k h) (sym k_is) (new_message h))
@@ -343,14 +293,14 @@ sent history w event i r sends explains there = record {
     sent_now : HasSent (history ++ (event, said) ∷ []) i (length w.messages + 1)
     sent_now = record { sending = event; sends = sends; sent = Contains-push history (event, said) }
 
-    sender : (k : ℕ) (m : Message) → Pushed w.messages (sent_by i r) k m → HasSent (history ++ (event, said) ∷ []) m.sender k
+    sender : (k : ℕ) (m : Message) → Pushed w.messages (sent_by i r d) k m → HasSent (history ++ (event, said) ∷ []) m.sender k
     sender k m (inl (k_is, is)) =
         subst (λ (m : Message). HasSent (history ++ (event, said) ∷ []) m.sender k) (sym is)
         (subst (λ (k : ℕ). HasSent (history ++ (event, said) ∷ []) i k) (sym k_is) sent_now)
     sender k m (inr (few, is)) = sent_still history (event, said) m.sender k (explains.sent k m is)
 
-    text : (k : ℕ) (m : Message) → Pushed w.messages (sent_by i r) k m → m.bytes ≡ state_text (lat m.taken)
-    text k m (inl (k_is, is)) = subst (λ (m : Message). m.bytes ≡ state_text (lat m.taken)) (sym is) refl
+    text : (k : ℕ) (m : Message) → Pushed w.messages (sent_by i r d) k m → m.bytes ≡ delta_text m.delta
+    text k m (inl (k_is, is)) = subst (λ (m : Message). m.bytes ≡ delta_text m.delta) (sym is) refl
     text k m (inr (few, is)) = explains.bytes k m is
 
 -- ---- each event
@@ -375,43 +325,60 @@ at_message : (history : History) (w : World) (event : Event) (o : Option Message
 at_message history w event None happens why answer new explains p found = explained_as history event answer (Err why) new w p.0 p.1 (refused history event why w explains)
 at_message history w event (Some m) happens why answer new explains p found = found m refl p
 
-if_within_limit : (history : History) (w : World) (event : Event) (bytes : List ℕ) (next : World) (answer : Answer) (new : World) → Explains history w
-    → Explains (history ++ (event, Ok Joined) ∷ []) next → IfWithinLimit bytes (Accepts Joined next) (Refuses BadState w) answer new → Explains (history ++ (event, answer) ∷ []) new
-if_within_limit history w event bytes next answer new explains joined (inl (few, p)) = explained_as history event answer (Ok Joined) new next p.0 p.1 joined
-if_within_limit history w event bytes next answer new explains joined (inr (many, p)) = explained_as history event answer (Err BadState) new w p.0 p.1 (refused history event BadState w explains)
-
-if_text : (history : History) (w : World) (event : Event) (bytes : List ℕ) (next : Entries → World) (answer : Answer) (new : World) → Explains history w
-    → ((s : Entries) → IsText bytes s → Explains (history ++ (event, Ok Joined) ∷ []) (next s)) → IfText bytes (λ s. Accepts Joined (next s)) (Refuses BadState w) answer new
+if_text : (history : History) (w : World) (event : Event) (bytes : List ℕ) (happens : Entries → Outcome) (answer : Answer) (new : World) → Explains history w
+    → ((s : Entries) → IsText bytes s → happens s answer new → Explains (history ++ (event, answer) ∷ []) new) → IfText bytes happens (Refuses BadState w) answer new
     → Explains (history ++ (event, answer) ∷ []) new
-if_text history w event bytes next answer new explains joined (inl (s, text, p)) = explained_as history event answer (Ok Joined) new (next s) p.0 p.1 (joined s text)
-if_text history w event bytes next answer new explains joined (inr (none, p)) = explained_as history event answer (Err BadState) new w p.0 p.1 (refused history event BadState w explains)
+if_text history w event bytes happens answer new explains joined (inl (s, text, p)) = joined s text p
+if_text history w event bytes happens answer new explains joined (inr (none, p)) = explained_as history event answer (Err BadState) new w p.0 p.1 (refused history event BadState w explains)
 
-sends_explained : (history : History) (w : World) (event : Event) (i : ℕ) (answer : Answer) (new : World) → sender_of event ≡ Some i → Explains history w
-    → world.Sends w i answer new → Explains (history ++ (event, answer) ∷ []) new
-sends_explained history w event i answer new sends explains effect =
-    at_replica history w event (replica w i) (λ r. Accepts (Sent (length w.messages + 1)) (with_message w (sent_by i r))) NoReplica answer new explains effect
-    (λ r there p. explained_as history event answer _ new _ p.0 p.1 (sent history w event i r sends explains there))
+-- where a number is left, and where none is
+if_left : (history : History) (w : World) (event : Event) (n : ℕ) (said : Said) (next : World) (answer : Answer) (new : World) → Explains history w
+    → Explains (history ++ (event, Ok said) ∷ []) next → IfNumberLeft n (Accepts said next) (Refuses NumbersSpent w) answer new → Explains (history ++ (event, answer) ∷ []) new
+if_left history w event n said next answer new explains accepted (inl (few, p)) = explained_as history event answer (Ok said) new next p.0 p.1 accepted
+if_left history w event n said next answer new explains accepted (inr (spent, p)) = explained_as history event answer (Err NumbersSpent) new w p.0 p.1 (refused history event NumbersSpent w explains)
+
+sends_explained : (history : History) (w : World) (event : Event) (i : ℕ) (cursor : Replica → Option Cursor) (answer : Answer) (new : World) → sender_of event ≡ Some i → Explains history w
+    → world.Sends w i cursor answer new → Explains (history ++ (event, answer) ∷ []) new
+sends_explained history w event i cursor answer new sends explains effect =
+    at_replica history w event (replica w i) (λ r. WithStamped r (λ s. Accepts (Sent (length w.messages + 1)) (with_message w (sent_by i r (delta_from s (cursor r)))))) NoReplica answer new explains effect
+    (λ r there p. explained_as history event answer (Ok (Sent (length w.messages + 1))) new (with_message w (sent_by i r (delta_from p.0 (cursor r)))) p.3.0 p.3.1
+    (sent history w event i r (delta_from p.0 (cursor r)) sends explains there))
+
+joins_explained : (history : History) (w : World) (i k : ℕ) (r : Replica) (m : Message) (answer : Answer) (new : World) → Explains history w → replica w i ≡ Some r → message w k ≡ Some m
+    → Joins w i r m answer new → Explains (history ++ (Deliver i k, answer) ∷ []) new
+joins_explained history w i k r m answer new explains there found (inl (fit, p)) =
+    if_left history w (Deliver i k) (length r.merges) Joined (with_replica w i (joining r m)) answer new explains (delivered history w i k m r explains there found) p
+joins_explained history w i k r m answer new explains there found (inr (gap, p)) =
+    explained_as history (Deliver i k) answer (Err (Gap (map.get r.cursors m.sender))) new w p.0 p.1 (refused history (Deliver i k) (Gap (map.get r.cursors m.sender)) w explains)
+
+bounded : (history : History) (w : World) (i k : ℕ) (r : Replica) (m : Message) (answer : Answer) (new : World) → Explains history w → replica w i ≡ Some r → message w k ≡ Some m
+    → IfWithinLimit m.bytes (Joins w i r m) (Refuses BadState w) answer new → Explains (history ++ (Deliver i k, answer) ∷ []) new
+bounded history w i k r m answer new explains there found (inl (few, p)) = joins_explained history w i k r m answer new explains there found p
+bounded history w i k r m answer new explains there found (inr (many, p)) =
+    explained_as history (Deliver i k) answer (Err BadState) new w p.0 p.1 (refused history (Deliver i k) BadState w explains)
 
 effect_explained : (base : List ℕ) (history : History) (w : World) (event : Event) (answer : Answer) (new : World) → Explains history w → Effect base w event answer new
     → Explains (history ++ (event, answer) ∷ []) new
 effect_explained base history w (Take i g) answer new explains effect =
-    at_replica history w (Take i g) (replica w i) (λ r. Accepts Taken (with_replica w i (taking r (g ∷ [])))) NoReplica answer new explains effect
-    (λ r there p. explained_as history (Take i g) answer _ new _ p.0 p.1 (taken history w i g r explains there))
-effect_explained base history w (Send i) answer new explains effect = sends_explained history w (Send i) i answer new refl explains effect
+    at_replica history w (Take i g) (replica w i) (λ r. Merges w r Taken (with_replica w i (taking r (g ∷ []) (merge.Harvest g)))) NoReplica answer new explains effect
+    (λ r there p. if_left history w (Take i g) (length r.merges) Taken _ answer new explains (taken history w i g r explains there) p)
+effect_explained base history w (Send i) answer new explains effect = sends_explained history w (Send i) i (λ _. None) answer new refl explains effect
+effect_explained base history w (SendFrom i n) answer new explains effect = sends_explained history w (SendFrom i n) i (own_cursor n) answer new refl explains effect
 effect_explained base history w (Deliver i k) answer new explains effect =
-    at_replica history w (Deliver i k) (replica w i) (λ r. WithMessage w k (λ m. IfWithinLimit m.bytes (Accepts Joined (with_replica w i (taking r m.taken))) (Refuses BadState w))) NoReplica answer new
-    explains effect
-    (λ r there p. at_message history w (Deliver i k) (message w k) (λ m. IfWithinLimit m.bytes (Accepts Joined (with_replica w i (taking r m.taken))) (Refuses BadState w)) NoMessage answer new explains p
-    (λ m found q. if_within_limit history w (Deliver i k) m.bytes (with_replica w i (taking r m.taken)) answer new explains (delivered history w i k m r explains there found) q))
+    at_replica history w (Deliver i k) (replica w i) (λ r. WithMessage w k (λ m. IfWithinLimit m.bytes (Joins w i r m) (Refuses BadState w))) NoReplica answer new explains effect
+    (λ r there p. at_message history w (Deliver i k) (message w k) (λ m. IfWithinLimit m.bytes (Joins w i r m) (Refuses BadState w)) NoMessage answer new explains p
+    (λ m found q. bounded history w i k r m answer new explains there found q))
 effect_explained base history w (Receive i bytes) answer new explains effect =
-    at_replica history w (Receive i bytes) (replica w i) (λ r. IfText bytes (λ s. Accepts Joined (with_replica w i (taking r (adds s)))) (Refuses BadState w)) NoReplica answer new explains effect
-    (λ r there p. if_text history w (Receive i bytes) bytes (λ s. with_replica w i (taking r (adds s))) answer new explains (λ s text. received history w i bytes s r explains there text) p)
+    at_replica history w (Receive i bytes) (replica w i) (λ r. IfText bytes (λ s. Merges w r Joined (with_replica w i (taking r (adds s) (merge.State s)))) (Refuses BadState w)) NoReplica answer new
+    explains effect
+    (λ r there p. if_text history w (Receive i bytes) bytes (λ s. Merges w r Joined (with_replica w i (taking r (adds s) (merge.State s)))) answer new explains
+    (λ s text q. if_left history w (Receive i bytes) (length r.merges) Joined _ answer new explains (received history w i bytes s r explains there text) q) p)
 effect_explained base history w (Restart i) answer new explains effect =
-    at_replica history w (Restart i) (replica w i) (λ r. Accepts Restarted (with_replica w i fresh)) NoReplica answer new explains effect
-    (λ r there p. explained_as history (Restart i) answer _ new _ p.0 p.1 (restarted history w i r explains there))
+    at_replica history w (Restart i) (replica w i) (λ r. IfNumberLeft w.last (Accepts Restarted (restarting w i)) (Refuses NumbersSpent w)) NoReplica answer new explains effect
+    (λ r there p. if_left history w (Restart i) w.last Restarted (restarting w i) answer new explains (restarted history w i r explains there) p)
 effect_explained base history w (Ask i q) answer new explains effect =
-    at_replica history w (Ask i q) (replica w i) (λ r. Accepts (Replied (replica_reply base r q)) w) NoReplica answer new explains effect
-    (λ r there p. explained_as history (Ask i q) answer _ new _ p.0 p.1 (replied history i q _ w explains))
+    at_replica history w (Ask i q) (replica w i) (λ r. WithStamped r (λ s. Accepts (Replied (replica_reply base r s q)) w)) NoReplica answer new explains effect
+    (λ r there p. explained_as history (Ask i q) answer _ new _ p.3.0 p.3.1 (replied history i q _ w explains))
 
 step_explained : (base : List ℕ) (history : History) (w : World) (event : Event) (answer : Answer) (new : World) → Explains history w → Step base w event answer new
     → Explains (history ++ (event, answer) ∷ []) new
@@ -430,23 +397,10 @@ run_explained base history w (event ∷ events) (answer ∷ answers) end explain
     subst (λ (l : History). Explains l end) (append_assoc history ((event, answer) ∷ []) (zip events answers))
     (run_explained base (history ++ (event, answer) ∷ []) run.0 events answers end first run.2)
 
-get_fresh : (count place : ℕ) (r : Replica) → slice_get (replicate count fresh) place ≡ Some r → r ≡ fresh
-get_fresh zero place r is = cc
-get_fresh (suc count) zero r is = cc
-get_fresh (suc count) (suc place) r is = get_fresh count place r is
-
-fresh_at_first : (count i : ℕ) (r : Replica) → replica (start count) i ≡ Some r → r ≡ fresh
-fresh_at_first count zero r is = cc
-fresh_at_first count (suc place) r is = get_fresh count place r is
-
-no_message_at_first : (count k : ℕ) (m : Message) → ¬ (message (start count) k ≡ Some m)
-no_message_at_first count zero m is = cc
-no_message_at_first count (suc place) m is = cc
-
 start_explained : (count : ℕ) → Explains [] (start count)
 start_explained count = record {
   taken = λ i r there h.
-      let is : r.taken ≡ [] = ap (λ (r : Replica). r.taken) (fresh_at_first count i r there) in
+      let is : r.taken ≡ [] = ap (λ (r : Replica). r.taken) (at_first count i r there).0 in
       (λ has. absurd (nothing (subst (λ (known : Knowledge). Contains known h) is has)), λ learnt. absurd (nothing_at_first refl learnt));
   carried = λ k m there h. absurd (no_message_at_first count k m there);
   numbers = λ sending k at. let below = at.1 in absurd (omega (arith, below));
@@ -465,14 +419,14 @@ pub taken_is_learnt : {base : List ℕ} (course : Course base) (i : ℕ) (known 
 taken_is_learnt course i known (r, there, is) h =
     subst (λ (known : Knowledge). Contains known h ↔ Learnt (history_of course) i h) is ((course_explained course).taken i r there h)
 
--- a message has what its sender had learnt, its sender, and the text of its state
+-- a message has what its sender had learnt, its sender, and the text of its delta
 pub message_carries : {base : List ℕ} (course : Course base) (k : ℕ) (m : Message) → message course.world k ≡ Some m → (h : Harvested) → Contains m.taken h ↔ Carries (history_of course) k h
 message_carries course k m there h = (course_explained course).carried k m there h
 
 pub message_sender : {base : List ℕ} (course : Course base) (k : ℕ) (m : Message) → message course.world k ≡ Some m → HasSent (history_of course) m.sender k
 message_sender course k m there = (course_explained course).sent k m there
 
-pub message_bytes : {base : List ℕ} (course : Course base) (k : ℕ) (m : Message) → message course.world k ≡ Some m → m.bytes ≡ state_text (lat m.taken)
+pub message_bytes : {base : List ℕ} (course : Course base) (k : ℕ) (m : Message) → message course.world k ≡ Some m → m.bytes ≡ delta_text m.delta
 message_bytes course k m there = (course_explained course).bytes k m there
 
 -- so replicas that have learnt the same have taken the same

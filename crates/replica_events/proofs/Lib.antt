@@ -1,6 +1,10 @@
 mod Histories
+pub mod Numbers
+pub mod Sound
+pub mod Moments
 pub mod Explained
 mod Deliveries
+pub mod Stampings
 pub mod Outcomes
 mod Causes
 pub mod Replies

@@ -1,11 +1,11 @@
 -- When replicas agree: the same harvests, the same TimeMaps, the same replies, and redirects to nearest mementos.
-use Rattle.std.specs.Prelude.{◌≡◌, ℕ, ⊤, ◌↔◌, ◌==◌, if◌then◌else◌, List, [], length, Contains, Option, Some, None, Ok}
+use Rattle.std.specs.Prelude.{◌≡◌, ℕ, ◌↔◌, ◌==◌, if◌then◌else◌, List, [], length, Contains, Option, Some, None, Ok}
 use Rattle.harvest_lattice.specs.Sets as set
 use Rattle.harvest_lattice.specs.Knowledge.{Harvested, shown}
 use Rattle.timegate.specs.declared.reply.Reply.{Reply}
 use Rattle.timegate.specs.declared.request.Request.{Request}
 use Rattle.timegate.specs.declared.route.Route.TheVariants.{TimeGate, TimeMap}
-use Rattle.timegate.specs.Route.{route_of, is_head}
+use Rattle.timegate.specs.Route.{IsOfTaken, route_of, is_head}
 use Rattle.timegate.specs.Reply.{timemap_of}
 use Rattle.timegate.specs.Redirect.{Redirects, IsGateReply}
 use Rattle.replica_events.specs.declared.event.Event.TheVariants.{Ask}
@@ -19,10 +19,6 @@ SameHarvests known other = (h : Harvested) → Contains known h ↔ Contains oth
 -- the replica of this number is there, and has taken these harvests since its last restart
 abbrev pub HasTaken : World → ℕ → Knowledge → Type 0
 HasTaken world i known = (r : Replica) × (replica world i ≡ Some r) × (r.taken ≡ known)
-
--- the reply to the request depends on what a replica has taken, and on nothing else that it keeps: so does each
-abbrev pub IsOfTaken : Request → Type 0
-IsOfTaken q = ⊤
 
 -- the replica of this number gives this reply where it is asked
 pub record Gives (base : List ℕ) (world : World) (i : ℕ) (q : Request) (r : Reply) : Type 0 where

@@ -3,7 +3,7 @@ use Rattle.std.specs.Prelude.{◌≡◌, ◌↔◌, ℕ, List, ◌∷◌, ◌++�
 use Rattle.harvest_lattice.specs.Lattice.{Entries}
 use Rattle.harvest_lattice.specs.Knowledge.{Harvested, adds}
 use Rattle.replica_events.specs.declared.event.Event.{Event}
-use Rattle.replica_events.specs.declared.event.Event.TheVariants.{Take, Send, Deliver, Receive, Restart, Ask}
+use Rattle.replica_events.specs.declared.event.Event.TheVariants.{Take, Send, SendFrom, Deliver, Receive, Restart, Ask}
 use Rattle.replica_events.specs.declared.event.Said.TheVariants.{Taken, Sent, Joined, Restarted}
 use Rattle.replica_events.specs.World.{Answer, Course, IsText}
 
@@ -26,6 +26,7 @@ NoRestart history i = ¬ Contains history (Restart i, Ok Restarted)
 -- the replica that sends by an event, if one does
 abbrev pub sender_of : Event → Option ℕ
 sender_of (Send i) = Some i
+sender_of (SendFrom i n) = Some i
 sender_of (Take i h) = None
 sender_of (Deliver i k) = None
 sender_of (Receive i bytes) = None

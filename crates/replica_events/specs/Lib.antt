@@ -3,3 +3,4 @@ pub mod Refusals
 pub mod History
 pub mod Faults
 pub mod Agreement
+pub mod Cursors

@@ -1,12 +1,14 @@
 //! What holds of all replicas of a world.
-ghost use Rattle.std.specs.Prelude.{◌≡◌, ◌↔◌, ℕ, List};
+ghost use Rattle.std.specs.Prelude.{◌≡◌, ◌↔◌, ℕ, List, Some};
 ghost use Rattle.harvest_lattice.specs.Knowledge.{lat};
 ghost use Rattle.timegate.specs.declared.reply.Reply.{Reply};
 ghost use Rattle.timegate.specs.declared.request.Request.{Request};
-ghost use Rattle.timegate.specs.Reply.{reply};
-ghost use Rattle.replica_events.specs.World.{Knowledge, World, Course};
+ghost use Rattle.timegate.specs.Reply.{reply, reply_of};
+ghost use Rattle.timegate.specs.Route.{IsOfTaken};
+ghost use Rattle.replica_exchange.specs.Stamps.{StampedState, IsStamped};
+ghost use Rattle.replica_events.specs.World.{Knowledge, World, Replica, Course, replica};
 ghost use Rattle.replica_events.specs.History.{LearntAlike, history_of};
-ghost use Rattle.replica_events.specs.Agreement.{HasTaken, IsOfTaken, Gives, SameHarvests, Agree, ServesTimeMaps};
+ghost use Rattle.replica_events.specs.Agreement.{HasTaken, Gives, SameHarvests, Agree, ServesTimeMaps};
 ghost use Rattle.replica_events.specs.Agreement.{ServesTimeGates, RedirectsWell};
 
 /// After every list of harvests taken, states sent, restarts, and deliveries that were lost, delayed, repeated or
@@ -15,8 +17,8 @@ ghost use Rattle.replica_events.specs.Agreement.{ServesTimeGates, RedirectsWell}
 /// reply; each redirect names a memento of the latest harvests, and none of these lies nearer to the asked datetime.
 ///
 /// `learnt` says it of every course of events. The other clauses say of every world what this rests on: a replica's
-/// reply is that of what it has taken, two replicas agree already where the states of what they have taken are the
-/// same, and a TimeGate redirects wherever anything of the original is shown.
+/// reply, unless a delta is asked for, is that of what it has taken, two replicas agree already where the states of
+/// what they have taken are the same, and a TimeGate redirects wherever anything of the original is shown.
 pub fn replicas_agree()
     ensures learnt { (base : List ℕ) (course : Course base) (i j : ℕ) (known other : Knowledge) →
         HasTaken course.world i known → HasTaken course.world j other →
@@ -33,4 +35,12 @@ pub fn replicas_agree()
         ServesTimeGates base world i known }
     ensures redirects { (base : List ℕ) (world : World) (i : ℕ) (known : Knowledge) → HasTaken world i known →
         RedirectsWell base world i known }
+{}
+
+/// After every list of events a replica answers each request, also one for a delta, by the state and the stamps that
+/// its merges made.
+pub fn replies_are_of_merges()
+    ensures { (base : List ℕ) (course : Course base) (i : ℕ) (r : Replica) → replica course.world i ≡ Some r →
+        (q : Request) (said : Reply) → Gives base course.world i q said ↔ ((s : StampedState)
+        × IsStamped r.merges s × (s.incarnation ≡ r.incarnation) × (said ≡ reply_of base s q)) }
 {}

@@ -1,11 +1,11 @@
 //! Events, and how a world answers them.
 ghost use Rattle.std.specs.Prelude.{◌≡◌, Some};
 ghost use Rattle.replica_events.specs.declared.event.Refused.TheVariants.{NoMemory as OutOfMemory};
-ghost use Rattle.replica_events.specs.Faults.{refusal, words_of};
+ghost use Rattle.replica_events.specs.Faults.{refusal, stamp_refusal, take_refusal, words_of};
 
 use harvest_lattice::Harvest;
 use memento_time::{NoMemory, Octets};
-use replica_exchange::StateFault;
+use replica_exchange::{Cursor, StampFault, StateFault, TakeFault};
 use std::alloc::{AllocError, AllocFailed};
 use std::error::Error;
 use std::fmt;
@@ -18,11 +18,13 @@ pub enum Event {
     Take(usize, Harvest),
     /// It sends a message with all that it has taken.
     Send(usize),
+    /// It sends a message with what its merges after the first so many changed.
+    SendFrom(usize, u64),
     /// It gets the message of the second number, which may be its own.
     Deliver(usize, usize),
     /// It gets bytes from outside.
     Receive(usize, Octets),
-    /// It forgets all that it has taken.
+    /// It forgets all that it has taken, and begins a new incarnation.
     Restart(usize),
     /// It is asked for a reply.
     Ask(usize, Request),
@@ -50,6 +52,10 @@ pub enum Refused {
     /// The bytes aren't the text of a state, or are more than 268,435,456.
     BadState,
     NoMemory,
+    /// The message leaves out merges of its sender that aren't known: this is how far they are.
+    Gap { held: Option<Cursor> },
+    /// No number of 64 bits is left for one merge more, or for one incarnation more.
+    NumbersSpent,
 }
 
 /// The answer to an event.
@@ -59,12 +65,17 @@ impl fmt::Display for Refused {
     ghost output = { λ refused. Some (words_of refused) };
 
     fn fmt<W: fmt::Write>(&self, f: &mut fmt::Formatter<W>) -> fmt::Result {
-        f.write_str(match self {
-            Refused::NoReplica => "no replica",
-            Refused::NoMessage => "no message",
-            Refused::BadState => "bad state",
-            Refused::NoMemory => "no memory",
-        })
+        match self {
+            Refused::NoReplica => f.write_str("no replica"),
+            Refused::NoMessage => f.write_str("no message"),
+            Refused::BadState => f.write_str("bad state"),
+            Refused::NoMemory => f.write_str("no memory"),
+            Refused::Gap { held: None } => f.write_str("gap none"),
+            Refused::Gap { held: Some(cursor) } => {
+                write!(f, "gap {} {}", cursor.incarnation, cursor.number)
+            }
+            Refused::NumbersSpent => f.write_str("numbers spent"),
+        }
     }
 }
 
@@ -101,6 +112,28 @@ impl From<StateFault> for Refused {
         match fault {
             StateFault::TooLong | StateFault::NotState => Refused::BadState,
             StateFault::NoMemory => Refused::NoMemory,
+        }
+    }
+}
+
+impl From<StampFault> for Refused {
+    ghost from_gives = { λ fault refused. refused ≡ stamp_refusal fault };
+
+    fn from(fault: StampFault) -> Refused {
+        match fault {
+            StampFault::NumbersSpent => Refused::NumbersSpent,
+            StampFault::NoMemory => Refused::NoMemory,
+        }
+    }
+}
+
+impl From<TakeFault> for Refused {
+    ghost from_gives = { λ fault refused. refused ≡ take_refusal fault };
+
+    fn from(fault: TakeFault) -> Refused {
+        match fault {
+            TakeFault::Gap { held } => Refused::Gap { held },
+            TakeFault::NoMemory => Refused::NoMemory,
         }
     }
 }

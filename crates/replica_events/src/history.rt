@@ -1,7 +1,7 @@
 //! What replicas have taken, by the events that were accepted.
 ghost use Rattle.std.specs.Prelude.{◌≡◌, ◌↔◌, ◌++◌, ℕ, List, ◌∷◌, Some, Ok, Contains};
 ghost use Rattle.harvest_lattice.specs.Knowledge.{Harvested, lat};
-ghost use Rattle.replica_exchange.specs.StateText.{state_text};
+ghost use Rattle.replica_exchange.specs.DeltaText.{delta_text};
 ghost use Rattle.replica_events.specs.declared.event.Event.{Event};
 ghost use Rattle.replica_events.specs.declared.event.Event.TheVariants.{Deliver};
 ghost use Rattle.replica_events.specs.declared.event.Said.TheVariants.{Sent, Joined};
@@ -13,7 +13,7 @@ ghost use Rattle.replica_events.specs.History.{history_of};
 /// After every list of events, what a replica has taken is what it has learnt since its last restart: the harvests
 /// that it took itself, those of the states that it received, and those that the sender of a message that it was
 /// delivered had learnt before it sent the message. And each message has its sender, what the sender had learnt then,
-/// and the text of the state of this.
+/// and the text of its delta; the state of a delta from the beginning is that of all this.
 pub fn what_replicas_have_taken()
     ensures taken { (base : List ℕ) (course : Course base) (i : ℕ) (known : Knowledge) → HasTaken course.world i known →
         (h : Harvested) → Contains known h ↔ Learnt (history_of course) i h }
@@ -22,7 +22,9 @@ pub fn what_replicas_have_taken()
     ensures sender { (base : List ℕ) (course : Course base) (k : ℕ) (m : Message) → message course.world k ≡ Some m →
         HasSent (history_of course) m.sender k }
     ensures bytes { (base : List ℕ) (course : Course base) (k : ℕ) (m : Message) → message course.world k ≡ Some m →
-        m.bytes ≡ state_text (lat m.taken) }
+        m.bytes ≡ delta_text m.delta }
+    ensures whole { (base : List ℕ) (course : Course base) (k : ℕ) (m : Message) → message course.world k ≡ Some m →
+        m.delta.start ≡ 0 → m.delta.state ≡ lat m.taken }
 {}
 
 /// A message that no delivery names changes nothing of what replicas have learnt; nor does a further delivery of the

@@ -6,11 +6,13 @@
 #![tactic(auto)]
 
 mod agreement;
+mod cursors;
 mod event;
 mod history;
 mod refusals;
 
-pub use agreement::replicas_agree;
+pub use agreement::{replicas_agree, replies_are_of_merges};
+pub use cursors::cursors_are_kept;
 pub use event::{Answer, Event, Refused, Said};
 pub use history::{deliveries_in_any_order, what_replicas_have_taken};
 pub use refusals::{one_outcome, refusals_have_causes};

@@ -4,20 +4,23 @@ use Rattle.std.specs.Prelude.{⊤, IfSome, codes, nat_eq, if◌then◌else◌}
 use Rattle.std.specs.List.{starts_with}
 use Rattle.std.proofs.lemmas.List.{append_cancel_left}
 use Rattle.std.proofs.lemmas.Bool.{true≢false}
-use Rattle.std.proofs.lemmas.Slice.Eq.{bytes_eq-Decides}
+use Rattle.std.proofs.lemmas.Bool.Decides.{Decides-eqb}
+use Rattle.std.proofs.lemmas.Slice.Eq.{bytes_eq-Decides, starts_is}
 use Rattle.memento_time.specs.declared.mementos.Memento.{Memento}
 use Rattle.memento_time.specs.SecondOf.{asked_of}
 use Rattle.harvest_lattice.specs.Sets as set
-use Rattle.harvest_lattice.specs.Lattice.{Mementos, Entries}
-use Rattle.harvest_lattice.specs.Knowledge.{Harvested, lat, shown}
+use Rattle.harvest_lattice.specs.Lattice.{Mementos}
+use Rattle.harvest_lattice.specs.Knowledge.{shown_of}
+use Rattle.replica_exchange.specs.declared.cursor.Cursor.{Cursor}
+use Rattle.replica_exchange.specs.Stamps.{StampedState}
 use Rattle.timemap_writer.specs.TimeMap.{timegate_address, timemap_address, gate_links}
 use Rattle.timegate.specs.declared.reply.Reply.{Reply}
 use Rattle.timegate.specs.declared.reply.Header.TheVariants.{Allow, Vary, Location, Link, ContentType}
 use Rattle.timegate.specs.declared.request.Request.{Request}
 use Rattle.timegate.specs.declared.route.Route.{Route}
-use Rattle.timegate.specs.declared.route.Route.TheVariants.{BadMethod, State, NoRoute, BadOriginal, BadDatetime, TimeGate, TimeMap}
-use Rattle.timegate.specs.Route.{is_get, is_head, is_state, is_timegate, is_timemap, timegates, NamesItself, original_at, original_in, datetime_route, timegate_route, original_route, route_of}
-use Rattle.timegate.specs.Reply.{Headers, reply_at, reply, redirect, choice_at, short_reply}
+use Rattle.timegate.specs.declared.route.Route.TheVariants.{BadMethod, State, Delta, NoRoute, BadOriginal, BadDatetime, TimeGate, TimeMap}
+use Rattle.timegate.specs.Route.{is_get, is_head, is_state, is_timegate, is_timemap, is_whole_delta, is_delta, deltas, timegates, NamesItself, original_at, original_in, datetime_route, delta_route, timegate_route, original_route, route_of}
+use Rattle.timegate.specs.Reply.{Headers, reply_at, reply_of, redirect, choice_at}
 use Rattle.timegate.specs.Served.{IsServed}
 use Rattle.timegate.specs.Promises.{as_get, without_body, vary_values, AreInOrder}
 
@@ -39,15 +42,16 @@ redirect_bare : (base : List ℕ) (q : Request) → is_head q ≡ true → (orig
 redirect_bare base q is original mementos None = bare (is_head q) is _ _ _
 redirect_bare base q is original mementos (Some m) = bare (is_head q) is _ _ _
 
-routed_bare : (base : List ℕ) (shows : List ℕ → Mementos) (entries : Entries) (q : Request) → is_head q ≡ true → (route : Route)
-    → reply_at base shows entries q route ≡ without_body (reply_at base shows entries (as_get q) route)
-routed_bare base shows entries q is BadMethod = bare (is_head q) is _ _ _
-routed_bare base shows entries q is State = bare (is_head q) is _ _ _
-routed_bare base shows entries q is NoRoute = bare (is_head q) is _ _ _
-routed_bare base shows entries q is BadOriginal = bare (is_head q) is _ _ _
-routed_bare base shows entries q is BadDatetime = bare (is_head q) is _ _ _
-routed_bare base shows entries q is (TimeGate original asked) = redirect_bare base q is original (shows original) (choice_at (shows original) asked)
-routed_bare base shows entries q is (TimeMap original) =
+routed_bare : (base : List ℕ) (shows : List ℕ → Mementos) (s : StampedState) (q : Request) → is_head q ≡ true → (route : Route)
+    → reply_at base shows s q route ≡ without_body (reply_at base shows s (as_get q) route)
+routed_bare base shows s q is BadMethod = bare (is_head q) is _ _ _
+routed_bare base shows s q is State = bare (is_head q) is _ _ _
+routed_bare base shows s q is (Delta cursor) = bare (is_head q) is _ _ _
+routed_bare base shows s q is NoRoute = bare (is_head q) is _ _ _
+routed_bare base shows s q is BadOriginal = bare (is_head q) is _ _ _
+routed_bare base shows s q is BadDatetime = bare (is_head q) is _ _ _
+routed_bare base shows s q is (TimeGate original asked) = redirect_bare base q is original (shows original) (choice_at (shows original) asked)
+routed_bare base shows s q is (TimeMap original) =
     either_bare (length (set.items (shows original)) == 0) _ _ _ _ (bare (is_head q) is _ _ _) (bare (is_head q) is _ _ _)
 
 allowed : (g h : Bool) → h ≡ true → (refused route : Route) → (if not g && not h then refused else route) ≡ route
@@ -59,12 +63,12 @@ same_route : (q : Request) → is_head q ≡ true → route_of q ≡ route_of (a
 unfolding route_of
 same_route q is = allowed (is_get q) (is_head q) is _ _
 
-pub head_is_bare : (base : List ℕ) (known : List Harvested) (q : Request) → q.method ≡ codes "HEAD" → reply base known q ≡ without_body (reply base known (as_get q))
-unfolding reply
-head_is_bare base known q is =
+pub head_is_bare : (base : List ℕ) (s : StampedState) (q : Request) → q.method ≡ codes "HEAD" → reply_of base s q ≡ without_body (reply_of base s (as_get q))
+unfolding reply_of
+head_is_bare base s q is =
     let head : is_head q ≡ true = (bytes_eq-Decides q.method (codes "HEAD")).1 is in
-    ap (λ (route : Route). reply_at base (shown known) (lat known) q route) (same_route q head)
-    ∙ routed_bare base (shown known) (lat known) q head (route_of (as_get q))
+    ap (λ (route : Route). reply_at base (shown_of s.entries) s q route) (same_route q head)
+    ∙ routed_bare base (shown_of s.entries) s q head (route_of (as_get q))
 
 -- ---- the headers
 
@@ -72,6 +76,7 @@ head_is_bare base known q is =
 abbrev Elsewhere : Request → Route → Type 0
 Elsewhere q BadMethod = ⊤
 Elsewhere q State = is_timegate q ≡ false
+Elsewhere q (Delta cursor) = is_timegate q ≡ false
 Elsewhere q NoRoute = ⊤
 Elsewhere q BadOriginal = ⊤
 Elsewhere q BadDatetime = ⊤
@@ -95,19 +100,43 @@ map_elsewhere q other (Some original) = other
 state_elsewhere : (q : Request) → is_state q ≡ true → is_timegate q ≡ false
 state_elsewhere q is = ap (λ (target : List ℕ). starts_with nat_eq target timegates) ((bytes_eq-Decides q.target (codes "/state")).0 is)
 
-first_fit : (q : Request) (refused state gate map_here : Bool) (gate_route map_route : Route) → is_timegate q ≡ gate
-    → (state ≡ true → is_timegate q ≡ false) → Elsewhere q gate_route → (is_timegate q ≡ false → Elsewhere q map_route)
-    → Elsewhere q (if refused then BadMethod else if state then State else if gate then gate_route else if map_here then map_route else NoRoute)
-first_fit q true state gate map_here gate_route map_route is at_state gates maps = tt
-first_fit q false true gate map_here gate_route map_route is at_state gates maps = at_state refl
-first_fit q false false true map_here gate_route map_route is at_state gates maps = gates
-first_fit q false false false true gate_route map_route is at_state gates maps = maps is
-first_fit q false false false false gate_route map_route is at_state gates maps = tt
+whole_delta_elsewhere : (q : Request) → is_whole_delta q ≡ true → is_timegate q ≡ false
+whole_delta_elsewhere q is = ap (λ (target : List ℕ). starts_with nat_eq target timegates) ((bytes_eq-Decides q.target (codes "/delta")).0 is)
+
+other_front : (target : List ℕ) → starts_with nat_eq target deltas ≡ true → starts_with nat_eq target timegates ≡ false
+other_front target is = ap (λ (t : List ℕ). starts_with nat_eq t timegates) ((starts_is Decides-eqb target deltas (starts_with nat_eq target deltas) refl).0 is)
+
+delta_elsewhere : (q : Request) → is_timegate q ≡ false → (cursor : Option Cursor) → Elsewhere q (delta_route cursor)
+delta_elsewhere q other None = tt
+delta_elsewhere q other (Some cursor) = other
+
+-- the first route that fits
+abbrev pub first_of : Bool → Bool → Bool → Bool → Bool → Bool → Route → Route → Route → Route
+first_of refused state whole from gate map_here delta_from_route gate_route map_route =
+    if refused then BadMethod
+    else if state then State
+    else if whole then Delta None
+    else if from then delta_from_route
+    else if gate then gate_route
+    else if map_here then map_route
+    else NoRoute
+
+first_fit : (q : Request) (refused state whole from gate map_here : Bool) (delta gate_route map_route : Route) → is_timegate q ≡ gate
+    → (state ≡ true → is_timegate q ≡ false) → (whole ≡ true → is_timegate q ≡ false) → (from ≡ true → Elsewhere q delta) → Elsewhere q gate_route → (is_timegate q ≡ false → Elsewhere q map_route)
+    → Elsewhere q (first_of refused state whole from gate map_here delta gate_route map_route)
+first_fit q true state whole from gate map_here delta gate_route map_route is at_state at_whole at_delta gates maps = tt
+first_fit q false true whole from gate map_here delta gate_route map_route is at_state at_whole at_delta gates maps = at_state refl
+first_fit q false false true from gate map_here delta gate_route map_route is at_state at_whole at_delta gates maps = at_whole refl
+first_fit q false false false true gate map_here delta gate_route map_route is at_state at_whole at_delta gates maps = at_delta refl
+first_fit q false false false false true map_here delta gate_route map_route is at_state at_whole at_delta gates maps = gates
+first_fit q false false false false false true delta gate_route map_route is at_state at_whole at_delta gates maps = maps is
+first_fit q false false false false false false delta gate_route map_route is at_state at_whole at_delta gates maps = tt
 
 elsewhere : (q : Request) → Elsewhere q (route_of q)
 unfolding route_of
 elsewhere q =
-    first_fit q (not (is_get q) && not (is_head q)) (is_state q) (is_timegate q) (is_timemap q) _ _ refl (state_elsewhere q)
+    first_fit q (not (is_get q) && not (is_head q)) (is_state q) (is_whole_delta q) (is_delta q) (is_timegate q) (is_timemap q) _ _ _ refl
+    (state_elsewhere q) (whole_delta_elsewhere q) (λ is. delta_elsewhere q (other_front q.target is) _)
     (gates_elsewhere q q.asked _) (λ other. map_elsewhere q other _)
 
 -- what stands in the header fields of a TimeGate's reply, or of another's
@@ -145,26 +174,27 @@ keeps_redirect : (base : List ℕ) (q : Request) (original : List ℕ) (mementos
 keeps_redirect base q original mementos None = keeps_told (is_timegate q)
 keeps_redirect base q original mementos (Some m) = keeps_links (is_timegate q) m.uri (gate_links base original (set.items mementos))
 
-keeps_routed : (base : List ℕ) (shows : List ℕ → Mementos) (entries : Entries) (q : Request) (route : Route) → Elsewhere q route
-    → Keeps (is_timegate q) (reply_at base shows entries q route).headers
-keeps_routed base shows entries q BadMethod here = keeps_refused (is_timegate q)
-keeps_routed base shows entries q State here = keeps_alone (is_timegate q) here (codes "text/plain")
-keeps_routed base shows entries q NoRoute here = keeps_told (is_timegate q)
-keeps_routed base shows entries q BadOriginal here = keeps_told (is_timegate q)
-keeps_routed base shows entries q BadDatetime here = keeps_told (is_timegate q)
-keeps_routed base shows entries q (TimeGate original asked) here = keeps_redirect base q original (shows original) (choice_at (shows original) asked)
-keeps_routed base shows entries q (TimeMap original) here =
+keeps_routed : (base : List ℕ) (shows : List ℕ → Mementos) (s : StampedState) (q : Request) (route : Route) → Elsewhere q route
+    → Keeps (is_timegate q) (reply_at base shows s q route).headers
+keeps_routed base shows s q BadMethod here = keeps_refused (is_timegate q)
+keeps_routed base shows s q State here = keeps_alone (is_timegate q) here (codes "text/plain")
+keeps_routed base shows s q (Delta cursor) here = keeps_alone (is_timegate q) here (codes "text/plain")
+keeps_routed base shows s q NoRoute here = keeps_told (is_timegate q)
+keeps_routed base shows s q BadOriginal here = keeps_told (is_timegate q)
+keeps_routed base shows s q BadDatetime here = keeps_told (is_timegate q)
+keeps_routed base shows s q (TimeGate original asked) here = keeps_redirect base q original (shows original) (choice_at (shows original) asked)
+keeps_routed base shows s q (TimeMap original) here =
     keeps_either (is_timegate q) (length (set.items (shows original)) == 0) _ _ (keeps_told (is_timegate q)) (keeps_alone (is_timegate q) here (codes "application/link-format"))
 
-keeps : (base : List ℕ) (known : List Harvested) (q : Request) → Keeps (is_timegate q) (reply base known q).headers
-unfolding reply
-keeps base known q = keeps_routed base (shown known) (lat known) q (route_of q) (elsewhere q)
+keeps : (base : List ℕ) (s : StampedState) (q : Request) → Keeps (is_timegate q) (reply_of base s q).headers
+unfolding reply_of
+keeps base s q = keeps_routed base (shown_of s.entries) s q (route_of q) (elsewhere q)
 
-pub vary_once : (base : List ℕ) (known : List Harvested) (q : Request) → vary_values (reply base known q).headers ≡ (if is_timegate q then codes "accept-datetime" ∷ [] else [])
-vary_once base known q = (keeps base known q).varied
+pub vary_once : (base : List ℕ) (s : StampedState) (q : Request) → vary_values (reply_of base s q).headers ≡ (if is_timegate q then codes "accept-datetime" ∷ [] else [])
+vary_once base s q = (keeps base s q).varied
 
-pub in_order : (base : List ℕ) (known : List Harvested) (q : Request) → AreInOrder (reply base known q).headers
-in_order base known q = (keeps base known q).ordered
+pub in_order : (base : List ℕ) (s : StampedState) (q : Request) → AreInOrder (reply_of base s q).headers
+in_order base s q = (keeps base s q).ordered
 
 -- ---- what stands at the addresses that are told
 
@@ -178,24 +208,24 @@ map_at : (asked : List (List ℕ)) (original : List ℕ)
 unfolding route_of
 map_at asked original = refl
 
-abbrev asking : List ℕ → List ℕ → List (List ℕ) → Request
+abbrev pub asking : List ℕ → List ℕ → List (List ℕ) → Request
 asking method target asked = record { method = method; target = target; asked = asked }
 
-at_target : (q : Request) (target : List ℕ) → q.method ≡ codes "GET" → q.target ≡ target → route_of q ≡ route_of (asking (codes "GET") target q.asked)
-at_target q target method same =
-    ap (λ (m : List ℕ). route_of (asking m q.target q.asked)) method ∙ ap (λ (t : List ℕ). route_of (asking (codes "GET") t q.asked)) same
+pub at_target : (q : Request) (method target : List ℕ) → q.method ≡ method → q.target ≡ target → route_of q ≡ route_of (asking method target q.asked)
+at_target q method target named same =
+    ap (λ (m : List ℕ). route_of (asking m q.target q.asked)) named ∙ ap (λ (t : List ℕ). route_of (asking method t q.asked)) same
 
 gate_served : (base original : List ℕ) (q : Request) → original_at original ≡ Some original → q.method ≡ codes "GET"
     → base ++ q.target ≡ timegate_address base original → route_of q ≡ timegate_route q.asked original
 gate_served base original q names method address =
     let target : q.target ≡ codes "/timegate/" ++ original = append_cancel_left base q.target (codes "/timegate/" ++ original) (address ∙ append_assoc base (codes "/timegate/") original) in
-    at_target q (codes "/timegate/" ++ original) method target ∙ gate_at q.asked original ∙ ap (original_route (timegate_route q.asked)) names
+    at_target q (codes "GET") (codes "/timegate/" ++ original) method target ∙ gate_at q.asked original ∙ ap (original_route (timegate_route q.asked)) names
 
 map_served : (base original : List ℕ) (q : Request) → original_at original ≡ Some original → q.method ≡ codes "GET"
     → base ++ q.target ≡ timemap_address base original → route_of q ≡ TimeMap original
 map_served base original q names method address =
     let target : q.target ≡ codes "/timemap/link/" ++ original = append_cancel_left base q.target (codes "/timemap/link/" ++ original) (address ∙ append_assoc base (codes "/timemap/link/") original) in
-    at_target q (codes "/timemap/link/" ++ original) method target ∙ map_at q.asked original ∙ ap (original_route TimeMap) names
+    at_target q (codes "GET") (codes "/timemap/link/" ++ original) method target ∙ map_at q.asked original ∙ ap (original_route TimeMap) names
 
 -- what stands there of an original that names itself
 pub served : (base original : List ℕ) → NamesItself original → IsServed base original

@@ -1,5 +1,5 @@
 -- What a reply depends on, and which memento a redirect names.
-use Rattle.std.proofs.Common.{◌≡◌, ℕ, ◌<◌, ◌≤◌, ◌⊎◌, ◌↔◌, ◌==◌, Bool, true, false, length, Result, List, [], ◌∷◌, Option, Some, None, refl, ap, sym, subst, ◌∙◌, inl, inr, arith}
+use Rattle.std.proofs.Common.{◌≡◌, ℕ, ◌<◌, ◌≤◌, ◌⊎◌, ◌↔◌, ◌==◌, Bool, true, false, length, Result, Ok, Err, List, [], ◌∷◌, Option, Some, None, refl, ap, sym, subst, ◌∙◌, inl, inr, arith}
 use Rattle.std.specs.Prelude.{MatchOption, Contains, IfOk, if◌then◌else◌}
 use Rattle.std.specs.List.{list_any}
 use Rattle.std.specs.Ordering.{eq_by_cmp}
@@ -21,45 +21,82 @@ use Rattle.timegate.specs.declared.reply.Header.{Header}
 use Rattle.timegate.specs.declared.reply.Header.TheVariants.{Location, Link}
 use Rattle.timegate.specs.declared.request.Request.{Request}
 use Rattle.timegate.specs.declared.route.Route.{Route}
-use Rattle.timegate.specs.declared.route.Route.TheVariants.{BadMethod, State, NoRoute, BadOriginal, BadDatetime, TimeGate, TimeMap}
-use Rattle.timegate.specs.Route.{route_of}
-use Rattle.timegate.specs.Reply.{reply_at, reply, reply_of, redirect, timemap, choice_at, vary}
+use Rattle.timegate.specs.declared.route.Route.TheVariants.{BadMethod, State, Delta, NoRoute, BadOriginal, BadDatetime, TimeGate, TimeMap}
+use Rattle.replica_exchange.specs.declared.cursor.Cursor.{Cursor}
+use Rattle.replica_exchange.specs.Stamps.{StampedState}
+use Rattle.replica_exchange.specs.CursorRule.{delta_from}
+use Rattle.replica_exchange.specs.DeltaText.{delta_text}
+use Rattle.timegate.specs.Route.{IsOfTaken, is_head, route_of}
+use Rattle.timegate.specs.Reply.{reply_at, reply, reply_of, unnumbered, redirect, timemap, choice_at, vary}
 use Rattle.timegate.specs.Redirect.{Redirects, IsGateReply}
 
-routed_from_state : (base : List ℕ) (known : List Harvested) (q : Request) (route : Route) → reply_at base (shown known) (lat known) q route ≡ reply_at base (shown_of (lat known)) (lat known) q route
-routed_from_state base known q BadMethod = refl
-routed_from_state base known q State = refl
-routed_from_state base known q NoRoute = refl
-routed_from_state base known q BadOriginal = refl
-routed_from_state base known q BadDatetime = refl
-routed_from_state base known q (TimeGate original asked) = ap (λ (ms : Mementos). redirect base q original ms (choice_at ms asked)) (shown-lat known original)
-routed_from_state base known q (TimeMap original) = ap (λ (ms : Mementos). timemap base q original (set.items ms)) (shown-lat known original)
+-- what is shown of each original follows from the state
+shown_from_state : (base : List ℕ) (known : List Harvested) (s : StampedState) (q : Request) (route : Route) → s.entries ≡ lat known
+    → reply_at base (shown known) s q route ≡ reply_at base (shown_of s.entries) s q route
+shown_from_state base known s q BadMethod is = refl
+shown_from_state base known s q State is = refl
+shown_from_state base known s q (Delta cursor) is = refl
+shown_from_state base known s q NoRoute is = refl
+shown_from_state base known s q BadOriginal is = refl
+shown_from_state base known s q BadDatetime is = refl
+shown_from_state base known s q (TimeGate original asked) is =
+    ap (λ (ms : Mementos). redirect base q original ms (choice_at ms asked)) (shown-lat known original ∙ ap (λ (e : Entries). shown_of e original) (sym is))
+shown_from_state base known s q (TimeMap original) is =
+    ap (λ (ms : Mementos). timemap base q original (set.items ms)) (shown-lat known original ∙ ap (λ (e : Entries). shown_of e original) (sym is))
+
+-- only a delta tells of merges
+untold : (base : List ℕ) (shows : List ℕ → Mementos) (s : StampedState) (q : Request) (route : Route) → ((cursor : Option Cursor) → ¬ (route ≡ Delta cursor))
+    → reply_at base shows s q route ≡ reply_at base shows (unnumbered s.entries) q route
+untold base shows s q BadMethod taken = refl
+untold base shows s q State taken = refl
+untold base shows s q (Delta cursor) taken = absurd (taken cursor refl)
+untold base shows s q NoRoute taken = refl
+untold base shows s q BadOriginal taken = refl
+untold base shows s q BadDatetime taken = refl
+untold base shows s q (TimeGate original asked) taken = refl
+untold base shows s q (TimeMap original) taken = refl
 
 -- a reply is that of the state
-pub reply_from_state : (base : List ℕ) (known : List Harvested) (q : Request) → reply base known q ≡ reply_of base (lat known) q
+pub reply_of_state : (base : List ℕ) (known : List Harvested) (q : Request) → reply base known q ≡ reply_of base (unnumbered (lat known)) q
 unfolding reply reply_of
-reply_from_state base known q = routed_from_state base known q (route_of q)
+reply_of_state base known q = shown_from_state base known (unnumbered (lat known)) q (route_of q) refl
+
+reply_untold : (base : List ℕ) (s : StampedState) (q : Request) → IsOfTaken q → reply_of base s q ≡ reply_of base (unnumbered s.entries) q
+unfolding reply_of
+reply_untold base s q taken = untold base (shown_of s.entries) s q (route_of q) taken
+
+-- and of whatever has this state
+pub reply_from_state : (base : List ℕ) (known : List Harvested) (s : StampedState) (q : Request) → s.entries ≡ lat known → IsOfTaken q → reply_of base s q ≡ reply base known q
+reply_from_state base known s q is taken =
+    reply_untold base s q taken ∙ (ap (λ (entries : Entries). reply_of base (unnumbered entries) q) is ∙ sym (reply_of_state base known q))
 
 -- a TimeMap is asked for
 pub timemap_reply : (base : List ℕ) (known : List Harvested) (q : Request) (original : List ℕ) → route_of q ≡ TimeMap original
     → reply base known q ≡ timemap base q original (set.items (shown known original))
 unfolding reply
-timemap_reply base known q original is = ap (λ (route : Route). reply_at base (shown known) (lat known) q route) is
+timemap_reply base known q original is = ap (λ (route : Route). reply_at base (shown known) (unnumbered (lat known)) q route) is
 
 -- equal states give equal replies
 pub same_reply : (base : List ℕ) (known others : List Harvested) (q : Request) → lat known ≡ lat others → reply base known q ≡ reply base others q
 same_reply base known others q same =
-    reply_from_state base known q ∙ ap (λ (entries : Entries). reply_of base entries q) same ∙ sym (reply_from_state base others q)
+    reply_of_state base known q ∙ (ap (λ (entries : Entries). reply_of base (unnumbered entries) q) same ∙ sym (reply_of_state base others q))
 
 pub same_harvests : (base : List ℕ) (known others : List Harvested) → ((h : Harvested) → Contains known h ↔ Contains others h) → (q : Request) → reply base known q ≡ reply base others q
 same_harvests base known others same q = same_reply base known others q (lat_same known others (λ h. (same h).0) (λ h. (same h).1))
 
 -- what is the reply of a state is that of each knowledge with this state
-pub known_reply : (base : List ℕ) (entries : Entries) (known : List Harvested) (q : Request) (result : Result Reply NoMemory) → entries ≡ lat known
-    → IfOk result (λ answer. answer ≡ reply_of base entries q) → IfOk result (λ answer. answer ≡ reply base known q)
-known_reply base entries known q result is answers =
+pub known_reply : (base : List ℕ) (s : StampedState) (known : List Harvested) (q : Request) (result : Result Reply NoMemory) → s.entries ≡ lat known → IsOfTaken q
+    → IfOk result (λ answer. answer ≡ reply_of base s q) → IfOk result (λ answer. answer ≡ reply base known q)
+known_reply base s known q result is taken answers =
     let P : Reply → Type 0 = λ r. IfOk result (λ answer. answer ≡ r) in
-    subst P (ap (λ (e : Entries). reply_of base e q) is ∙ sym (reply_from_state base known q)) answers
+    subst P (reply_from_state base known s q is taken) answers
+
+-- where a delta is asked for, its text is the body
+pub delta_reply : (base : List ℕ) (s : StampedState) (q : Request) (result : Result Reply NoMemory) (cursor : Option Cursor) → route_of q ≡ Delta cursor
+    → IfOk result (λ answer. answer ≡ reply_of base s q) → IfOk result (λ answer. answer.body ≡ (if is_head q then [] else delta_text (delta_from s cursor)))
+unfolding reply_of
+delta_reply base s q (Ok answer) cursor is answers = ap (λ (r : Reply). r.body) (answers ∙ ap (reply_at base (shown_of s.entries) s q) is)
+delta_reply base s q (Err fault) cursor is answers = tt
 
 -- the chosen one is shown, and none that is shown is nearer
 record IsChosen (known : List Harvested) (original : List ℕ) (asked : Option ℕ) (m : Memento) : Type 0 where
@@ -122,7 +159,7 @@ pub gate_reply : (base : List ℕ) (known : List Harvested) (q : Request) (origi
     → IsGateReply known original asked (reply base known q)
 unfolding reply
 gate_reply base known q original asked is =
-    subst (λ (route : Route). IsGateReply known original asked (reply_at base (shown known) (lat known) q route)) (sym is) (gate_at base known q original asked _ refl)
+    subst (λ (route : Route). IsGateReply known original asked (reply_at base (shown known) (unnumbered (lat known)) q route)) (sym is) (gate_at base known q original asked _ refl)
 
 -- one of two replies, neither of them a redirect
 not_found : (b : Bool) (x y : Reply) → x.status ≡ 404 → y.status ≡ 200 → (if b then x else y).status ≡ 302 → ⊥
@@ -132,11 +169,12 @@ not_found false x y is other status = omega (arith, other, status)
 -- that the reply to what is asked for redirects well
 abbrev RedirectsAt : List ℕ → List Harvested → Request → Route → Type 0
 RedirectsAt base known q route =
-    (original : List ℕ) × (asked : Option ℕ) × (route ≡ TimeGate original asked) × Redirects known original asked (reply_at base (shown known) (lat known) q route)
+    (original : List ℕ) × (asked : Option ℕ) × (route ≡ TimeGate original asked) × Redirects known original asked (reply_at base (shown known) (unnumbered (lat known)) q route)
 
-at_route : (base : List ℕ) (known : List Harvested) (q : Request) (route : Route) → (reply_at base (shown known) (lat known) q route).status ≡ 302 → RedirectsAt base known q route
+at_route : (base : List ℕ) (known : List Harvested) (q : Request) (route : Route) → (reply_at base (shown known) (unnumbered (lat known)) q route).status ≡ 302 → RedirectsAt base known q route
 at_route base known q BadMethod status = absurd (omega arith)
 at_route base known q State status = absurd (omega arith)
+at_route base known q (Delta cursor) status = absurd (omega arith)
 at_route base known q NoRoute status = absurd (omega arith)
 at_route base known q BadOriginal status = absurd (omega arith)
 at_route base known q BadDatetime status = absurd (omega arith)
@@ -147,3 +185,19 @@ pub redirects : (base : List ℕ) (known : List Harvested) (q : Request) → (re
     → (original : List ℕ) × (asked : Option ℕ) × (route_of q ≡ TimeGate original asked) × Redirects known original asked (reply base known q)
 unfolding reply
 redirects base known q status = at_route base known q (route_of q) status
+
+-- whatever is kept, only a TimeGate redirects
+gate_alone : (base : List ℕ) (shows : List ℕ → Mementos) (s : StampedState) (q : Request) (route : Route) → (reply_at base shows s q route).status ≡ 302
+    → (original : List ℕ) × (asked : Option ℕ) × (route ≡ TimeGate original asked)
+gate_alone base shows s q BadMethod status = absurd (omega arith)
+gate_alone base shows s q State status = absurd (omega arith)
+gate_alone base shows s q (Delta cursor) status = absurd (omega arith)
+gate_alone base shows s q NoRoute status = absurd (omega arith)
+gate_alone base shows s q BadOriginal status = absurd (omega arith)
+gate_alone base shows s q BadDatetime status = absurd (omega arith)
+gate_alone base shows s q (TimeGate original asked) status = (original, asked, refl)
+gate_alone base shows s q (TimeMap original) status = absurd (not_found (length (set.items (shows original)) == 0) _ _ refl refl status)
+
+pub redirects_alone : (base : List ℕ) (s : StampedState) (q : Request) → (reply_of base s q).status ≡ 302 → (original : List ℕ) × (asked : Option ℕ) × (route_of q ≡ TimeGate original asked)
+unfolding reply_of
+redirects_alone base s q status = gate_alone base (shown_of s.entries) s q (route_of q) status

@@ -1,4 +1,5 @@
--- The reply to each request (RFC 7089, sections 4 and 5), from the harvests that are known.
+-- The reply to each request (RFC 7089, sections 4 and 5), from the state of the harvests that are known.
+use Rattle.std.specs.FinMap as map
 use Rattle.std.specs.Prelude.{ℕ, List, [], ◌∷◌, ◌++◌, Option, None, Some, length, codes, if◌then◌else◌, ◌==◌}
 use Rattle.memento_time.specs.declared.mementos.Memento.{Memento}
 use Rattle.harvest_lattice.specs.Sets as set
@@ -6,6 +7,9 @@ use Rattle.harvest_lattice.specs.Lattice.{Mementos, Entries}
 use Rattle.harvest_lattice.specs.Knowledge.{Harvested, lat, shown, shown_of}
 use Rattle.memento_index.specs.Choice.{nearest, last}
 use Rattle.replica_exchange.specs.StateText.{state_text}
+use Rattle.replica_exchange.specs.Stamps.{StampedState}
+use Rattle.replica_exchange.specs.CursorRule.{delta_from}
+use Rattle.replica_exchange.specs.DeltaText.{delta_text}
 use Rattle.timemap_writer.specs.TimeMap.{timemap_text, gate_links}
 use Rattle.timegate.specs.declared.reply.Reply.{Reply}
 use Rattle.timegate.specs.declared.reply.Header.{Header}
@@ -13,7 +17,7 @@ use Rattle.timegate.specs.declared.reply.Header.TheVariants.{Allow, Vary, Locati
 use Rattle.timegate.specs.declared.request.Request.{Request}
 use Rattle.timegate.specs.declared.route.Route.{Route}
 use Rattle.timegate.specs.declared.route.Route.TheVariants.{BadMethod, State, NoRoute, BadOriginal, BadDatetime}
-use Rattle.timegate.specs.declared.route.Route.TheVariants.{TimeGate, TimeMap}
+use Rattle.timegate.specs.declared.route.Route.TheVariants.{Delta, TimeGate, TimeMap}
 use Rattle.timegate.specs.Route.{is_head, is_timegate, route_of}
 
 -- the name of a header field
@@ -62,24 +66,33 @@ timemap base q original mementos =
     if length mementos == 0 then short_reply q 404 [] (codes "no memento\n")
     else reply_with q 200 ((ContentType, codes "application/link-format") ∷ []) (timemap_text base original mementos)
 
--- by what is asked for, from what is shown of each original and what is kept of all
-abbrev pub reply_at : List ℕ → (List ℕ → Mementos) → Entries → Request → Route → Reply
-reply_at base shows entries q BadMethod = bad_method q
-reply_at base shows entries q State = reply_with q 200 ((ContentType, codes "text/plain") ∷ []) (state_text entries)
-reply_at base shows entries q NoRoute = short_reply q 404 [] (codes "no such route\n")
-reply_at base shows entries q BadOriginal = short_reply q 400 [] (codes "bad original\n")
-reply_at base shows entries q BadDatetime = short_reply q 400 [] (codes "bad datetime\n")
-reply_at base shows entries q (TimeGate original asked) =
-    redirect base q original (shows original) (choice_at (shows original) asked)
-reply_at base shows entries q (TimeMap original) = timemap base q original (set.items (shows original))
+-- a text for peers
+abbrev pub peer_reply : Request → List ℕ → Reply
+peer_reply q text = reply_with q 200 ((ContentType, codes "text/plain") ∷ []) text
 
--- the reply of one that has taken these harvests
-unfoldable pub reply : List ℕ → List Harvested → Request → Reply
-reply base known q = reply_at base (shown known) (lat known) q (route_of q)
+-- by what is asked for, from what is shown of each original and what is kept of all
+abbrev pub reply_at : List ℕ → (List ℕ → Mementos) → StampedState → Request → Route → Reply
+reply_at base shows s q BadMethod = bad_method q
+reply_at base shows s q State = peer_reply q (state_text s.entries)
+reply_at base shows s q (Delta cursor) = peer_reply q (delta_text (delta_from s cursor))
+reply_at base shows s q NoRoute = short_reply q 404 [] (codes "no such route\n")
+reply_at base shows s q BadOriginal = short_reply q 400 [] (codes "bad original\n")
+reply_at base shows s q BadDatetime = short_reply q 400 [] (codes "bad datetime\n")
+reply_at base shows s q (TimeGate original asked) =
+    redirect base q original (shows original) (choice_at (shows original) asked)
+reply_at base shows s q (TimeMap original) = timemap base q original (set.items (shows original))
 
 -- the reply of one that has this state
-unfoldable pub reply_of : List ℕ → Entries → Request → Reply
-reply_of base entries q = reply_at base (shown_of entries) entries q (route_of q)
+unfoldable pub reply_of : List ℕ → StampedState → Request → Reply
+reply_of base s q = reply_at base (shown_of s.entries) s q (route_of q)
+
+-- a state of which no merge is told
+abbrev pub unnumbered : Entries → StampedState
+unnumbered x = record { entries = x; stamps = map.empty; number = 0; incarnation = 0 }
+
+-- the reply of one that has taken these harvests, as far as it follows from them alone
+unfoldable pub reply : List ℕ → List Harvested → Request → Reply
+reply base known q = reply_at base (shown known) (unnumbered (lat known)) q (route_of q)
 
 -- the text of an original's TimeMap
 abbrev pub timemap_of : List ℕ → List Harvested → List ℕ → List ℕ

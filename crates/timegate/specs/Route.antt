@@ -1,15 +1,19 @@
--- What a request asks for: the TimeGate or the TimeMap of an original, the state bytes, or the reason that it is
--- refused.
+-- What a request asks for: the TimeGate or the TimeMap of an original, the state bytes, a delta, or the reason that it
+-- is refused.
 use Rattle.std.specs.Prelude.{◌≡◌, ℕ, Bool, not, ◌&&◌, List, [], ◌∷◌, Option, None, Some, drop, length, codes, bytes_eq}
-use Rattle.std.specs.Prelude.{nat_eq, if◌then◌else◌}
+use Rattle.std.specs.Prelude.{◌<◌, ◌^◌, ◌++◌, ◌⊎◌, IfSome, nat_eq, if◌then◌else◌}
 use Rattle.std.specs.List.{starts_with}
 use Rattle.std.specs.Str.{is_utf8}
+use Rattle.std.specs.Fmt.{decimal}
 use Rattle.memento_time.specs.SecondOf.{asked_of}
+use Rattle.text_fields.specs.Decimals.{number_of}
+use Rattle.text_fields.specs.Parts.{parts_at}
 use Rattle.timemap_reader.specs.Original.{original_of}
+use Rattle.replica_exchange.specs.declared.cursor.Cursor.{Cursor}
 use Rattle.timegate.specs.declared.request.Request.{Request}
 use Rattle.timegate.specs.declared.route.Route.{Route}
 use Rattle.timegate.specs.declared.route.Route.TheVariants.{BadMethod, State, NoRoute, BadOriginal, BadDatetime}
-use Rattle.timegate.specs.declared.route.Route.TheVariants.{TimeGate, TimeMap}
+use Rattle.timegate.specs.declared.route.Route.TheVariants.{Delta, TimeGate, TimeMap}
 
 -- the method is GET, case-sensitive
 abbrev pub is_get : Request → Bool
@@ -22,6 +26,42 @@ is_head q = bytes_eq q.method (codes "HEAD")
 -- where the state bytes stand, which peers fetch
 abbrev pub is_state : Request → Bool
 is_state q = bytes_eq q.target (codes "/state")
+
+-- where the delta from no cursor stands, which peers fetch
+abbrev pub is_whole_delta : Request → Bool
+is_whole_delta q = bytes_eq q.target (codes "/delta")
+
+-- where the deltas from cursors stand, each followed by its cursor
+abbrev pub deltas : List ℕ
+deltas = codes "/delta/"
+
+-- the target is to be that of a delta from a cursor
+abbrev pub is_delta : Request → Bool
+is_delta q = starts_with nat_eq q.target deltas
+
+-- the byte between the numbers of a cursor
+abbrev pub slash : ℕ
+slash = 47
+
+-- the cursor of two numbers, where both can be read
+abbrev pub cursor_of : Option ℕ → Option ℕ → Option Cursor
+cursor_of None number = None
+cursor_of (Some incarnation) None = None
+cursor_of (Some incarnation) (Some number) = Some (record { incarnation = incarnation; number = number })
+
+-- the cursor of two parts, where both are decimals of 64 bits
+abbrev pub cursor_in : Option (List ℕ × List ℕ) → Option Cursor
+cursor_in None = None
+cursor_in (Some parts) = cursor_of (number_of parts.0) (number_of parts.1)
+
+-- the cursor that bytes name: its incarnation, a slash, and its number
+abbrev pub cursor_at : List ℕ → Option Cursor
+cursor_at bytes = cursor_in (parts_at slash bytes)
+
+-- a delta from a cursor, if there is one
+abbrev pub delta_route : Option Cursor → Route
+delta_route None = NoRoute
+delta_route (Some cursor) = Delta (Some cursor)
 
 -- where TimeGates stand, each followed by its original
 abbrev pub timegates : List ℕ
@@ -64,6 +104,7 @@ original_route route (Some original) = route original
 abbrev pub original_in : Route → Option (List ℕ)
 original_in BadMethod = None
 original_in State = None
+original_in (Delta cursor) = None
 original_in NoRoute = None
 original_in BadOriginal = None
 original_in BadDatetime = None
@@ -79,6 +120,27 @@ unfoldable pub route_of : Request → Route
 route_of q =
     if not (is_get q) && not (is_head q) then BadMethod
     else if is_state q then State
+    else if is_whole_delta q then Delta None
+    else if is_delta q then delta_route (cursor_at (drop (length deltas) q.target))
     else if is_timegate q then original_route (timegate_route q.asked) (original_at (drop (length timegates) q.target))
     else if is_timemap q then original_route TimeMap (original_at (drop (length timemaps) q.target))
     else NoRoute
+
+-- the target of the delta from a cursor, or from none
+abbrev pub delta_target : Option Cursor → List ℕ
+delta_target None = codes "/delta"
+delta_target (Some c) = deltas ++ decimal c.incarnation ++ slash ∷ decimal c.number
+
+-- its numbers have 64 bits
+abbrev pub IsCursor : Cursor → Type 0
+IsCursor c = (c.incarnation < 2 ^ 64) × (c.number < 2 ^ 64)
+
+-- a GET or HEAD of the target of this delta
+pub record AsksDelta (q : Request) (cursor : Option Cursor) : Type 0 where
+  pub method : (q.method ≡ codes "GET") ⊎ (q.method ≡ codes "HEAD")
+  pub fits : IfSome cursor IsCursor
+  pub target : q.target ≡ delta_target cursor
+
+-- a reply follows from the harvests that were taken, and from nothing else that a replica keeps
+abbrev pub IsOfTaken : Request → Type 0
+IsOfTaken q = (cursor : Option Cursor) → ¬ (route_of q ≡ Delta cursor)

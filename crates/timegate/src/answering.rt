@@ -1,11 +1,16 @@
 //! The reply to a request.
-ghost use Rattle.std.specs.Prelude.{◌≡◌, ◌++◌, ◌∷◌, [], List, IfOk, IfSome, OnOk, codes, option_copied};
+ghost use Rattle.std.specs.Prelude.{◌≡◌, ◌++◌, ◌∷◌, [], List, Option, IfOk, IfSome, OnOk, codes, option_copied};
+ghost use Rattle.std.specs.Prelude.{if◌then◌else◌};
 ghost use Rattle.harvest_lattice.specs.Sets as set;
 ghost use Rattle.harvest_lattice.specs.Knowledge.{Harvested, lat, shown_of};
 ghost use Rattle.replica_exchange.specs.StateText.{state_text};
+ghost use Rattle.replica_exchange.specs.CursorRule.{delta_from};
+ghost use Rattle.replica_exchange.specs.DeltaText.{delta_text};
+ghost use Rattle.replica_exchange.specs.declared.cursor.Cursor.{Cursor};
 ghost use Rattle.timegate.specs.Reply.{reply_with, vary, short_reply, bad_method, redirect, timemap, reply_at, reply};
-ghost use Rattle.timegate.specs.Reply.{reply_of};
-ghost use Rattle.timegate.specs.Route.{original_in, route_of};
+ghost use Rattle.timegate.specs.Reply.{reply_of, peer_reply};
+ghost use Rattle.timegate.specs.Route.{IsOfTaken, is_head, original_in, route_of};
+ghost use Rattle.timegate.specs.declared.route.Route.TheVariants.{Delta};
 ghost use Rattle.timegate.specs.Served.{IsServed};
 
 use crate::reply::{Header, Reply};
@@ -13,7 +18,7 @@ use crate::request::Request;
 use crate::route::{Route, is_head, is_timegate, route_of};
 use memento_index::Index;
 use memento_time::{Items, Memento, NoMemory, Octets, Original};
-use replica_exchange::write_state;
+use replica_exchange::{Cursor, Stamped, write_delta, write_state};
 use std::alloc::Global;
 use timemap_writer::{Service, write_gate_links, write_timemap};
 
@@ -23,6 +28,8 @@ use timemap_writer::{Service, write_gate_links, write_timemap};
 /// |---|---|---|
 /// | a method other than `GET` and `HEAD` | 405, with `Allow` | `bad method` |
 /// | `/state` | 200 | the state bytes |
+/// | `/delta` | 200 | the delta from no cursor |
+/// | `/delta/I/N`, both decimals of 64 bits | 200 | the delta from the cursor of incarnation I and number N |
 /// | a target that begins neither with `/timegate/` nor with `/timemap/link/` | 404 | `no such route` |
 /// | a rest of the target that names no original | 400 | `bad original` |
 /// | a TimeGate that is asked for two datetimes, or for one that can't be read | 400 | `bad datetime` |
@@ -39,33 +46,37 @@ use timemap_writer::{Service, write_gate_links, write_timemap};
 pub fn answer(
     alloc: Global,
     service: &Service,
-    index: &Index,
+    stamped: &Stamped,
     request: &Request,
 ) -> Result<Reply, NoMemory>
-    ensures state { IfOk result (λ answer. answer ≡ reply_of service.now index.now request.now) }
-    ensures knowledge { (known : List Harvested) → index.now ≡ lat known →
+    ensures state { IfOk result (λ answer. answer ≡ reply_of service.now stamped.now request.now) }
+    ensures knowledge { (known : List Harvested) → stamped.now.entries ≡ lat known → IsOfTaken request.now →
         IfOk result (λ answer. answer ≡ reply service.now known request.now) }
+    ensures deltas { (cursor : Option Cursor) → route_of request.now ≡ Delta cursor → IfOk result
+        (λ answer. answer.body ≡ (if is_head request.now then [] else delta_text (delta_from stamped.now cursor))) }
     // The addresses that are told of the original are served.
     ensures served { OnOk result (IfSome (original_in (route_of request.now)) (IsServed service.now)) }
 {
     let route = route_of(alloc, request)?;
-    reply_at(alloc, service, index, request, &route)
+    reply_at(alloc, service, stamped, request, &route)
 }
 
 // The reply to what the request asks for.
 fn reply_at(
     alloc: Global,
     service: &Service,
-    index: &Index,
+    stamped: &Stamped,
     request: &Request,
     route: &Route,
 ) -> Result<Reply, NoMemory>
     ensures { IfOk result (λ answer. answer
-        ≡ reply_at service.now (shown_of index.now) index.now request.now route.now) }
+        ≡ reply_at service.now (shown_of stamped.now.entries) stamped.now request.now route.now) }
 {
+    let index = stamped.index();
     match route {
         Route::BadMethod => bad_method(alloc, request),
         Route::State => state(alloc, index, request),
+        Route::Delta(cursor) => delta(alloc, stamped, request, *cursor),
         Route::NoRoute => short_reply(alloc, request, 404, Vec::new(alloc), b"no such route\n"),
         Route::BadOriginal => short_reply(alloc, request, 400, Vec::new(alloc), b"bad original\n"),
         Route::BadDatetime => short_reply(alloc, request, 400, Vec::new(alloc), b"bad datetime\n"),
@@ -132,14 +143,38 @@ fn timemap(
 
 // The state bytes, which peers fetch.
 fn state(alloc: Global, index: &Index, request: &Request) -> Result<Reply, NoMemory>
-    ensures { IfOk result (λ answer. answer
-        ≡ reply_with request.now 200 ((Header.ContentType, codes "text/plain") ∷ []) (state_text index.now)) }
+    ensures { IfOk result (λ answer. answer ≡ peer_reply request.now (state_text index.now)) }
 {
     let text = if is_head(request) {
         Vec::new(alloc)
     } else {
         write_state(alloc, index.state())?
     };
+    peer_reply(alloc, request, text)
+}
+
+// What the merges after a cursor changed, which peers fetch.
+fn delta(
+    alloc: Global,
+    stamped: &Stamped,
+    request: &Request,
+    cursor: Option<Cursor>,
+) -> Result<Reply, NoMemory>
+    ensures { IfOk result (λ answer. answer
+        ≡ peer_reply request.now (delta_text (delta_from stamped.now cursor))) }
+{
+    let text = if is_head(request) {
+        Vec::new(alloc)
+    } else {
+        write_delta(alloc, stamped, cursor)?
+    };
+    peer_reply(alloc, request, text)
+}
+
+// A text for peers.
+fn peer_reply(alloc: Global, request: &Request, text: Vec<u8>) -> Result<Reply, NoMemory>
+    ensures { IfOk result (λ answer. answer ≡ peer_reply request.now text.items) }
+{
     let mut headers = Vec::new(alloc);
     headers.push((Header::ContentType, octets(alloc, b"text/plain")?))?;
     Ok(reply_with(request, 200, headers, text))

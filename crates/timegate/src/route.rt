@@ -1,13 +1,19 @@
 //! What a request asks for.
 ghost use Rattle.std.specs.Prelude.{◌≡◌, IfOk, IfSome};
 ghost use Rattle.timegate.specs.Route.{is_get, is_head, is_state, is_timegate, is_timemap, NamesItself, original_at};
-ghost use Rattle.timegate.specs.Route.{original_in, timegate_route, route_of};
+ghost use Rattle.timegate.specs.Route.{original_in, is_whole_delta, is_delta, cursor_at, delta_route};
+ghost use Rattle.timegate.specs.Route.{timegate_route, route_of};
 
 use crate::request::Request;
 use memento_time::{Moment, NoMemory, Octets, Original};
+use replica_exchange::Cursor;
 use std::alloc::Global;
 use std::str;
+use text_fields::{read_decimal, split_once};
 use timemap_reader::{OriginalFault, read_original};
+
+/// The bytes of `/delta/`, behind which a cursor stands.
+const DELTA_PREFIX: usize = 7;
 
 /// The bytes of `/timegate/`, behind which an original stands.
 const TIMEGATE_PREFIX: usize = 10;
@@ -21,6 +27,8 @@ pub enum Route {
     BadMethod,
     /// The state bytes.
     State,
+    /// The delta from a cursor, or from none.
+    Delta(Option<Cursor>),
     NoRoute,
     BadOriginal,
     BadDatetime,
@@ -46,6 +54,39 @@ fn is_state(request: &Request) -> bool
     ensures { result ≡ is_state request.now }
 {
     request.target.as_slice() == b"/state".as_slice()
+}
+
+fn is_whole_delta(request: &Request) -> bool
+    ensures { result ≡ is_whole_delta request.now }
+{
+    request.target.as_slice() == b"/delta".as_slice()
+}
+
+fn is_delta(request: &Request) -> bool
+    ensures { result ≡ is_delta request.now }
+{
+    request.target.as_slice().starts_with(b"/delta/")
+}
+
+// The cursor that bytes name: its incarnation, a slash, and its number.
+fn cursor_at(bytes: &[u8]) -> Option<Cursor>
+    ensures { result ≡ cursor_at bytes.now }
+{
+    let (incarnation, number) = split_once(bytes, b'/')?;
+    Some(Cursor {
+        incarnation: read_decimal(incarnation)?,
+        number: read_decimal(number)?,
+    })
+}
+
+// The delta from a cursor, if there is one.
+fn delta_route(cursor: Option<Cursor>) -> Route
+    ensures { result ≡ delta_route cursor }
+{
+    match cursor {
+        Some(cursor) => Route::Delta(Some(cursor)),
+        None => Route::NoRoute,
+    }
 }
 
 pub fn is_timegate(request: &Request) -> bool
@@ -102,7 +143,13 @@ pub fn route_of(alloc: Global, request: &Request) -> Result<Route, NoMemory>
     if is_state(request) {
         return Ok(Route::State);
     }
+    if is_whole_delta(request) {
+        return Ok(Route::Delta(None));
+    }
     let target = request.target.as_slice();
+    if is_delta(request) {
+        return Ok(delta_route(cursor_at(&target[DELTA_PREFIX..])));
+    }
     if is_timegate(request) {
         return match original_at(alloc, &target[TIMEGATE_PREFIX..])? {
             None => Ok(Route::BadOriginal),

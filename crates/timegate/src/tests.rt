@@ -1,7 +1,8 @@
 use super::*;
 use harvest_lattice::Harvest;
-use memento_index::{Index, Merge};
+use memento_index::Merge;
 use memento_time::{ArchiveName, Clean, Items, Memento, Moment, Octets, Original};
+use replica_exchange::Stamped;
 use std::test::Fail;
 use timemap_writer::Service;
 
@@ -46,7 +47,7 @@ end
 /// Takes a harvest of `http://a.example/` with mementos at these seconds and addresses.
 fn take(
     rt: &HostRuntime,
-    index: &mut Index,
+    stamped: &mut Stamped,
     revision: u64,
     mementos: &[(u64, &[u8])],
 ) -> Result<(), Fail> {
@@ -59,19 +60,19 @@ fn take(
     let archive = ArchiveName::new(b"arc.example").ok_or("no name")?;
     let original = Original::new(rt.alloc(), b"http://a.example/")?;
     let harvest = Harvest::new(archive, &original, revision, list)?;
-    index.absorb(&Merge::Harvest(harvest))?;
+    stamped.absorb(&Merge::Harvest(harvest))?;
     Ok(())
 }
 
-/// An index that has taken one harvest.
-fn index_of(rt: &HostRuntime, mementos: &[(u64, &[u8])]) -> Result<Index, Fail> {
-    let mut index = Index::new(rt.alloc());
-    take(rt, &mut index, 7, mementos)?;
-    Ok(index)
+/// A replica of incarnation 1 that has taken one harvest.
+fn replica_of(rt: &HostRuntime, mementos: &[(u64, &[u8])]) -> Result<Stamped, Fail> {
+    let mut stamped = Stamped::new(rt.alloc(), 1);
+    take(rt, &mut stamped, 7, mementos)?;
+    Ok(stamped)
 }
 
-fn two(rt: &HostRuntime) -> Result<Index, Fail> {
-    index_of(
+fn two(rt: &HostRuntime) -> Result<Stamped, Fail> {
+    replica_of(
         rt,
         &[
             (DAYS[0], b"http://m.example/1"),
@@ -86,7 +87,7 @@ fn octets(rt: &HostRuntime, text: &[u8]) -> Result<Octets, Fail> {
 
 fn reply(
     rt: &HostRuntime,
-    index: &Index,
+    stamped: &Stamped,
     method: &[u8],
     target: &[u8],
     asked: &[&[u8]],
@@ -101,7 +102,7 @@ fn reply(
         target: octets(rt, target)?,
         asked: Items::of(values),
     };
-    Ok(answer(rt.alloc(), &service, index, &request)?)
+    Ok(answer(rt.alloc(), &service, stamped, &request)?)
 }
 
 /// The status is this one, the lines are those of the headers and of the body behind them.
@@ -118,8 +119,8 @@ fn says(rt: &HostRuntime, reply: &Reply, status: u16, lines: &[u8]) -> Result<bo
 }
 
 /// The TimeGate that is asked so names the memento at this address.
-fn names(rt: &HostRuntime, index: &Index, asked: &[&[u8]], uri: &[u8]) -> Result<bool, Fail> {
-    let reply = reply(rt, index, b"GET", GATE, asked)?;
+fn names(rt: &HostRuntime, stamped: &Stamped, asked: &[&[u8]], uri: &[u8]) -> Result<bool, Fail> {
+    let reply = reply(rt, stamped, b"GET", GATE, asked)?;
     let named = reply.headers.as_slice().iter().any(|(header, value)| *header == Header::Location
         && value.as_slice() == uri);
     Ok(reply.status == 302 && named)
@@ -140,7 +141,7 @@ fn answers(
 
 #[test]
 fn choices(rt: HostRuntime) -> Result<(), Fail> {
-    let index = index_of(
+    let replica = replica_of(
         &rt,
         &[
             (DAYS[0], b"http://m.example/1"),
@@ -151,7 +152,7 @@ fn choices(rt: HostRuntime) -> Result<(), Fail> {
     assert!(rt;
         names(
             &rt,
-            &index,
+            &replica,
             &[b"Fri, 01 Jan 1960 00:00:00 GMT"],
             b"http://m.example/1"
         )?
@@ -159,16 +160,16 @@ fn choices(rt: HostRuntime) -> Result<(), Fail> {
     assert!(rt;
         names(
             &rt,
-            &index,
+            &replica,
             &[b"Fri, 31 Dec 9999 23:59:59 GMT"],
             b"http://m.example/2"
         )?
     );
-    assert!(rt; names(&rt, &index, &[], b"http://m.example/2")?);
+    assert!(rt; names(&rt, &replica, &[], b"http://m.example/2")?);
     assert!(rt;
         names(
             &rt,
-            &index,
+            &replica,
             &[b"Mon, 01 Jan 2000 00:00:00 GMT"],
             b"http://m.example/1"
         )?
@@ -176,12 +177,12 @@ fn choices(rt: HostRuntime) -> Result<(), Fail> {
     assert!(rt;
         names(
             &rt,
-            &index,
+            &replica,
             &[b"Thu, 99 Feb 1960 99:99:99 GMT"],
             b"http://m.example/1"
         )?
     );
-    let timemap = reply(&rt, &index, b"GET", MAP, &[])?;
+    let timemap = reply(&rt, &replica, b"GET", MAP, &[])?;
     assert!(rt;
         timemap.body.as_slice().ends_with(
             b"<http://m.example/2>; rel=\"memento\"; datetime=\"Mon, 03 Jan 2000 00:00:00 GMT\",
@@ -208,13 +209,13 @@ fn redirects_and_timemaps(rt: HostRuntime) -> Result<(), Fail> {
 
 #[test]
 fn nothing_is_shown(rt: HostRuntime) -> Result<(), Fail> {
-    let mut index = two(&rt)?;
-    take(&rt, &mut index, 8, &[])?;
-    let gate = reply(&rt, &index, b"GET", GATE, &[])?;
+    let mut replica = two(&rt)?;
+    take(&rt, &mut replica, 8, &[])?;
+    let gate = reply(&rt, &replica, b"GET", GATE, &[])?;
     let plain: &[u8] = b"Content-Type: text/plain\nno memento\n";
     let varied: &[u8] = b"Vary: accept-datetime\nContent-Type: text/plain\nno memento\n";
     assert!(rt; says(&rt, &gate, 404, varied)?);
-    let map = reply(&rt, &index, b"GET", MAP, &[])?;
+    let map = reply(&rt, &replica, b"GET", MAP, &[])?;
     assert!(rt; says(&rt, &map, 404, plain)?);
     let other: &[u8] = b"/timemap/link/http://b.example/";
     assert!(rt; answers(&rt, b"GET", other, &[], 404, plain)?);
@@ -282,5 +283,81 @@ fn other_targets(rt: HostRuntime) -> Result<(), Fail> {
     for target in others {
         assert!(rt; answers(&rt, b"GET", target, &[], 404, no_route)?);
     }
+    Ok(())
+}
+
+/// The delta of the one harvest that was taken.
+const DELTA: &[u8] = b"Content-Type: text/plain
+memento-delta 1
+from 1 0 1
+entries 1
+entry arc.example 7 1 http://a.example/
+946684800 http://arc.example/web/20000101000000/http://a.example/
+end
+";
+
+/// The delta from the present.
+const NO_CHANGE: &[u8] = b"Content-Type: text/plain
+memento-delta 1
+from 1 1 1
+entries 0
+end
+";
+
+/// What a replica of incarnation 1 that has taken one harvest is answered to this has this status and these lines.
+fn told(
+    rt: &HostRuntime,
+    method: &[u8],
+    target: &[u8],
+    status: u16,
+    lines: &[u8],
+) -> Result<bool, Fail> {
+    let uri: &[u8] = b"http://arc.example/web/20000101000000/http://a.example/";
+    let replica = replica_of(rt, &[(DAYS[0], uri)])?;
+    let reply = reply(rt, &replica, method, target, &[])?;
+    says(rt, &reply, status, lines)
+}
+
+#[test]
+fn deltas(rt: HostRuntime) -> Result<(), Fail> {
+    let kind: &[u8] = b"Content-Type: text/plain\n";
+    assert_eq!(rt;
+        (DELTA.len(), NO_CHANGE.len()),
+        (kind.len() + 147, kind.len() + 41)
+    );
+    for target in [
+        b"/delta".as_slice(),
+        b"/delta/1/9",
+        b"/delta/5/1",
+        b"/delta/1/0",
+    ] {
+        assert!(rt; told(&rt, b"GET", target, 200, DELTA)?);
+        assert!(rt; told(&rt, b"HEAD", target, 200, kind)?);
+    }
+    assert!(rt; told(&rt, b"GET", b"/delta/1/1", 200, NO_CHANGE)?);
+    assert!(rt; told(&rt, b"HEAD", b"/delta/1/1", 200, kind)?);
+    Ok(())
+}
+
+#[test]
+fn no_deltas(rt: HostRuntime) -> Result<(), Fail> {
+    let no_route: &[u8] = b"Content-Type: text/plain\nno such route\n";
+    let others: [&[u8]; 10] = [
+        b"/delta/",
+        b"/delta/1",
+        b"/delta//1",
+        b"/delta/01/1",
+        b"/delta/1/+1",
+        b"/delta/1/1/",
+        b"/delta/1/1?x",
+        b"/delta/18446744073709551616/1",
+        b"/delta/1/18446744073709551616",
+        b"/deltas",
+    ];
+    for target in others {
+        assert!(rt; told(&rt, b"GET", target, 404, no_route)?);
+    }
+    let no_method: &[u8] = b"Allow: GET, HEAD\nContent-Type: text/plain\nbad method\n";
+    assert!(rt; told(&rt, b"POST", b"/delta", 405, no_method)?);
     Ok(())
 }

@@ -4,11 +4,11 @@ use crate::serve::{ServeFault, serve_settings};
 use crate::settings::read_settings;
 use crossbeam_channel::{Receiver, Sender, bounded};
 use harvest_lattice::Harvest;
-use hyper_edge::{GateService, bind, pull_state, serve_gate};
+use hyper_edge::{GateService, bind, pull_delta, serve_gate};
 use memento_index::Merge;
 use memento_time::{ArchiveName, Clean, Memento, Moment, Original};
 use published_index::{Gate, Merger, open};
-use replica_exchange::write_state;
+use replica_exchange::{TakeFault, write_state};
 use std::alloc::{AllocGlobal, Global};
 use std::io::{self, Write};
 use std::net::{Net, TcpListener, TcpStream};
@@ -83,13 +83,13 @@ fn harvest(alloc: Global) -> Option<Merge> {
     Some(Merge::Harvest(harvest))
 }
 
-// Serves the archive's gate for a walk and a pull.
+// Serves the archive's gate for a walk and two pulls.
 fn serve_archive<R>(rt: &R, port: &Sender<u16>) -> Option<u64>
 where
     R: SocketRuntime + Clone + Drop,
 {
     let service = Service::new(rt.alloc(), "http://arc.example").ok()?;
-    let (mut merger, gates) = open(rt, rt.alloc(), service, 1).ok()?;
+    let (mut merger, gates) = open(rt, rt.alloc(), service, 1, 7).ok()?;
     let served = serve_known(rt, &mut merger, gates, port);
     merger.close(rt);
     served
@@ -106,7 +106,7 @@ where
     let mut bound = bind(rt, "127.0.0.1:0").ok()?;
     let service = GateService::new(rt.alloc(), own, gate).ok()?;
     let _ = port.send(rt, bound.port());
-    serve_gate(rt, &mut bound, &service, 2).ok()
+    serve_gate(rt, &mut bound, &service, 3).ok()
 }
 
 // A service of one round over the archive on this port.
@@ -156,13 +156,61 @@ where
 struct Seen {
     lines: String,
     reply: String,
+    pulled: Pulled,
+}
+
+/// What two pulls gave.
+#[derive(Drop)]
+struct Pulled {
+    /// The state of the first.
     state: Vec<u8>,
+    /// How many entries the second had.
+    later: usize,
+    /// What a merger says of the second that didn't take the first.
+    refused: Result<(), TakeFault>,
 }
 
 fn port_in(lines: &str) -> Option<&str> {
     let (_before, rest) = lines.split_once("gate 127.0.0.1:")?;
     let (port, _after) = rest.split_once('\n')?;
     Some(port)
+}
+
+// Pulls what the archive knows, and then what it has learnt since.
+fn pull_twice<R>(rt: &R, peer: &Clean, merger: &mut Merger, fresh: &mut Merger) -> Option<Pulled>
+where
+    R: SocketRuntime,
+{
+    let whole = pull_delta(rt, peer, merger.cursor(1)).ok()?;
+    merger.append_delta(1, &whole).ok()?;
+    let later = pull_delta(rt, peer, merger.cursor(1)).ok()?;
+    merger.append_delta(1, &later).ok()?;
+    Some(Pulled {
+        state: write_state(rt.alloc(), &whole.state).ok()?,
+        later: later.state.len(),
+        refused: fresh.append_delta(1, &later),
+    })
+}
+
+// Pulls to two mergers that know nothing.
+fn pull_to_mergers<R>(rt: &R, peer: &Clean) -> Option<Pulled>
+where
+    R: SocketRuntime,
+{
+    let alloc = rt.alloc();
+    let base = Service::new(alloc, "http://agg.example").ok()?;
+    let other = base.try_clone().ok()?;
+    let (mut merger, _gates) = open(rt, alloc, base, 1, 8).ok()?;
+    let pulled = match open(rt, alloc, other, 1, 9) {
+        Ok((mut fresh, _gates)) => {
+            let pulled = pull_twice(rt, peer, &mut merger, &mut fresh);
+            fresh.close(rt);
+            pulled
+        }
+        Err(_) => None,
+    };
+    merger.close(rt);
+    pulled
 }
 
 // Asks the service once its round is published, and pulls what the archive knows.
@@ -179,12 +227,11 @@ where
         return None;
     };
     let peer = Clean::new(alloc, peer.as_bytes()).ok()?;
-    let state = pull_state(rt, &peer).ok()?;
-    let state = write_state(alloc, &state).ok()?;
+    let pulled = pull_to_mergers(rt, &peer)?;
     Some(Seen {
         lines,
         reply,
-        state,
+        pulled,
     })
 }
 
@@ -247,6 +294,8 @@ fn a_round_is_served(rt: HostRuntime) -> Result<(), Fail> {
             "\r\nlocation: http://arc.example/web/20000101000000/http://a.example/\r\n"
         )
     );
-    assert_eq!(rt; seen.state.as_slice(), STATE.as_bytes());
+    assert_eq!(rt; seen.pulled.state.as_slice(), STATE.as_bytes());
+    assert_eq!(rt; seen.pulled.later, 0);
+    assert!(rt; seen.pulled.refused == Err(TakeFault::Gap { held: None }));
     Ok(())
 }

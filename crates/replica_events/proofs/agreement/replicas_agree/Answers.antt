@@ -13,7 +13,7 @@ pub returns-clause-same_state : goal.returns-clause-same_state
 returns-clause-same_state c base world i j known other i_is j_is same = agreement base world i j known other i_is j_is same
 
 pub returns-clause-replies : goal.returns-clause-replies
-returns-clause-replies c base world i known is q r compared = (given base world i known q r is, gives_reply base world i known q r is)
+returns-clause-replies c base world i known is q r compared = (given base world i known q r is compared, gives_reply base world i known q r is compared)
 
 pub returns-clause-timemaps : goal.returns-clause-timemaps
 returns-clause-timemaps c base world i known is = serves_timemaps base world i known is

@@ -1,4 +1,4 @@
-use Rattle.std.proofs.Common.{◌≡◌, [], ◌∷◌, ◌++◌, ap, drop, MatchResult}
+use Rattle.std.proofs.Common.{ap, drop}
 use Rattle.published_index.specs.Changes.{merges_in}
 use Rattle.published_index.specs.Views.{MergerView}
 use Rattle.published_index.proofs.Appending.{appended}

@@ -1,0 +1,19 @@
+//! What the merges of a replica make, and what its cursors say.
+ghost use Rattle.std.specs.Prelude.{◌≡◌, ℕ, List, Some};
+ghost use Rattle.std.specs.FinMap as map;
+ghost use Rattle.harvest_lattice.specs.Knowledge.{lat};
+ghost use Rattle.replica_exchange.specs.declared.cursor.Cursor.{Cursor};
+ghost use Rattle.replica_exchange.specs.Stamps.{state_after};
+ghost use Rattle.replica_events.specs.World.{Replica, Course, replica};
+ghost use Rattle.replica_events.specs.Cursors.{IsReached};
+
+/// After every list of events, the merges of a replica have made the state of all that it has taken: a delta that was
+/// delivered has led where all that its sender had taken would have led. And a cursor that a replica holds for a peer
+/// says how many merges the peer had taken at some time in that incarnation: the replica holds at least what these
+/// made.
+pub fn cursors_are_kept()
+    ensures states { (base : List ℕ) (course : Course base) (i : ℕ) (r : Replica) → replica course.world i ≡ Some r →
+        state_after r.merges ≡ lat r.taken }
+    ensures cursors { (base : List ℕ) (course : Course base) (i : ℕ) (r : Replica) → replica course.world i ≡ Some r →
+        (peer : ℕ) (c : Cursor) → map.get r.cursors peer ≡ Some c → IsReached course peer c (lat r.taken) }
+{}
