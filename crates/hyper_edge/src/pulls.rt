@@ -1,5 +1,5 @@
 //! Pulls what peers have learnt.
-ghost use Rattle.std.specs.Prelude.{◌≡◌, ◌≢◌, ◌≤◌, ◌++◌, IfErr, IfOk, length};
+ghost use Rattle.std.specs.Prelude.{◌≡◌, ◌≢◌, ◌≤◌, ◌++◌, IfErr, IfOk, length, string_bytes};
 ghost use Rattle.replica_exchange.specs.DeltaText.{IsDelta, delta_text};
 ghost use Rattle.timegate.specs.Route.{delta_target};
 
@@ -37,7 +37,7 @@ where
 
 // The address of the delta under the peer's base.
 fn delta_url(alloc: Global, peer: &Clean, cursor: Option<Cursor>) -> Result<String, PullFault>
-    ensures address { IfOk result (λ url. url ≡ peer.now ++ delta_target cursor) }
+    ensures address { IfOk result (λ url. string_bytes url ≡ peer.now ++ delta_target cursor) }
     ensures status { IfErr result (λ fault. fault ≢ PullFault.Status 200) }
 {
     let Ok(base) = str::from_utf8(peer.as_bytes()) else {
