@@ -1,8 +1,8 @@
 -- What is read as an original reads as itself.
-use Rattle.std.proofs.Common.{◌≡◌, ◌≢◌, ℕ, ◌+◌, ◌-◌, ◌<◌, ◌≤◌, Bool, true, false, not, ◌&&◌, ◌||◌, ◌==◌, nat_lt, ltb, cond, ◌⊎◌, List, [], ◌∷◌, ◌++◌, length, get_or, take, drop, Some, None, Ok, Err, All, sym, refl, ap, ◌∙◌, subst, inl, inr, ⊎_elim, append_assoc, append-nil, arith, length-append, take_at, drop_at, take_all, codes, lit<}
-use Rattle.std.specs.Prelude.{Option, IfSome, MatchOption, is_some, unwrap_or, option_map, decimal, reverse, bytes_eq, if◌then◌else◌}
-use Rattle.std.specs.List.{concat, filter, prefix_len, flat_map}
-use Rattle.std.proofs.lemmas.Bool.{cond-true, cond-false, cases_Bool, true≢false, or_parts, lt-leb, ne_eqb, and_left, and_right, and_parts}
+use Rattle.std.proofs.Common.{◌≡◌, ℕ, ◌+◌, ◌-◌, ◌<◌, Bool, true, false, not, ◌||◌, ◌==◌, nat_lt, ltb, List, [], ◌∷◌, ◌++◌, length, get_or, take, drop, Some, None, Ok, Err, All, sym, refl, ap, ◌∙◌, subst, inl, inr, ⊎_elim, append_assoc, append-nil, arith, length-append, take_at, drop_at, take_all, codes, lit<}
+use Rattle.std.specs.Prelude.{Option, IfSome, is_some, unwrap_or, option_map, decimal, reverse, bytes_eq, if◌then◌else◌}
+use Rattle.std.specs.List.{prefix_len}
+use Rattle.std.proofs.lemmas.Bool.{cond-true, cond-false, cases_Bool, true≢false, lt-leb, ne_eqb, and_left}
 use Rattle.std.proofs.lemmas.Bool.Decides.{nat_tests}
 use Rattle.std.proofs.Math.Nat.{sub-zero}
 use Rattle.std.specs.Int.{IsInRange}
@@ -14,35 +14,33 @@ use Rattle.std.proofs.lemmas.List.Concat.{flat_map-append}
 use Rattle.std.proofs.lemmas.List.Elements.{All-nil, All-cons, All-head, All-tail, All-append, All-weaker}
 use Rattle.std.proofs.lemmas.Slice.Eq.{bytes_eq-Decides}
 use Rattle.percent_encoding.specs.declared.ascii_set.TheConstants.{CONTROLS}
-use Rattle.percent_encoding.specs.AsciiSet.{contains}
-use Rattle.percent_encoding.specs.Percent.{IsKept, percent_encode, percent_encode_byte, percent_decode}
+use Rattle.percent_encoding.specs.Percent.{IsKept, percent_encode_byte, percent_decode}
 use Rattle.percent_encoding.proofs.AsciiSetLemmas.{ascii_from_kept}
 use Rattle.percent_encoding.proofs.PercentLemmas.{IsByte, IsEscapeByte, EscapesPercent, All-percent_encode_byte, percent_decode-percent_encode}
 use Rattle.url.specs.declared.sets.TheConstants.{FORBIDDEN_HOST, FORBIDDEN_DOMAIN, USERINFO, PATH, OPAQUE_PATH, SPECIAL_QUERY}
 use Rattle.url.specs.declared.host.Host.{Host}
 use Rattle.url.specs.declared.host.Host.TheVariants.{Domain, Ipv4, Ipv6}
 use Rattle.url.specs.declared.scheme.SchemeType.{SchemeType}
-use Rattle.url.specs.declared.scheme.SchemeType.TheVariants.{File, SpecialNotFile, NotSpecial}
+use Rattle.url.specs.declared.scheme.SchemeType.TheVariants.{SpecialNotFile, NotSpecial}
 use Rattle.url.specs.declared.error.ParseError.TheVariants.{EmptyHost}
-use Rattle.url.specs.declared.slicing.Position.TheVariants.{BeforeScheme, BeforeUsername, BeforeHost, AfterPort, AfterQuery}
+use Rattle.url.specs.declared.slicing.Position.TheVariants.{BeforeScheme, BeforeUsername, AfterPort, AfterQuery}
 use Rattle.url.specs.Input.{is_empty, when, is_c0_control_or_space, is_tab_or_new_line, trim_c0_control_and_space, strip_tabs_and_new_lines, split_once, rsplit_once}
 use Rattle.url.specs.Scheme.{IsScheme, default_port, scheme_type, scheme_len, is_special, is_file, is_slash, is_scheme_byte}
 use Rattle.url.specs.Host.{host_text, parse_host, parse_special_host, is_forbidden_in_domain, IsDomain, IsOpaqueHost, IsHostOf}
 use Rattle.url.specs.Path.{segment_len, parse_path_start}
-use Rattle.url.specs.Parts.{Parts, kind_of, has_authority, has_credentials, host_or_empty, serialize, text_between, query_set, IsPortOf, IsValidHead, IsValid}
+use Rattle.url.specs.Parts.{Parts, kind_of, has_authority, has_credentials, host_or_empty, text_between, query_set, IsPortOf, IsValidHead, IsValid}
 use Rattle.url.specs.Head.{with_authority, head_only, without_tail}
-use Rattle.url.specs.Parser.{Parsed, and_then, split_port, parse_port, lacks_host, parse_authority, with_path, skip_slashes, after_double_slash, parse_not_file, parse_body, with_tail, before_tail, parse_parts, base_for_scheme, split_scheme, parse_by_scheme, parse_url}
+use Rattle.url.specs.Parser.{Parsed, and_then, split_port, parse_port, lacks_host, parse_authority, with_path, skip_slashes, after_double_slash, parse_body, with_tail, before_tail, parse_parts, base_for_scheme, split_scheme, parse_by_scheme, parse_url}
 use Rattle.url.proofs.InputLemmas.{IsNot, Passes, StopsAt, split_once_at, split_once_none, prefix_len_at, filter_all, is_empty_nonempty, list_any_none}
 use Rattle.url.proofs.SetLemmas.{passes_from_kept, kept_differs, All_kept_differs, All_kept_by_smaller, kept_from_escape}
 use Rattle.url.proofs.SchemeLemmas.{scheme_bytes}
-use Rattle.url.proofs.HostLemmas.{ascii_domain-kept, All-host_text}
+use Rattle.url.proofs.HostLemmas.{ascii_domain-kept}
 use Rattle.url.proofs.HostRoundTrip.{All-decimal, parse_port-decimal, host_len-host_text}
 use Rattle.url.proofs.Theorems.{parse_url-serialize_special}
 use Rattle.url.proofs.PathLemmas.{rooted}
-use Rattle.url.proofs.PiecesLemmas.{option_cases}
 use Rattle.url.proofs.ValidLemmas.{with_own_tail, segment_list_kept, path_kept, hierarchical, special_has_authority, base_from_authority}
 use Rattle.url.proofs.SetterLemmas.{own_credentials, host_is_some, own_host}
-use Rattle.url.proofs.TextLemmas.{All-concat, All_one, All_kept, All_part, is_host_byte, is_authority_byte, authority_bytes, port_bytes, query_byte}
+use Rattle.url.proofs.TextLemmas.{All_one, All_kept, All_part, is_authority_byte, authority_bytes, query_byte}
 use Rattle.url.proofs.RoundTrip.{split_at_sign, split_own_scheme, parse_own_path, stays_unless_file, stops_at_path}
 use Rattle.url.proofs.ParsedCanonical.{before_special}
 use Rattle.timemap_reader.specs.declared.address.TheConstants.{ESCAPED}

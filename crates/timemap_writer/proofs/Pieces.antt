@@ -1,5 +1,5 @@
 -- The pieces of each link, as the code appends them, are its text.
-use Rattle.std.proofs.Common.{◌≡◌, ◌≤◌, ◌==◌, ℕ, suc, ◌-◌, Bool, false, take, drop, get_or, arith, List, [], ◌∷◌, ◌++◌, codes, length, Some, append_assoc, refl, sym, ap, ◌∙◌}
+use Rattle.std.proofs.Common.{◌≡◌, ◌≤◌, ◌==◌, ℕ, suc, ◌-◌, Bool, false, take, drop, get_or, arith, List, [], ◌∷◌, ◌++◌, codes, length, Some, append_assoc, sym, ap, ◌∙◌}
 use Rattle.std.specs.List.{slice_get}
 use Rattle.std.proofs.Math.Seq.{take-length}
 use Rattle.std.proofs.lemmas.List.{append-nil}
@@ -7,7 +7,6 @@ use Rattle.std.proofs.lemmas.List.Concat.{flat_map-append}
 use Rattle.link_format.specs.Grammar.{Param}
 use Rattle.link_format.specs.Writing.{target_text, param_text, params_text, link_text, followed}
 use Rattle.memento_time.specs.declared.mementos.Memento.{Memento}
-use Rattle.memento_time.specs.Second.{imf}
 use Rattle.timemap_writer.specs.TimeMap.{datetime_of, timemap_address, timemap_link, memento_link, memento_links}
 
 -- a link with one parameter

@@ -6,7 +6,7 @@ use Rattle.std.proofs.lemmas.List.{append-nil}
 use Rattle.std.proofs.lemmas.List.Elements.{All-head, All-tail}
 use Rattle.std.proofs.lemmas.Option.{slice_get_cases}
 use Rattle.link_format.specs.Bytes.{is_name_byte, is_target_byte, is_quotable}
-use Rattle.link_format.specs.Grammar.{Param, Link, IsName, IsTarget, Reading}
+use Rattle.link_format.specs.Grammar.{Param, IsName, IsTarget, Reading}
 use Rattle.link_format.specs.Writing.{IsWritableParam, IsWritable, joined}
 use Rattle.link_format.proofs.Written.{links_read}
 use Rattle.memento_time.specs.declared.mementos.Memento.{Memento}

@@ -1,4 +1,4 @@
-use Rattle.std.proofs.Common.{subst, sym, ap, ◌∙◌}
+use Rattle.std.proofs.Common.{subst}
 use Rattle.memento_time.specs.Second.{IsSecond}
 use Rattle.timemap_writer.proofs.Bytes.{imf_plain}
 use Rattle.timemap_writer.proofs.lines.datetime.Goals as goal

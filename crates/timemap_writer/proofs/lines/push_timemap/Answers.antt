@@ -1,4 +1,4 @@
-use Rattle.std.proofs.Common.{◌≡◌, ◌++◌, ◌∙◌, ap, codes, Some, ℕ, List}
+use Rattle.std.proofs.Common.{◌++◌, ◌∙◌, ap, codes, Some, ℕ, List}
 use Rattle.link_format.specs.Writing.{target_text, param_text, params_text}
 use Rattle.timemap_writer.specs.TimeMap.{datetime_of}
 use Rattle.timemap_writer.proofs.Pieces.{timemap_pieces}
