@@ -1,7 +1,6 @@
 use Rattle.std.proofs.Common.{◌≡◌, length, List, Some, refl, sym, ap, subst, ◌∙◌, ◌-◌, arith}
 use Rattle.std.specs.List.{slice_get}
 use Rattle.std.specs.Ordering.{is_lt}
-use Rattle.memento_time.specs.Mementos.{memento_cmp}
 use Rattle.memento_time.specs.declared.mementos.Memento.{Memento}
 use Rattle.memento_index.specs.Counts.{mementos_of}
 use Rattle.memento_index.specs.Tallies.{Tallied}
