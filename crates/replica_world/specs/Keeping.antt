@@ -23,8 +23,8 @@ pub record IsMerged (old : KeptReplica) (m : Merge) (held : Held) (new : KeptRep
   pub cursors : new.cursors ≡ held
   pub left : ¬ (old.stamped.number ≡ last_number)
 
--- a delta leaves a gap after the cursor that is held for the peer; or it follows, and no number is left; or a growth was
--- refused
+-- a delta leaves a gap after the cursor that is held for the peer; or it follows, and no number is left; or a growth
+-- was refused
 abbrev pub IsJoinCause : Refused → KeptReplica → ℕ → Delta → Type 0
 IsJoinCause (Gap held) r peer d = (held ≡ map.get r.cursors peer) × (fits (map.get r.cursors peer) d ≡ false)
 IsJoinCause NumbersSpent r peer d = (fits (map.get r.cursors peer) d ≡ true) × (r.stamped.number ≡ last_number)
