@@ -36,16 +36,15 @@ escape_nothing (b ∷ value) plain =
     rw (k.1, k.2) (ap (λ (t : List ℕ). b ∷ t) (escape_nothing value plain.1))
 
 -- the pieces of a plain parameter
-pub plain_pieces : (out name value : List ℕ) → IsPlainValue value → ((((out ++ 59 ∷ 32 ∷ []) ++ name) ++ 61 ∷ 34 ∷ []) ++ value) ++ 34 ∷ [] ≡ out ++ param_text name (Some value)
+pub plain_pieces : (out name value : List ℕ) → IsPlainValue value → ((out ++ 59 ∷ 32 ∷ (name ++ 61 ∷ 34 ∷ [])) ++ value) ++ 34 ∷ [] ≡ out ++ param_text name (Some value)
 plain_pieces out name value plain =
-    let quoted : List ℕ = (61 ∷ 34 ∷ []) ++ (value ++ 34 ∷ []) in
+    let front : List ℕ = 59 ∷ 32 ∷ (name ++ 61 ∷ 34 ∷ []) in
+    let behind : List ℕ = value ++ 34 ∷ [] in
     let parted : (text : List ℕ) → List ℕ = λ text. out ++ 59 ∷ 32 ∷ ((name ++ 61 ∷ 34 ∷ text) ++ 34 ∷ []) in
-    let last : out ++ ((59 ∷ 32 ∷ []) ++ (name ++ quoted)) ≡ out ++ param_text name (Some value) =
-    ap (λ (t : List ℕ). out ++ 59 ∷ 32 ∷ t) (sym (append_assoc name (61 ∷ 34 ∷ value) (34 ∷ []))) ∙ ap parted (sym (escape_nothing value plain)) in
-    append_assoc (((out ++ 59 ∷ 32 ∷ []) ++ name) ++ 61 ∷ 34 ∷ []) value (34 ∷ [])
-    ∙ (append_assoc ((out ++ 59 ∷ 32 ∷ []) ++ name) (61 ∷ 34 ∷ []) (value ++ 34 ∷ [])
-    ∙ (append_assoc (out ++ 59 ∷ 32 ∷ []) name quoted
-    ∙ (append_assoc out (59 ∷ 32 ∷ []) (name ++ quoted) ∙ last)))
+    let inside : front ++ behind ≡ 59 ∷ 32 ∷ ((name ++ 61 ∷ 34 ∷ value) ++ 34 ∷ []) =
+    ap (λ (t : List ℕ). 59 ∷ 32 ∷ t) (append_assoc name (61 ∷ 34 ∷ []) behind ∙ sym (append_assoc name (61 ∷ 34 ∷ value) (34 ∷ []))) in
+    append_assoc (out ++ front) value (34 ∷ [])
+    ∙ (append_assoc out front behind ∙ (ap (λ (t : List ℕ). out ++ t) inside ∙ ap parted (sym (escape_nothing value plain))))
 
 pub escape_append : (first rest : List ℕ) → escape (first ++ rest) ≡ escape first ++ escape rest
 escape_append [] rest = refl
