@@ -31,15 +31,15 @@ use Rattle.replica_events.specs.declared.event.Said.TheVariants.{Taken, Sent, Jo
 use Rattle.replica_events.specs.declared.event.Refused.{Refused}
 use Rattle.replica_events.specs.declared.event.Refused.TheVariants.{NoReplica, NoMessage, BadState, NoMemory, Gap, NumbersSpent}
 use Rattle.replica_events.specs.Faults.{refusal, stamp_refusal}
-use Rattle.replica_events.specs.World.{World, Replica, Message, Answer, Course, Step, Run, Effect, HasReplica, TakesMemory, IsText, last_number, numbered, replica, message, with_replica, with_message, taking, joining, sent_by, own_cursor, fresh, fresh_after, restarting, start}
+use Rattle.replica_events.specs.World.{World, Replica, Message, Answer, Step, Effect, HasReplica, TakesMemory, IsText, last_number, replica, message, with_replica, with_message, taking, joining, sent_by, own_cursor, fresh, fresh_after, restarting, start}
 use Rattle.replica_events.proofs.Numbers.{messages_stay, last_stays}
 use Rattle.replica_events.proofs.Moments.{run_push, longer, merges_made}
 use Rattle.replica_world.specs.Places.{IsNoNumber}
 use Rattle.replica_world.specs.declared.message.SentMessage.{SentMessage}
 use Rattle.replica_world.specs.declared.replica.KeptReplica.{KeptReplica}
-use Rattle.replica_world.specs.Keeping.{IsMerged, IsJoinCause}
+use Rattle.replica_world.specs.Keeping.{IsJoinCause}
 use Rattle.replica_world.specs.Stands.{Kept, Keeps, IsSent, IsReached, Stands, Steps, Runs, MergedAt, kept_at, kept_message, nothing_kept}
-use Rattle.replica_world.proofs.Places.{At, at_place, no_number}
+use Rattle.replica_world.proofs.Places.{at_place, no_number}
 
 -- ---- two lists, pair by pair
 

@@ -1,5 +1,5 @@
 -- The lines of commands: how each is written, and how it is read.
-use Rattle.std.specs.Prelude.{◌≡◌, ℕ, ◌<◌, ◌≤◌, ◌^◌, ◌&&◌, List, [], ◌∷◌, length, Option, None, Some, nat_le}
+use Rattle.std.specs.Prelude.{ℕ, ◌<◌, ◌≤◌, ◌^◌, ◌&&◌, List, [], ◌∷◌, length, Option, None, Some, nat_le}
 use Rattle.std.specs.Prelude.{if◌then◌else◌, codes, bytes_eq, IsTrue}
 use Rattle.std.specs.Fmt.{decimal}
 use Rattle.std.specs.List.{list_all}

@@ -1,4 +1,4 @@
-use Rattle.std.proofs.Common.{◌≡◌, IfOk, sym, subst}
+use Rattle.std.proofs.Common.{IfOk, sym, subst}
 use Rattle.replica_world.specs.declared.replaying.command.Command.{Command}
 use Rattle.replica_world.specs.Performing.{IsPerformed}
 use Rattle.replica_world.specs.Spelled.{command_view, taking_view}

@@ -1,4 +1,4 @@
-use Rattle.std.proofs.Common.{rules, ◌≡◌, ℕ, ap, subst}
+use Rattle.std.proofs.Common.{rules, ◌≡◌, ℕ, subst}
 use Rattle.std.specs.List.{AllZip}
 use Rattle.replica_events.specs.World.{fresh_after}
 use Rattle.replica_world.specs.Stands.{Keeps}

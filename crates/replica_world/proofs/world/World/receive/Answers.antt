@@ -1,4 +1,4 @@
-use Rattle.std.proofs.Common.{rules, ◌≡◌, ◌<◌, Err, ap, length}
+use Rattle.std.proofs.Common.{rules, ◌<◌, Err, ap, length}
 use Rattle.replica_exchange.specs.declared.stamped.StampFault.{StampFault}
 use Rattle.replica_events.specs.World.{IsText}
 use Rattle.replica_world.proofs.Worlds.{no_replica, refused_as, received, not_received, not_absorbed}

@@ -1,4 +1,4 @@
-use Rattle.std.proofs.Common.{rules, ◌≡◌, ◌<◌, length}
+use Rattle.std.proofs.Common.{rules, ◌<◌, length}
 use Rattle.replica_world.proofs.Worlds.{no_replica, spent_restart, restarted}
 use Rattle.replica_world.proofs.world.World.restart.Goals as goal
 

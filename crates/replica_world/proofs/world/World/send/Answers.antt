@@ -1,4 +1,4 @@
-use Rattle.std.proofs.Common.{rules, ◌≡◌, ◌<◌, List, ℕ, None, ap, length, subst, ◌∙◌}
+use Rattle.std.proofs.Common.{rules, ◌≡◌, ◌<◌, None, ap, length, subst, ◌∙◌}
 use Rattle.replica_exchange.specs.DeltaText.{IsDelta, delta_text}
 use Rattle.replica_exchange.specs.CursorRule.{delta_from}
 use Rattle.replica_world.specs.declared.replica.KeptReplica.{KeptReplica}

@@ -1,4 +1,4 @@
-use Rattle.std.proofs.Common.{rules, ◌≡◌, ◌<◌, List, ℕ, Option, Some, ap, length, subst, ◌∙◌}
+use Rattle.std.proofs.Common.{rules, ◌≡◌, ◌<◌, ℕ, Option, Some, ap, length, subst, ◌∙◌}
 use Rattle.replica_exchange.specs.declared.cursor.Cursor.{Cursor}
 use Rattle.replica_exchange.specs.DeltaText.{IsDelta, delta_text}
 use Rattle.replica_exchange.specs.CursorRule.{delta_from}

@@ -1,4 +1,4 @@
-use Rattle.std.proofs.Common.{rules, ◌≡◌, ◌<◌, Err, ap, length}
+use Rattle.std.proofs.Common.{rules, ◌<◌, Err, ap, length}
 use Rattle.replica_exchange.specs.declared.stamped.StampFault.{StampFault}
 use Rattle.replica_world.proofs.Worlds.{no_replica, refused_as, take_ran_out, not_taken, took}
 use Rattle.replica_world.proofs.world.World.take.Goals as goal
