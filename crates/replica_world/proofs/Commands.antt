@@ -1,6 +1,6 @@
 -- A command is read where it is laid out, and its first line too.
-use Rattle.std.proofs.Common.{◌≡◌, ℕ, zero, suc, ◌^◌, ◌<◌, ◌≤◌, Bool, true, false, ◌&&◌, nat_le, if◌then◌else◌, List, [], ◌∷◌, ◌++◌, length, Option, Some, None, refl, sym, ap, subst, ◌∙◌, arith}
-use Rattle.std.specs.Prelude.{◌↔◌, codes, bytes_eq}
+use Rattle.std.proofs.Common.{◌≡◌, ℕ, zero, suc, ◌^◌, ◌<◌, ◌≤◌, Bool, true, false, ◌&&◌, nat_le, if◌then◌else◌, List, [], ◌∷◌, ◌++◌, Option, Some, None, refl, sym, ap, subst, ◌∙◌, arith}
+use Rattle.std.specs.Prelude.{codes, bytes_eq}
 use Rattle.std.specs.Fmt.{decimal}
 use Rattle.std.proofs.lemmas.Grind.{common_steps}
 use Rattle.std.proofs.lemmas.Option.{same_Some}
@@ -70,6 +70,7 @@ means_there (form.Ask f) after c is =
     let same = alone _ _ c asked.2 in
     (asked.0.0, subst (λ (rest : List ℕ). AreLines f.count after asked.0.0 rest) (sym same.1) ((lines_are f.count after asked.0).0 asked.1), same.0)
 means_there (form.Send replica) after c is = alone _ after c is
+means_there (form.SendFrom replica merges) after c is = alone _ after c is
 means_there (form.Deliver replica message) after c is = alone _ after c is
 means_there (form.Receive replica len) after c is =
     let body = bound (block_of len after) _ c is in
@@ -87,6 +88,7 @@ means_here (form.GateAt replica original asked) after command rest (is, same) = 
 means_here (form.Ask f) after command rest (asked, lines, is) =
     onward (lines_of f.count after) _ (asked, rest) ((lines_are f.count after (asked, rest)).1 lines) ∙ pair _ command rest rest is refl
 means_here (form.Send replica) after command rest (is, same) = pair _ command after rest is same
+means_here (form.SendFrom replica merges) after command rest (is, same) = pair _ command after rest is same
 means_here (form.Deliver replica message) after command rest (is, same) = pair _ command after rest is same
 means_here (form.Receive replica len) after command rest (body, block, is) =
     onward (block_of len after) _ (body, rest) ((block_is len after (body, rest)).1 block) ∙ pair _ command rest rest is refl

@@ -1,6 +1,6 @@
 -- A line is read as the form whose text it is.
 use Rattle.std.proofs.Common.{◌≡◌, ℕ, ◌<◌, ◌≤◌, Bool, true, false, ◌==◌, ◌&&◌, nat_le, if◌then◌else◌, List, [], ◌∷◌, ◌++◌, length, Option, Some, None, refl, sym, ap, subst, ◌∙◌, arith}
-use Rattle.std.specs.Prelude.{◌↔◌, not, codes, bytes_eq, IsTrue}
+use Rattle.std.specs.Prelude.{not, codes, bytes_eq}
 use Rattle.std.specs.Fmt.{decimal}
 use Rattle.std.specs.List.{list_all}
 use Rattle.std.proofs.lemmas.Grind.{common_steps}
@@ -13,7 +13,7 @@ use Rattle.text_fields.specs.Parts.{Lacks, parted}
 use Rattle.text_fields.proofs.DecimalLemmas.{number_is, decimal_lacks}
 use Rattle.text_fields.proofs.PartLemmas.{parts_are, parts_none_lacks, parts_lacking}
 use Rattle.replica_world.specs.Fields.{◌>>=◌, field, number_field, word_field, is_visible}
-use Rattle.replica_world.specs.Form.{Form, TakeForm, AskForm, Take, Map, Gate, GateAt, Ask, Send, Deliver, Receive, Restart, form_text, IsNumber, IsWord, IsWritten, most_asked, take_of, map_of, gate_at, gate_of, ask_of, send_of, deliver_of, receive_of, restart_of, form_by_word, form_of}
+use Rattle.replica_world.specs.Form.{Form, TakeForm, AskForm, Take, Map, Gate, GateAt, Ask, Send, SendFrom, Deliver, Receive, Restart, form_text, IsNumber, IsWord, IsWritten, most_asked, take_of, map_of, gate_at, gate_of, ask_of, send_of, send_from_of, deliver_of, receive_of, restart_of, form_by_word, form_of}
 
 -- ---- one reading after another
 
@@ -89,6 +89,7 @@ word_of (Gate replica original) = codes "gate"
 word_of (GateAt replica original asked) = codes "gate"
 word_of (Ask f) = codes "ask"
 word_of (Send replica) = codes "send"
+word_of (SendFrom replica merges) = codes "sendfrom"
 word_of (Deliver replica message) = codes "deliver"
 word_of (Receive replica len) = codes "receive"
 word_of (Restart replica) = codes "restart"
@@ -100,6 +101,7 @@ fields_of (Gate replica original) = parted (decimal replica ∷ original ∷ [])
 fields_of (GateAt replica original asked) = parted (decimal replica ∷ original ∷ asked ∷ [])
 fields_of (Ask f) = parted (decimal f.replica ∷ f.method ∷ decimal f.count ∷ f.target ∷ [])
 fields_of (Send replica) = decimal replica
+fields_of (SendFrom replica merges) = parted (decimal replica ∷ decimal merges ∷ [])
 fields_of (Deliver replica message) = parted (decimal replica ∷ decimal message ∷ [])
 fields_of (Receive replica len) = parted (decimal replica ∷ decimal len ∷ [])
 fields_of (Restart replica) = decimal replica
@@ -111,6 +113,7 @@ form_text-parts (Gate replica original) = refl
 form_text-parts (GateAt replica original asked) = refl
 form_text-parts (Ask f) = refl
 form_text-parts (Send replica) = refl
+form_text-parts (SendFrom replica merges) = refl
 form_text-parts (Deliver replica message) = refl
 form_text-parts (Receive replica len) = refl
 form_text-parts (Restart replica) = refl
@@ -132,6 +135,7 @@ word_lacks (Gate replica original) = lacks_space (codes "gate") refl
 word_lacks (GateAt replica original asked) = lacks_space (codes "gate") refl
 word_lacks (Ask f) = lacks_space (codes "ask") refl
 word_lacks (Send replica) = lacks_space (codes "send") refl
+word_lacks (SendFrom replica merges) = lacks_space (codes "sendfrom") refl
 word_lacks (Deliver replica message) = lacks_space (codes "deliver") refl
 word_lacks (Receive replica len) = lacks_space (codes "receive") refl
 word_lacks (Restart replica) = lacks_space (codes "restart") refl
@@ -211,6 +215,15 @@ send_laid fields f is =
     let r = (number_is fields replica.0).0 replica.1 in
     subst (Laid (codes "send") fields) (same_Some _ _ replica.2) (r.0, refl, r.1)
 
+send_from_laid : (fields : List ℕ) (f : Form) → send_from_of fields ≡ Some f → Laid (codes "sendfrom") fields f
+unfolding send_from_of
+send_from_laid fields f is =
+    let replica = bound (number_field fields) _ f is in
+    let merges = bound (number_of replica.0.1) _ f replica.2 in
+    let r = (number_field_is fields replica.0).0 replica.1 in
+    let n = (number_is replica.0.1 merges.0).0 merges.1 in
+    subst (Laid (codes "sendfrom") fields) (same_Some _ _ merges.2) ((r.0, n.0), refl, r.1 ∙ ap (λ (t : List ℕ). decimal replica.0.0 ++ 32 ∷ t) n.1)
+
 deliver_laid : (fields : List ℕ) (f : Form) → deliver_of fields ≡ Some f → Laid (codes "deliver") fields f
 unfolding deliver_of
 deliver_laid fields f is =
@@ -243,20 +256,22 @@ by_word word name fields f is laid = (laid.0, (bytes_eq-Decides word name).0 is 
 named_laid : (word fields : List ℕ) (f : Form) → form_by_word word fields ≡ Some f → Laid word fields f
 unfolding form_by_word
 named_laid word fields f = on (bytes_eq word (codes "take")) (bytes_eq word (codes "map")) (bytes_eq word (codes "gate")) (bytes_eq word (codes "ask")) (bytes_eq word (codes "send"))
-    (bytes_eq word (codes "deliver")) (bytes_eq word (codes "receive")) (bytes_eq word (codes "restart")) refl refl refl refl refl refl refl refl where
-      on : (take map gate ask send deliver receive restart : Bool) → bytes_eq word (codes "take") ≡ take → bytes_eq word (codes "map") ≡ map → bytes_eq word (codes "gate") ≡ gate → bytes_eq word (codes "ask") ≡ ask
-          → bytes_eq word (codes "send") ≡ send → bytes_eq word (codes "deliver") ≡ deliver → bytes_eq word (codes "receive") ≡ receive → bytes_eq word (codes "restart") ≡ restart
+    (bytes_eq word (codes "sendfrom")) (bytes_eq word (codes "deliver")) (bytes_eq word (codes "receive")) (bytes_eq word (codes "restart")) refl refl refl refl refl refl refl refl refl where
+      on : (take map gate ask send from deliver receive restart : Bool) → bytes_eq word (codes "take") ≡ take → bytes_eq word (codes "map") ≡ map → bytes_eq word (codes "gate") ≡ gate → bytes_eq word (codes "ask") ≡ ask
+          → bytes_eq word (codes "send") ≡ send → bytes_eq word (codes "sendfrom") ≡ from → bytes_eq word (codes "deliver") ≡ deliver → bytes_eq word (codes "receive") ≡ receive → bytes_eq word (codes "restart") ≡ restart
           → (if take then take_of fields else if map then map_of fields else if gate then gate_of fields else if ask then ask_of fields
-          else if send then send_of fields else if deliver then deliver_of fields else if receive then receive_of fields else if restart then restart_of fields else None) ≡ Some f → Laid word fields f
-      on true m g a s d r e t1 t2 t3 t4 t5 t6 t7 t8 is = by_word word (codes "take") fields f t1 (take_laid fields f is)
-      on false true g a s d r e t1 t2 t3 t4 t5 t6 t7 t8 is = by_word word (codes "map") fields f t2 (map_laid fields f is)
-      on false false true a s d r e t1 t2 t3 t4 t5 t6 t7 t8 is = by_word word (codes "gate") fields f t3 (gate_laid fields f is)
-      on false false false true s d r e t1 t2 t3 t4 t5 t6 t7 t8 is = by_word word (codes "ask") fields f t4 (ask_laid fields f is)
-      on false false false false true d r e t1 t2 t3 t4 t5 t6 t7 t8 is = by_word word (codes "send") fields f t5 (send_laid fields f is)
-      on false false false false false true r e t1 t2 t3 t4 t5 t6 t7 t8 is = by_word word (codes "deliver") fields f t6 (deliver_laid fields f is)
-      on false false false false false false true e t1 t2 t3 t4 t5 t6 t7 t8 is = by_word word (codes "receive") fields f t7 (receive_laid fields f is)
-      on false false false false false false false true t1 t2 t3 t4 t5 t6 t7 t8 is = by_word word (codes "restart") fields f t8 (restart_laid fields f is)
-      on false false false false false false false false t1 t2 t3 t4 t5 t6 t7 t8 is = absurd (let none : None ≡ Some f = is in cc)
+          else if send then send_of fields else if from then send_from_of fields else if deliver then deliver_of fields else if receive then receive_of fields else if restart then restart_of fields else None) ≡ Some f
+          → Laid word fields f
+      on true m g a s n d r e t1 t2 t3 t4 t5 t6 t7 t8 t9 is = by_word word (codes "take") fields f t1 (take_laid fields f is)
+      on false true g a s n d r e t1 t2 t3 t4 t5 t6 t7 t8 t9 is = by_word word (codes "map") fields f t2 (map_laid fields f is)
+      on false false true a s n d r e t1 t2 t3 t4 t5 t6 t7 t8 t9 is = by_word word (codes "gate") fields f t3 (gate_laid fields f is)
+      on false false false true s n d r e t1 t2 t3 t4 t5 t6 t7 t8 t9 is = by_word word (codes "ask") fields f t4 (ask_laid fields f is)
+      on false false false false true n d r e t1 t2 t3 t4 t5 t6 t7 t8 t9 is = by_word word (codes "send") fields f t5 (send_laid fields f is)
+      on false false false false false true d r e t1 t2 t3 t4 t5 t6 t7 t8 t9 is = by_word word (codes "sendfrom") fields f t6 (send_from_laid fields f is)
+      on false false false false false false true r e t1 t2 t3 t4 t5 t6 t7 t8 t9 is = by_word word (codes "deliver") fields f t7 (deliver_laid fields f is)
+      on false false false false false false false true e t1 t2 t3 t4 t5 t6 t7 t8 t9 is = by_word word (codes "receive") fields f t8 (receive_laid fields f is)
+      on false false false false false false false false true t1 t2 t3 t4 t5 t6 t7 t8 t9 is = by_word word (codes "restart") fields f t9 (restart_laid fields f is)
+      on false false false false false false false false false t1 t2 t3 t4 t5 t6 t7 t8 t9 is = absurd (let none : None ≡ Some f = is in cc)
 
 -- ---- what was written is read
 
@@ -289,7 +304,7 @@ ask_read f w =
     ∙ ap (λ (b : Bool). if b then Some (Ask f) else None) (fits_both (list_all is_visible f.method) f.count w.1.1 w.2)
 
 named_read : (f : Form) → IsWritten f → form_by_word (word_of f) (fields_of f) ≡ Some f
-unfolding form_by_word map_of gate_of send_of deliver_of receive_of restart_of
+unfolding form_by_word map_of gate_of send_of send_from_of deliver_of receive_of restart_of
 named_read (Take f) w = take_read f w
 named_read (Map replica original) w = onward _ _ _ (number_first replica original w)
 named_read (Gate replica original) w =
@@ -299,6 +314,7 @@ named_read (GateAt replica original asked) w =
     ∙ ap (λ (found : Option (List ℕ × List ℕ)). Some (gate_at replica (original ++ 32 ∷ asked) found)) ((parts_are 32 (original ++ 32 ∷ asked) (original, asked)).1 (w.1, refl))
 named_read (Ask f) w = ask_read f w
 named_read (Send replica) w = onward _ _ _ (number_alone replica w)
+named_read (SendFrom replica merges) w = onward _ _ _ (number_first replica (decimal merges) w.0) ∙ onward _ _ _ (number_alone merges w.1)
 named_read (Deliver replica message) w = onward _ _ _ (number_first replica (decimal message) w.0) ∙ onward _ _ _ (number_alone message w.1)
 named_read (Receive replica len) w = onward _ _ _ (number_first replica (decimal len) w.0) ∙ onward _ _ _ (number_alone len w.1)
 named_read (Restart replica) w = onward _ _ _ (number_alone replica w)

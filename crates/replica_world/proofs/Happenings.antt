@@ -17,9 +17,11 @@ use Rattle.replica_events.specs.declared.event.Refused.TheVariants.{NoMemory}
 use Rattle.replica_events.specs.World.{World, Answer, Effect, RunsOut}
 use Rattle.replica_world.specs.Stands.{Kept, Steps}
 use Rattle.replica_world.specs.Fields.{utf8_text}
+use Rattle.timegate.specs.Route.{original_at}
+use Rattle.replica_world.specs.Script as script
 use Rattle.replica_world.specs.Script.{Taking}
-use Rattle.replica_world.specs.Output.{Happens, IsPage, answer_text, taken_line, harvest_of, refusal_text}
-use Rattle.replica_world.specs.Performing.{IsHappening, IsHarvestTaken}
+use Rattle.replica_world.specs.Output.{Happens, IsPage, answer_text, accepted_line, taken_line, harvest_of, refusal_text}
+use Rattle.replica_world.specs.Performing.{IsHappening, IsHarvestTaken, IsPageTaken, IsPerformed}
 
 -- any other answer is the event's effect
 took_effect : (base : List ℕ) (w : World) (event : Event) (answer : Answer) (next : World) → answer ≢ Err NoMemory → Effect base w event answer next ⊎ RunsOut w event answer next
@@ -95,3 +97,27 @@ page_sorted address body page = sorted (utf8_text address) where
   sorted : (o : Option (List ℕ)) → MatchOption o ⊥ (λ base. IsAnswer base body (Ok page)) → IsStrictlySortedBy memento_cmp page.mementos
   sorted None is = absurd is
   sorted (Some base) (links, url, short, read, at, is) = is.mementos.sorted
+
+-- what was written of the harvest of a page, under the original that is named, was written of the page
+pub page_taken_if : {E : Type 0} (old new : Kept) (t : Taking) (original : List ℕ) (page : Page) (result : Result (List ℕ) E) → original_at t.original ≡ Some original → IsPage t.address t.body page
+    → IfOk result (λ text. IsHarvestTaken old t original page text new) → IfOk result (λ text. IsPageTaken old t text new)
+page_taken_if old new t original page (Err e) named read taken = tt
+page_taken_if old new t original page (Ok text) named read taken = (
+  taken.0,
+  λ w stands. let reached = taken.1 w stands in record {
+    next = reached.next;
+    written = rw named (inr (page, read, reached.written));
+    kept = reached.kept;
+  },
+)
+
+-- so a command that takes a page is performed
+pub taking_performed_if : {E : Type 0} (old new : Kept) (t : Taking) (result : Result (List ℕ) E) → IfOk result (λ text. IsPageTaken old t text new) → IfOk result (λ text. IsPerformed old (script.Take t) text new)
+taking_performed_if old new t (Err e) taken = tt
+taking_performed_if old new t (Ok text) taken = taken
+
+-- and one that is an event
+pub step_performed_if : {E : Type 0} (old new : Kept) (accepted : List ℕ) (event : Event) (result : Result (List ℕ) E) → accepted ≡ accepted_line event
+    → IfOk result (λ text. IsHappening old accepted event text new) → IfOk result (λ text. IsPerformed old (script.Step event) text new)
+step_performed_if old new accepted event (Err e) is happening = tt
+step_performed_if old new accepted event (Ok text) is happening = subst (λ (a : List ℕ). IsHappening old a event text new) is happening

@@ -4,7 +4,7 @@ pub mod Questions
 mod ReadBack
 mod Lines
 mod Written
-mod Once
+pub mod Once
 mod Pages
 mod Progress
 mod Happenings

@@ -1,5 +1,5 @@
 -- No script is without an output.
-use Rattle.std.proofs.Common.{◌≡◌, ℕ, ◌<◌, ◌≤◌, ◌⊎◌, List, [], ◌∷◌, ◌++◌, length, Option, Some, None, inl, inr, refl}
+use Rattle.std.proofs.Common.{ℕ, ◌≤◌, ◌⊎◌, List, [], ◌∷◌, ◌++◌, length, Option, Some, None, inl, inr, refl}
 use Rattle.std.specs.Prelude.{MatchOption, codes}
 use Rattle.std.proofs.Math.Nat.{lt_of_not-le}
 use Rattle.memento_time.specs.Text.{IsArchiveName}

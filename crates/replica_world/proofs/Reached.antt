@@ -4,14 +4,15 @@ use Rattle.std.specs.Prelude.{◌++◌, MatchOption, codes, zip}
 use Rattle.timemap_reader.specs.declared.page.Page.{Page}
 use Rattle.timegate.specs.declared.reply.Reply.{Reply}
 use Rattle.timegate.specs.declared.request.Request.{Request}
-use Rattle.timegate.specs.Route.{original_at}
+use Rattle.timegate.specs.Route.{IsOfTaken, original_at}
+use Rattle.harvest_lattice.specs.Knowledge.{lat}
 use Rattle.timegate.specs.Reply.{reply}
-use Rattle.timegate.proofs.Replies.{same_reply}
+use Rattle.timegate.proofs.Replies.{same_reply, reply_from_state}
 use Rattle.replica_events.specs.declared.event.Event.{Event}
 use Rattle.replica_events.specs.declared.event.Event.TheVariants.{Take, Ask}
 use Rattle.replica_events.specs.declared.event.Said.TheVariants.{Replied}
 use Rattle.replica_events.specs.declared.event.Refused.TheVariants.{NoReplica}
-use Rattle.replica_events.specs.World.{Knowledge, World, Replica, Refuses, Accepts, HasReplica, Run, start, replica_reply, Course}
+use Rattle.replica_events.specs.World.{Knowledge, World, Replica, Refuses, Accepts, WithStamped, HasReplica, Run, start, replica_reply, Course}
 use Rattle.replica_events.specs.History.{History, LearntAlike}
 use Rattle.replica_events.specs.Agreement.{SameHarvests, HasTaken}
 use Rattle.replica_world.specs.Script as script
@@ -19,6 +20,7 @@ use Rattle.replica_world.specs.Script.{Command, Taking}
 use Rattle.replica_world.specs.Output.{Happens, RefusedAs, IsPage, TakesHarvest, TakesPage, Performs, Says, answer_text, reply_text, taken_line, harvest_of}
 use Rattle.replica_world.specs.Reached.{IsHarvestTaking, IsPageRefusal, WritesAnswer, ComesTo, IsRunOf, AnswersTwice}
 use Rattle.replica_events.proofs.Explained.{same_harvests}
+use Rattle.replica_world.proofs.Questions.{effect_unchanged}
 use Rattle.replica_world.proofs.Once.{OnePage, one_page_is, says_split}
 use Rattle.replica_events.proofs.Replies.{same_state}
 
@@ -100,24 +102,30 @@ commands_run one base w (command ∷ commands) text end (first, next, later, per
 
 -- ---- questions
 
--- a question to a replica that has taken this writes the reply of what it has taken, and leaves the world as it is
-pub question_writes : (base : List ℕ) (w : World) (i : ℕ) (known : Knowledge) (q : Request) (text : List ℕ) (next : World) → HasTaken w i known → Performs base w (script.Step (Ask i q)) text next
-    → (text ≡ reply_text (reply base known q)) × (next ≡ w)
-question_writes base w i known q text next (r, there, known_is) (answer, effect, is) =
-    let accepts : Accepts (Replied (replica_reply base r q)) w answer next =
-    subst (λ (o : Option Replica). MatchOption o (Refuses NoReplica w answer next) (λ r. Accepts (Replied (replica_reply base r q)) w answer next)) there effect in
-    (is ∙ ap (answer_text []) accepts.0 ∙ ap (λ (known : Knowledge). reply_text (reply base known q)) known_is, accepts.1)
+-- a question leaves the world as it is
+pub question_unchanged : (base : List ℕ) (w : World) (i : ℕ) (q : Request) (text : List ℕ) (next : World) → Performs base w (script.Step (Ask i q)) text next → next ≡ w
+question_unchanged base w i q text next (answer, effect, is) = effect_unchanged base w i q answer next effect
+
+-- a question to a replica that has taken this writes the reply of what it has taken
+pub question_writes : (base : List ℕ) (w : World) (i : ℕ) (known : Knowledge) (q : Request) (text : List ℕ) (next : World) → HasTaken w i known → IsOfTaken q → Performs base w (script.Step (Ask i q)) text next
+    → text ≡ reply_text (reply base known q)
+question_writes base w i known q text next (r, there, known_is) compared (answer, effect, is) =
+    let replies : WithStamped r (λ s. Accepts (Replied (replica_reply base r s q)) w) answer next =
+    subst (λ (o : Option Replica). MatchOption o (Refuses NoReplica w answer next) (λ r. WithStamped r (λ s. Accepts (Replied (replica_reply base r s q)) w) answer next)) there effect in
+    let own : replica_reply base r replies.0 q ≡ reply base r.taken q = reply_from_state base r.taken (record replies.0 { entries = lat r.taken }) q refl compared in
+    is ∙ (ap (answer_text []) replies.3.0 ∙ (ap reply_text own ∙ ap (λ (known : Knowledge). reply_text (reply base known q)) known_is))
 
 -- so two that have taken the same harvests write the same
 pub questions_agree : (base : List ℕ) (w : World) (i j : ℕ) (known other : Knowledge) → HasTaken w i known → HasTaken w j other → SameHarvests known other
-    → (q : Request) (text again : List ℕ) (next after : World) → Performs base w (script.Step (Ask i q)) text next → Performs base w (script.Step (Ask j q)) again after → text ≡ again
-questions_agree base w i j known other i_is j_is same q text again next after first second =
-    (question_writes base w i known q text next i_is first).0 ∙ ap reply_text (same_reply base known other q (same_state known other same)) ∙ sym (question_writes base w j other q again after j_is second).0
+    → (q : Request) (text again : List ℕ) (next after : World) → IsOfTaken q → Performs base w (script.Step (Ask i q)) text next → Performs base w (script.Step (Ask j q)) again after → text ≡ again
+questions_agree base w i j known other i_is j_is same q text again next after compared first second =
+    question_writes base w i known q text next i_is compared first
+    ∙ (ap reply_text (same_reply base known other q (same_state known other same)) ∙ sym (question_writes base w j other q again after j_is compared second))
 
 -- two questions to replicas that have learnt alike write one reply twice
 pub answers_twice : OnePage → (base : List ℕ) (count : ℕ) (commands : List Command) (i j : ℕ) (q : Request) (output : List ℕ) (end : World)
-    → Says base (start count) (commands ++ script.Step (Ask i q) ∷ script.Step (Ask j q) ∷ []) output end → AnswersTwice base count commands i j output
-answers_twice one base count commands i j q output end says =
+    → IsOfTaken q → Says base (start count) (commands ++ script.Step (Ask i q) ∷ script.Step (Ask j q) ∷ []) output end → AnswersTwice base count commands i j output
+answers_twice one base count commands i j q output end compared says =
     let parts = says_split base (start count) commands (script.Step (Ask i q) ∷ script.Step (Ask j q) ∷ []) output end says in
     let run : IsRunOf base (start count) commands parts.0 parts.1 = commands_run one base (start count) commands parts.0 parts.1 parts.3 in
     record {
@@ -132,11 +140,11 @@ answers_twice one base count commands i j q output end says =
           let course : Course base = record { count = count; events = run.events; answers = run.answers; world = mid; run = run.run } in
           let known : Knowledge = one_there.taken in
           let other : Knowledge = other_there.taken in
-          let one_writes = question_writes base mid i known q first next (one_there, i_is, refl) asked in
-          let again_there : Performs base mid (script.Step (Ask j q)) second last = subst (λ (w : World). Performs base w (script.Step (Ask j q)) second last) one_writes.1 again in
-          let other_writes = question_writes base mid j other q second last (other_there, j_is, refl) again_there in
+          let one_writes = question_writes base mid i known q first next (one_there, i_is, refl) compared asked in
+          let again_there : Performs base mid (script.Step (Ask j q)) second last = subst (λ (w : World). Performs base w (script.Step (Ask j q)) second last) (question_unchanged base mid i q first next asked) again in
+          let other_writes = question_writes base mid j other q second last (other_there, j_is, refl) compared again_there in
           let same : reply base known q ≡ reply base other q =
           same_reply base known other q (same_state known other (same_harvests course i j known other (one_there, i_is, refl) (other_there, j_is, refl) alike)) in
           let later_text : later ≡ reply_text (reply base known q) =
-          later_is ∙ ap (λ (t : List ℕ). second ++ t) nothing.0 ∙ append-nil second ∙ other_writes.0 ∙ ap reply_text (sym same) in
-          (reply base known q, whole ∙ ap (λ (t : List ℕ). said ++ t) (more_is ∙ (λ k. one_writes.0 k ++ later_text k)))
+          later_is ∙ ap (λ (t : List ℕ). second ++ t) nothing.0 ∙ append-nil second ∙ other_writes ∙ ap reply_text (sym same) in
+          (reply base known q, whole ∙ ap (λ (t : List ℕ). said ++ t) (more_is ∙ (λ k. one_writes k ++ later_text k)))

@@ -61,6 +61,7 @@ said_shorter (form.Gate replica original) rest = omega arith
 said_shorter (form.GateAt replica original asked) rest = omega arith
 said_shorter (form.Ask f) rest = if_bound (lines_of f.count rest) _ _ (λ asked is. if_some _ _ asked (lines_shorter f.count rest) is)
 said_shorter (form.Send replica) rest = omega arith
+said_shorter (form.SendFrom replica merges) rest = omega arith
 said_shorter (form.Deliver replica message) rest = omega arith
 said_shorter (form.Receive replica len) rest = if_bound (block_of len rest) _ _ (λ body is. block_shorter len rest body is)
 said_shorter (form.Restart replica) rest = omega arith

@@ -1,41 +1,81 @@
 -- The steps of the worlds that what is kept stands for.
-use Rattle.std.proofs.Common.{◌≡◌, ℕ, zero, suc, ◌+◌, ◌<◌, ◌≤◌, List, [], ◌∷◌, ◌++◌, length, get_or, map, Some, None, Ok, Err, refl, sym, ap, subst, ◌∙◌, arith, inl, inr}
-use Rattle.std.specs.Prelude.{slice_set, ◌⊎◌, replicate}
-use Rattle.std.proofs.lemmas.List.{map-set, map_push, length_push, length-map}
-use Rattle.std.proofs.lemmas.List.Elements.{All-push, All-get_or}
+use Rattle.std.proofs.Common.{◌≡◌, ℕ, zero, suc, ◌+◌, ◌<◌, ◌≤◌, true, false, List, [], ◌∷◌, ◌++◌, length, get_or, map, Option, Some, None, Ok, Err, refl, sym, ap, subst, ◌∙◌, arith, inl, inr}
+use Rattle.std.specs.Prelude.{slice_set, slice_get, ◌⊎◌, All}
+use Rattle.std.specs.List.{AllZip}
 use Rattle.std.specs.FinMap as fmap
-use Rattle.harvest_lattice.specs.Lattice.{Entries, join}
+use Rattle.std.proofs.lemmas.List.{map_push, length_push, length-map, get_or_default}
+use Rattle.std.proofs.lemmas.List.Elements.{All-push, All-get_or}
+use Rattle.memento_index.specs.declared.merge.Merge.{Merge}
+use Rattle.memento_index.specs.declared.merge.Merge.TheVariants as merge
+use Rattle.harvest_lattice.specs.Lattice.{Entries}
 use Rattle.harvest_lattice.specs.Knowledge.{Harvested, lat, adds}
-use Rattle.harvest_lattice.proofs.Knowledge.{lat-append, lat-adds}
 use Rattle.replica_exchange.specs.declared.fault.StateFault.{StateFault}
 use Rattle.replica_exchange.specs.declared.fault.StateFault.TheVariants.{TooLong, NotState}
 use Rattle.replica_exchange.specs.declared.fault.StateFault.TheVariants as fault
-use Rattle.replica_exchange.specs.Faults.{IsCause, longest_text}
-use Rattle.replica_exchange.specs.StateText.{IsState, state_text}
-use Rattle.replica_exchange.proofs.StateLemmas.{one_text}
+use Rattle.replica_exchange.specs.declared.stamped.StampFault.{StampFault}
+use Rattle.replica_exchange.specs.declared.stamped.StampFault.TheVariants as stamp_fault
+use Rattle.replica_exchange.specs.declared.cursor.Cursor.{Cursor}
+use Rattle.replica_exchange.specs.declared.delta.Delta.{Delta}
+use Rattle.replica_exchange.specs.Faults.{IsCause, IsDeltaCause, longest_text}
+use Rattle.replica_exchange.specs.Stamps.{StampedState, IsStamped}
+use Rattle.replica_exchange.specs.DeltaText.{delta_text, IsDelta}
+use Rattle.replica_exchange.specs.CursorRule.{Held, delta_from, fits, taken_from}
+use Rattle.replica_exchange.proofs.StampLemmas.{absorbed_is_stamped}
+use Rattle.replica_exchange.proofs.DeltaLemmas.{one_delta}
 use Rattle.timegate.specs.declared.request.Request.{Request}
 use Rattle.timegate.specs.declared.reply.Reply.{Reply}
-use Rattle.timegate.specs.Reply.{reply, reply_of}
-use Rattle.timegate.proofs.Replies.{reply_from_state}
+use Rattle.timegate.specs.Reply.{reply_of}
 use Rattle.replica_events.specs.declared.event.Event.{Event}
-use Rattle.replica_events.specs.declared.event.Event.TheVariants.{Take, Send, Deliver, Receive, Restart, Ask}
+use Rattle.replica_events.specs.declared.event.Event.TheVariants.{Take, Send, SendFrom, Deliver, Receive, Restart, Ask}
 use Rattle.replica_events.specs.declared.event.Said.TheVariants.{Taken, Sent, Joined, Restarted, Replied}
-use Rattle.replica_events.specs.declared.event.Refused.TheVariants.{NoReplica, NoMessage, BadState, NoMemory}
-use Rattle.replica_events.specs.Faults.{refusal}
+use Rattle.replica_events.specs.declared.event.Refused.{Refused}
+use Rattle.replica_events.specs.declared.event.Refused.TheVariants.{NoReplica, NoMessage, BadState, NoMemory, Gap, NumbersSpent}
+use Rattle.replica_events.specs.Faults.{refusal, stamp_refusal}
+use Rattle.replica_events.specs.World.{World, Replica, Message, Answer, Step, Effect, HasReplica, TakesMemory, IsText, last_number, replica, message, with_replica, with_message, taking, joining, sent_by, own_cursor, fresh, fresh_after, restarting, start}
+use Rattle.replica_events.proofs.Numbers.{messages_stay, last_stays}
+use Rattle.replica_events.proofs.Moments.{run_push, longer, merges_made}
 use Rattle.replica_world.specs.Places.{IsNoNumber}
-use Rattle.replica_events.specs.World.{Knowledge, World, Replica, Message, Answer, Step, Run, Effect, HasReplica, TakesMemory, IsText, replica, message, with_replica, with_message, taking, sent_by, fresh, start}
-use Rattle.replica_world.specs.Stands.{Kept, Stands, IsSent, Steps, Runs, state_of, kept_message}
 use Rattle.replica_world.specs.declared.message.SentMessage.{SentMessage}
-use Rattle.replica_world.proofs.Places.{At, at_place, no_number}
+use Rattle.replica_world.specs.declared.replica.KeptReplica.{KeptReplica}
+use Rattle.replica_world.specs.Keeping.{IsJoinCause}
+use Rattle.replica_world.specs.Stands.{Kept, Keeps, IsSent, IsReached, Stands, Steps, Runs, MergedAt, kept_at, kept_message, nothing_kept}
+use Rattle.replica_world.proofs.Places.{at_place, no_number}
 
-empty_is : (let e : Entries = fmap.empty in e) ≡ lat []
-unfolding lat
-empty_is = refl
+-- ---- two lists, pair by pair
+
+zip_at : {A B : Type 0} (R : A → B → Type 0) (xs : List A) (ys : List B) (place : ℕ) (d : A) → AllZip R xs ys → place < length xs → (y : B) × (slice_get ys place ≡ Some y) × R (get_or xs place d) y
+zip_at R [] ys place d all below = absurd (omega (arith, below))
+zip_at R (x ∷ xs) [] place d all below = absurd all
+zip_at R (x ∷ xs) (y ∷ ys) zero d all below = (y, refl, all.0)
+zip_at R (x ∷ xs) (y ∷ ys) (suc place) d all below = zip_at R xs ys place d all.1 (omega (arith, below))
+
+zip_set : {A B : Type 0} (R : A → B → Type 0) (xs : List A) (ys : List B) (place : ℕ) (x : A) (y : B) → AllZip R xs ys → R x y → AllZip R (slice_set xs place x) (slice_set ys place y)
+zip_set R [] [] place x y all is = all
+zip_set R [] (b ∷ ys) place x y all is = absurd all
+zip_set R (a ∷ xs) [] place x y all is = absurd all
+zip_set R (a ∷ xs) (b ∷ ys) zero x y all is = (is, all.1)
+zip_set R (a ∷ xs) (b ∷ ys) (suc place) x y all is = (all.0, zip_set R xs ys place x y all.1 is)
+
+zip_push : {A B : Type 0} (R : A → B → Type 0) (xs : List A) (ys : List B) (x : A) (y : B) → AllZip R xs ys → R x y → AllZip R (xs ++ x ∷ []) (ys ++ y ∷ [])
+zip_push R [] [] x y all is = (is, all)
+zip_push R [] (b ∷ ys) x y all is = absurd all
+zip_push R (a ∷ xs) [] x y all is = absurd all
+zip_push R (a ∷ xs) (b ∷ ys) x y all is = (all.0, zip_push R xs ys x y all.1 is)
+
+zip_none : {A B : Type 0} (R : A → B → Type 0) (xs : List A) (ys : List B) (place : ℕ) → AllZip R xs ys → length xs ≤ place → slice_get ys place ≡ None
+zip_none R [] [] place all past = refl
+zip_none R [] (y ∷ ys) place all past = absurd all
+zip_none R (x ∷ xs) [] place all past = refl
+zip_none R (x ∷ xs) (y ∷ ys) zero all past = absurd (omega (arith, past))
+zip_none R (x ∷ xs) (y ∷ ys) (suc place) all past = zip_none R xs ys place all.1 (omega (arith, past))
+
+-- ---- refusals
 
 -- the number of an event's replica
 abbrev number_of : Event → ℕ
 number_of (Take i h) = i
 number_of (Send i) = i
+number_of (SendFrom i n) = i
 number_of (Deliver i k) = i
 number_of (Receive i bytes) = i
 number_of (Restart i) = i
@@ -44,6 +84,7 @@ number_of (Ask i q) = i
 refused_without : (base : List ℕ) (w : World) (event : Event) → replica w (number_of event) ≡ None → Effect base w event (Err NoReplica) w
 refused_without base w (Take i h) is = rw is (refl, refl)
 refused_without base w (Send i) is = rw is (refl, refl)
+refused_without base w (SendFrom i n) is = rw is (refl, refl)
 refused_without base w (Deliver i k) is = rw is (refl, refl)
 refused_without base w (Receive i bytes) is = rw is (refl, refl)
 refused_without base w (Restart i) is = rw is (refl, refl)
@@ -53,221 +94,398 @@ refused_without base w (Ask i q) is = rw is (refl, refl)
 stays : (kept : Kept) (event : Event) (answer : Answer) → ((w : World) → Stands kept w → Step kept.base w event answer w) → Steps kept event answer kept
 stays kept event answer step = record { base = refl; leads = λ w stands. record { next = w; step = step w stands; stands = stands } }
 
-pub no_replica : (kept : Kept) (count : ℕ) (event : Event) → count ≡ length kept.states → IsNoNumber (number_of event) count → Steps kept event (Err NoReplica) kept
-no_replica kept count event count_is none =
-    stays kept event (Err NoReplica) (λ w stands. inl (refused_without kept.base w event (no_number state_of w.replicas kept.states (number_of event) count stands.states count_is none)))
+absent : (kept : Kept) (w : World) (number count : ℕ) → Stands kept w → count ≡ length kept.replicas → IsNoNumber number count → replica w number ≡ None
+absent kept w zero count stands count_is none = refl
+absent kept w (suc place) count stands count_is none = zip_none Keeps kept.replicas w.replicas place stands.replicas (omega (arith, count_is, none))
 
--- the replica of a number, whose state is kept at its place
-replica_at : (kept : Kept) (w : World) (number place : ℕ) (d : Entries) → Stands kept w → number ≡ place + 1 → place < length kept.states → At state_of w.replicas number (get_or w.replicas place fresh) (get_or kept.states place d)
-replica_at kept w number place d stands is below = at_place state_of w.replicas kept.states number place fresh d stands.states is below
+pub no_replica : (kept : Kept) (count : ℕ) (event : Event) → count ≡ length kept.replicas → IsNoNumber (number_of event) count → Steps kept event (Err NoReplica) kept
+no_replica kept count event count_is none = stays kept event (Err NoReplica) (λ w stands. inl (refused_without kept.base w event (absent kept w (number_of event) count stands count_is none)))
 
-ran_out : (kept : Kept) (number place : ℕ) (event : Event) → number ≡ place + 1 → place < length kept.states → ((w : World) → Stands kept w → HasReplica w number → TakesMemory w event)
+-- the replica of a number, of which this is kept at its place
+record Found (kept : Kept) (w : World) (number place : ℕ) : Type 0 where
+  pub found : Replica
+  pub there : replica w number ≡ Some found
+  pub keeps : Keeps (kept_at kept place) found
+
+replica_at : (kept : Kept) (w : World) (number place : ℕ) → Stands kept w → number ≡ place + 1 → place < length kept.replicas → Found kept w number place
+replica_at kept w number place stands is below =
+    let x = zip_at Keeps kept.replicas w.replicas place nothing_kept stands.replicas below in
+    let same : suc place ≡ number = omega (arith, is) in
+    record { found = x.0; there = subst (λ (n : ℕ). replica w n ≡ Some x.0) same x.1; keeps = x.2 }
+
+ran_out : (kept : Kept) (number place : ℕ) (event : Event) → number ≡ place + 1 → place < length kept.replicas → ((w : World) → Stands kept w → HasReplica w number → TakesMemory w event)
     → Steps kept event (Err NoMemory) kept
 ran_out kept number place event number_is below takes =
     stays kept event (Err NoMemory)
-    (λ w stands. inr (refl, refl, takes w stands (get_or w.replicas place fresh, (replica_at kept w number place fmap.empty stands number_is below).there)))
+    (λ w stands. let x = replica_at kept w number place stands number_is below in inr (refl, refl, takes w stands (x.found, x.there)))
 
--- a refusal of memory, after which all is as it was
-pub out_as : (old new : Kept) (event : Event) (answer : Answer) → Steps old event (Err NoMemory) old → new ≡ old → answer ≡ Err NoMemory → Steps old event answer new
-out_as old new event answer steps new_is answer_is = subst (λ (k : Kept). Steps old event answer k) (sym new_is) (subst (λ (a : Answer). Steps old event a old) (sym answer_is) steps)
+-- a refusal after which all is as it was
+pub refused_as : (old new : Kept) (event : Event) (why : Refused) (answer : Answer) → Steps old event (Err why) old → new ≡ old → answer ≡ Err why → Steps old event answer new
+refused_as old new event why answer steps new_is answer_is = subst (λ (k : Kept). Steps old event answer k) (sym new_is) (subst (λ (a : Answer). Steps old event a old) (sym answer_is) steps)
 
-pub take_ran_out : (kept : Kept) (number place : ℕ) (h : Harvested) → number ≡ place + 1 → place < length kept.states → Steps kept (Take number h) (Err NoMemory) kept
+pub take_ran_out : (kept : Kept) (number place : ℕ) (h : Harvested) → number ≡ place + 1 → place < length kept.replicas → Steps kept (Take number h) (Err NoMemory) kept
 take_ran_out kept number place h number_is below = ran_out kept number place (Take number h) number_is below (λ w stands there. there)
 
-pub send_ran_out : (kept : Kept) (number place : ℕ) → number ≡ place + 1 → place < length kept.states → Steps kept (Send number) (Err NoMemory) kept
+pub send_ran_out : (kept : Kept) (number place : ℕ) → number ≡ place + 1 → place < length kept.replicas → Steps kept (Send number) (Err NoMemory) kept
 send_ran_out kept number place number_is below = ran_out kept number place (Send number) number_is below (λ w stands there. there)
 
-pub ask_ran_out : (kept : Kept) (number place : ℕ) (q : Request) → number ≡ place + 1 → place < length kept.states → Steps kept (Ask number q) (Err NoMemory) kept
+pub send_from_ran_out : (kept : Kept) (number place n : ℕ) → number ≡ place + 1 → place < length kept.replicas → Steps kept (SendFrom number n) (Err NoMemory) kept
+send_from_ran_out kept number place n number_is below = ran_out kept number place (SendFrom number n) number_is below (λ w stands there. there)
+
+pub ask_ran_out : (kept : Kept) (number place : ℕ) (q : Request) → number ≡ place + 1 → place < length kept.replicas → Steps kept (Ask number q) (Err NoMemory) kept
 ask_ran_out kept number place q number_is below = ran_out kept number place (Ask number q) number_is below (λ w stands there. there)
 
-pub receive_ran_out : (kept : Kept) (number place : ℕ) (bytes : List ℕ) → number ≡ place + 1 → place < length kept.states → length bytes ≤ longest_text
+pub receive_ran_out : (kept : Kept) (number place : ℕ) (bytes : List ℕ) → number ≡ place + 1 → place < length kept.replicas → length bytes ≤ longest_text
     → Steps kept (Receive number bytes) (Err NoMemory) kept
 receive_ran_out kept number place bytes number_is below within = ran_out kept number place (Receive number bytes) number_is below (λ w stands there. (there, within))
 
--- the state at the place is that of the new replica, and nothing else changes
-stands_with : (old new : Kept) (w : World) (number place : ℕ) (r : Replica) (state : Entries) → Stands old w → number ≡ place + 1 → state ≡ state_of r
-    → new.states ≡ slice_set old.states place state → new.messages ≡ old.messages → Stands new (with_replica w number r)
-stands_with old new w number place r state stands number_is state_is states messages =
-    let is : number ≡ suc place = omega arith in
-    let here : Stands new (with_replica w (suc place) r) = record {
-      states = states ∙ (λ i. slice_set (stands.states i) place (state_is i)) ∙ sym (map-set state_of w.replicas place r);
-      messages = messages ∙ stands.messages;
-      sent = stands.sent;
-    } in
-    subst (λ (n : ℕ). Stands new (with_replica w n r)) (sym is) here
+-- ---- one replica merges
 
-joined_state : (known more : Knowledge) (state other : Entries) → state ≡ lat known → other ≡ lat more → join state other ≡ lat (known ++ more)
-joined_state known more state other state_is other_is = (λ i. join (state_is i) (other_is i)) ∙ sym (lat-append known more)
+placed : (kept : Kept) (w : World) (number place : ℕ) (k : KeptReplica) (r : Replica) → Stands kept w → number ≡ place + 1 → Keeps k r → AllZip Keeps (slice_set kept.replicas place k) (with_replica w number r).replicas
+placed kept w number place k r stands is keeps =
+    let same : suc place ≡ number = omega (arith, is) in
+    subst (λ (n : ℕ). AllZip Keeps (slice_set kept.replicas place k) (with_replica w n r).replicas) same (zip_set Keeps kept.replicas w.replicas place k r stands.replicas keeps)
 
--- the state at the place has joined that of more harvests, and nothing else has changed
-pub record Absorbed (old new : Kept) (place : ℕ) (more : Knowledge) : Type 0 where
-  pub base : new.base ≡ old.base
-  pub messages : new.messages ≡ old.messages
-  pub states : new.states ≡ slice_set old.states place (join (get_or old.states place fmap.empty) (lat more))
+reached_next : (base : List ℕ) (w : World) (event : Event) (answer : Answer) (next : World) → IsReached base w → Step base w event answer next → IsReached base next
+reached_next base w event answer next reached step =
+    let here : Step base reached.course.world event answer next = subst (λ (w : World). Step base w event answer next) (sym reached.world) step in
+    record { course = longer reached.course event answer next here; world = refl }
 
--- where a replica's state has joined that of more harvests, each world is followed by one in which the replica has taken harvests of that state
-world_follows : (old new : Kept) (number place : ℕ) (event : Event) (answer : Answer) (more : Knowledge) → number ≡ place + 1 → place < length old.states → Absorbed old new place more
-    → ((w : World) (r : Replica) → Stands old w → replica w number ≡ Some r → (added : Knowledge) × (lat more ≡ lat added) × Step old.base w event answer (with_replica w number (taking r added)))
+-- the replica once it has taken the merge, in a world where the event leads to it
+abbrev Takes : Kept → ℕ → Event → Answer → Merge → Held → World → Replica → Type 0
+Takes old number event answer m held w r =
+    (next : Replica) × (next.merges ≡ r.merges ++ m ∷ []) × (next.incarnation ≡ r.incarnation) × (held ≡ next.cursors) × Step old.base w event answer (with_replica w number next)
+
+-- and it is stood for
+merged_step : (old new : Kept) (number place : ℕ) (event : Event) (answer : Answer) (m : Merge) (held : Held) → number ≡ place + 1 → place < length old.replicas
+    → MergedAt old place m held new
+    → ((w : World) (r : Replica) → Stands old w → replica w number ≡ Some r → Keeps (kept_at old place) r → ¬ (length r.merges ≡ last_number) → Takes old number event answer m held w r)
     → Steps old event answer new
-world_follows old new number place event answer more number_is below a happens = record {
+merged_step old new number place event answer m held number_is below a takes = record {
   base = a.base;
   leads = λ w stands.
-      let x = replica_at old w number place fmap.empty stands number_is below in
-      let r : Replica = get_or w.replicas place fresh in
-      let step = happens w r stands x.there in
+      let x = replica_at old w number place stands number_is below in
+      let r : Replica = x.found in
+      let p = takes w r stands x.there x.keeps (λ last. a.merged.left (x.keeps.stamped.number ∙ last)) in
+      let next : Replica = p.0 in
+      let keeps : Keeps (kept_at new place) next = record {
+        stamped = subst (λ (ms : List Merge). IsStamped ms (kept_at new place).stamped) (sym p.1) (absorbed_is_stamped r.merges m (kept_at old place).stamped (kept_at new place).stamped x.keeps.stamped a.merged.absorbed);
+        incarnation = a.merged.absorbed.incarnation ∙ (x.keeps.incarnation ∙ sym p.2);
+        cursors = a.merged.cursors ∙ p.3;
+      } in
       record {
-        next = with_replica w number (taking r step.0);
-        step = step.2;
-        stands = stands_with old new w number place (taking r step.0) _ stands number_is (joined_state r.taken step.0 _ _ x.kept_is step.1) a.states a.messages;
+        next = with_replica w number next;
+        step = p.4;
+        stands = record {
+          reached = subst (λ (b : List ℕ). IsReached b (with_replica w number next)) (sym a.base) (reached_next old.base w event answer (with_replica w number next) stands.reached p.4);
+          replicas = subst (λ (ks : List KeptReplica). AllZip Keeps ks (with_replica w number next).replicas) (sym a.replicas) (placed old w number place (kept_at new place) next stands number_is keeps);
+          messages = a.messages ∙ (stands.messages ∙ ap (map kept_message) (sym (messages_stay w number next)));
+          last = a.last ∙ (stands.last ∙ sym (last_stays w number next));
+          sent = subst (All IsSent) (sym (messages_stay w number next)) stands.sent;
+        };
       };
 }
 
-pub took : (old new : Kept) (number place : ℕ) (h copy : Harvested) → copy ≡ h → number ≡ place + 1 → place < length old.states → Absorbed old new place (copy ∷ []) → Steps old (Take number h) (Ok Taken) new
+pub took : (old new : Kept) (number place : ℕ) (h copy : Harvested) → copy ≡ h → number ≡ place + 1 → place < length old.replicas
+    → MergedAt old place (merge.Harvest copy) (kept_at old place).cursors new → Steps old (Take number h) (Ok Taken) new
 took old new number place h copy copy_is number_is below a =
-    world_follows old new number place (Take number h) (Ok Taken) (copy ∷ []) number_is below a (λ w r stands there. (h ∷ [], ap (λ (h : Harvested). lat (h ∷ [])) copy_is, inl (rw there (refl, refl))))
+    merged_step old new number place (Take number h) (Ok Taken) (merge.Harvest copy) (kept_at old place).cursors number_is below a
+    (λ w r stands there keeps few.
+    (taking r (h ∷ []) (merge.Harvest h), ap (λ (g : Harvested). r.merges ++ merge.Harvest g ∷ []) (sym copy_is), refl, keeps.cursors, inl (rw there (inl (few, (refl, refl))))))
 
-pub restarted : (old new : Kept) (number place : ℕ) → number ≡ place + 1 → place < length old.states
-    → new.base ≡ old.base → new.messages ≡ old.messages → new.states ≡ slice_set old.states place fmap.empty → Steps old (Restart number) (Ok Restarted) new
-restarted old new number place number_is below base messages states = record {
-  base = base;
-  leads = λ w stands.
-      let x = replica_at old w number place fmap.empty stands number_is below in
-      record {
-        next = with_replica w number fresh;
-        step = inl (rw x.there (refl, refl));
-        stands = stands_with old new w number place fresh _ stands number_is empty_is states messages;
-      };
-}
-
-pub received : (old new : Kept) (number place : ℕ) (bytes : List ℕ) (s : Entries) → number ≡ place + 1 → place < length old.states
-    → IsText bytes s → Absorbed old new place (adds s) → Steps old (Receive number bytes) (Ok Joined) new
+pub received : (old new : Kept) (number place : ℕ) (bytes : List ℕ) (s : Entries) → number ≡ place + 1 → place < length old.replicas → IsText bytes s
+    → MergedAt old place (merge.State s) (kept_at old place).cursors new → Steps old (Receive number bytes) (Ok Joined) new
 received old new number place bytes s number_is below text a =
-    world_follows old new number place (Receive number bytes) (Ok Joined) (adds s) number_is below a (λ w r stands there. (adds s, refl, inl (rw there (inl (s, text, (refl, refl))))))
+    merged_step old new number place (Receive number bytes) (Ok Joined) (merge.State s) (kept_at old place).cursors number_is below a
+    (λ w r stands there keeps few. (taking r (adds s) (merge.State s), refl, refl, keeps.cursors, inl (rw there (inl (s, text, inl (few, (refl, refl)))))))
+
+-- where the replica's number is the last one, nothing is merged
+spent_take : (kept : Kept) (number place : ℕ) (h : Harvested) → number ≡ place + 1 → place < length kept.replicas → (kept_at kept place).stamped.number ≡ last_number
+    → Steps kept (Take number h) (Err NumbersSpent) kept
+spent_take kept number place h number_is below spent =
+    stays kept (Take number h) (Err NumbersSpent)
+    (λ w stands.
+    let x = replica_at kept w number place stands number_is below in
+    inl (rw x.there (inr (sym x.keeps.stamped.number ∙ spent, (refl, refl)))))
+
+spent_receive : (kept : Kept) (number place : ℕ) (bytes : List ℕ) (s : Entries) → number ≡ place + 1 → place < length kept.replicas → IsText bytes s
+    → (kept_at kept place).stamped.number ≡ last_number → Steps kept (Receive number bytes) (Err NumbersSpent) kept
+spent_receive kept number place bytes s number_is below text spent =
+    stays kept (Receive number bytes) (Err NumbersSpent)
+    (λ w stands.
+    let x = replica_at kept w number place stands number_is below in
+    inl (rw x.there (inl (s, text, inr (sym x.keeps.stamped.number ∙ spent, (refl, refl))))))
+
+-- a merge that isn't absorbed: numbers are spent, or memory was refused
+pub not_taken : (kept : Kept) (number place : ℕ) (h : Harvested) (why : StampFault) → number ≡ place + 1 → place < length kept.replicas
+    → (why ≡ stamp_fault.NumbersSpent → (kept_at kept place).stamped.number ≡ last_number) → Steps kept (Take number h) (Err (stamp_refusal why)) kept
+not_taken kept number place h stamp_fault.NumbersSpent number_is below spent = spent_take kept number place h number_is below (spent refl)
+not_taken kept number place h stamp_fault.NoMemory number_is below spent = take_ran_out kept number place h number_is below
+
+pub not_absorbed : (kept : Kept) (number place : ℕ) (bytes : List ℕ) (s : Entries) (why : StampFault) → number ≡ place + 1 → place < length kept.replicas → IsText bytes s
+    → (why ≡ stamp_fault.NumbersSpent → (kept_at kept place).stamped.number ≡ last_number) → Steps kept (Receive number bytes) (Err (stamp_refusal why)) kept
+not_absorbed kept number place bytes s stamp_fault.NumbersSpent number_is below text spent = spent_receive kept number place bytes s number_is below text (spent refl)
+not_absorbed kept number place bytes s stamp_fault.NoMemory number_is below text spent = receive_ran_out kept number place bytes number_is below text.within
 
 -- bytes that are refused are no state's text within the limit
 no_text : (bytes : List ℕ) (s : Entries) → IsCause TooLong bytes ⊎ IsCause NotState bytes → IsText bytes s → ⊥
 no_text bytes s (inl long) text = let within = text.within in absurd (omega (arith, long, within))
 no_text bytes s (inr not) text = not.1 s text.state text.text
 
-pub not_received : (kept : Kept) (number place : ℕ) (bytes : List ℕ) (fault : StateFault) (answer : Answer) → number ≡ place + 1 → place < length kept.states
+pub not_received : (kept : Kept) (number place : ℕ) (bytes : List ℕ) (fault : StateFault) (answer : Answer) → number ≡ place + 1 → place < length kept.replicas
     → IsCause fault bytes → answer ≡ Err (refusal fault) → Steps kept (Receive number bytes) answer kept
 not_received kept number place bytes fault.NoMemory answer number_is below cause is =
     subst (λ (a : Answer). Steps kept (Receive number bytes) a kept) (sym is) (receive_ran_out kept number place bytes number_is below cause)
 not_received kept number place bytes TooLong answer number_is below cause is =
-    stays kept (Receive number bytes) answer (λ w stands. inl (rw (replica_at kept w number place fmap.empty stands number_is below).there (inr (λ s text. no_text bytes s (inl cause) text, (is, refl)))))
+    stays kept (Receive number bytes) answer (λ w stands. inl (rw (replica_at kept w number place stands number_is below).there (inr (λ s text. no_text bytes s (inl cause) text, (is, refl)))))
 not_received kept number place bytes NotState answer number_is below cause is =
-    stays kept (Receive number bytes) answer (λ w stands. inl (rw (replica_at kept w number place fmap.empty stands number_is below).there (inr (λ s text. no_text bytes s (inr cause) text, (is, refl)))))
+    stays kept (Receive number bytes) answer (λ w stands. inl (rw (replica_at kept w number place stands number_is below).there (inr (λ s text. no_text bytes s (inr cause) text, (is, refl)))))
+
+-- ---- messages
 
 -- a message that nobody sent
 blank : Message
-blank = record { sender = 0; taken = []; bytes = [] }
+blank = record { sender = 0; taken = []; delta = record { incarnation = 0; start = 0; end = 0; state = fmap.empty }; bytes = [] }
 
--- the message of a number, whose bytes are kept at its place, and are its sender's state
-pub record Found (kept : Kept) (w : World) (number : ℕ) (bytes : List ℕ) : Type 0 where
+-- the message of a number, of which this is kept at its place
+record FoundMessage (kept : Kept) (w : World) (number : ℕ) (k : SentMessage) : Type 0 where
   pub found : Message
   pub there : message w number ≡ Some found
-  pub bytes_is : bytes ≡ found.bytes
+  pub kept_is : k ≡ kept_message found
   pub sent : IsSent found
 
-message_at : (kept : Kept) (w : World) (number place : ℕ) (m : SentMessage) → Stands kept w → number ≡ place + 1 → place < length kept.messages → m ≡ get_or kept.messages place m → Found kept w number m.bytes
-message_at kept w number place m stands number_is below m_is =
-    let x = at_place kept_message w.messages kept.messages number place blank m stands.messages number_is below in
-    let within : place < length w.messages = omega (arith, length-map w.messages kept_message, ap length stands.messages) in
-    record {
-      found = get_or w.messages place blank;
-      there = x.there;
-      bytes_is = ap (λ (m : SentMessage). m.bytes) (m_is ∙ x.kept_is);
-      sent = All-get_or IsSent w.messages place blank within stands.sent;
-    }
+-- the replica and the message that an event names, and what is kept of them
+pub record IsDelivery (kept : Kept) (number place k slot : ℕ) (m : SentMessage) : Type 0 where
+  pub number_is : number ≡ place + 1
+  pub below : place < length kept.replicas
+  pub k_is : k ≡ slot + 1
+  pub slot_below : slot < length kept.messages
+  pub m_is : m ≡ get_or kept.messages slot m
 
-pub deliver_ran_out : (kept : Kept) (number place k slot : ℕ) (m : SentMessage) → number ≡ place + 1 → place < length kept.states → k ≡ slot + 1 → slot < length kept.messages
-    → m ≡ get_or kept.messages slot m → length m.bytes ≤ longest_text → Steps kept (Deliver number k) (Err NoMemory) kept
-deliver_ran_out kept number place k slot m number_is below k_is slot_below m_is within =
-    ran_out kept number place (Deliver number k) number_is below
+message_at : (kept : Kept) (w : World) (number place k slot : ℕ) (m : SentMessage) → Stands kept w → IsDelivery kept number place k slot m → FoundMessage kept w k m
+message_at kept w number place k slot m stands d =
+    let slot_below = d.slot_below in
+    let x = at_place kept_message w.messages kept.messages k slot blank m stands.messages d.k_is slot_below in
+    let within : slot < length w.messages = omega (arith, slot_below, length-map w.messages kept_message, ap length stands.messages) in
+    record { found = get_or w.messages slot blank; there = x.there; kept_is = d.m_is ∙ x.kept_is; sent = All-get_or IsSent w.messages slot blank within stands.sent }
+
+-- the delta that was read
+pub record IsReadFrom (m : SentMessage) (read : Delta) : Type 0 where
+  pub delta : IsDelta read
+  pub text : m.bytes ≡ delta_text read
+  pub within : length m.bytes ≤ longest_text
+
+-- is the one that was sent, by the replica whose number is kept
+record IsSame (m : SentMessage) (read : Delta) (found : Message) : Type 0 where
+  pub delta : read ≡ found.delta
+  pub sender : m.sender ≡ found.sender
+  pub within : length found.bytes ≤ longest_text
+
+same_message : (kept : Kept) (w : World) (k : ℕ) (m : SentMessage) (read : Delta) (f : FoundMessage kept w k m) → IsReadFrom m read → IsSame m read f.found
+same_message kept w k m read f is = record {
+  delta = one_delta read f.found.delta is.delta f.sent.delta (sym is.text ∙ (ap (λ (k : SentMessage). k.bytes) f.kept_is ∙ f.sent.text));
+  sender = ap (λ (k : SentMessage). k.sender) f.kept_is;
+  within = subst (λ (k : SentMessage). length k.bytes ≤ longest_text) f.kept_is is.within;
+}
+
+pub delivered : (old new : Kept) (number place k slot : ℕ) (m : SentMessage) (read : Delta) → IsDelivery old number place k slot m → IsReadFrom m read
+    → fits (fmap.get (kept_at old place).cursors m.sender) read ≡ true
+    → MergedAt old place (merge.State read.state) (taken_from (kept_at old place).cursors m.sender read) new → Steps old (Deliver number k) (Ok Joined) new
+delivered old new number place k slot m read d is fit a =
+    merged_step old new number place (Deliver number k) (Ok Joined) (merge.State read.state) (taken_from (kept_at old place).cursors m.sender read) d.number_is d.below a
+    (λ w r stands there keeps few.
+    let f = message_at old w number place k slot m stands d in
+    let same = same_message old w k m read f is in
+    let follows : fits (fmap.get r.cursors f.found.sender) f.found.delta ≡ true =
+    (λ i. fits (fmap.get (sym keeps.cursors i) (sym same.sender i)) (sym same.delta i)) ∙ fit in (
+      joining r f.found,
+      (λ i. r.merges ++ merge.State (sym same.delta i).state ∷ []),
+      refl,
+      (λ i. taken_from (keeps.cursors i) (same.sender i) (same.delta i)),
+      inl (rw there (rw f.there (inl (same.within, inl (follows, inl (few, (refl, refl))))))),
+    ))
+
+-- a delta that leaves a gap is refused with the cursor that is held
+gap_left : (kept : Kept) (number place k slot : ℕ) (m : SentMessage) (read : Delta) (held : Option Cursor) → IsDelivery kept number place k slot m → IsReadFrom m read
+    → held ≡ fmap.get (kept_at kept place).cursors m.sender → fits (fmap.get (kept_at kept place).cursors m.sender) read ≡ false
+    → Steps kept (Deliver number k) (Err (Gap held)) kept
+gap_left kept number place k slot m read held d is held_is gap =
+    stays kept (Deliver number k) (Err (Gap held))
+    (λ w stands.
+    let x = replica_at kept w number place stands d.number_is d.below in
+    let f = message_at kept w number place k slot m stands d in
+    let same = same_message kept w k m read f is in
+    let leaves : fits (fmap.get x.found.cursors f.found.sender) f.found.delta ≡ false =
+    (λ i. fits (fmap.get (sym x.keeps.cursors i) (sym same.sender i)) (sym same.delta i)) ∙ gap in
+    let now : held ≡ fmap.get x.found.cursors f.found.sender = held_is ∙ (λ i. fmap.get (x.keeps.cursors i) (same.sender i)) in
+    inl (rw x.there (rw f.there (inl (same.within, inr (leaves, (ap (λ (o : Option Cursor). Err (Gap o)) now, refl)))))))
+
+spent_delivery : (kept : Kept) (number place k slot : ℕ) (m : SentMessage) (read : Delta) → IsDelivery kept number place k slot m → IsReadFrom m read
+    → fits (fmap.get (kept_at kept place).cursors m.sender) read ≡ true → (kept_at kept place).stamped.number ≡ last_number
+    → Steps kept (Deliver number k) (Err NumbersSpent) kept
+spent_delivery kept number place k slot m read d is fit spent =
+    stays kept (Deliver number k) (Err NumbersSpent)
+    (λ w stands.
+    let x = replica_at kept w number place stands d.number_is d.below in
+    let f = message_at kept w number place k slot m stands d in
+    let same = same_message kept w k m read f is in
+    let follows : fits (fmap.get x.found.cursors f.found.sender) f.found.delta ≡ true =
+    (λ i. fits (fmap.get (sym x.keeps.cursors i) (sym same.sender i)) (sym same.delta i)) ∙ fit in
+    inl (rw x.there (rw f.there (inl (same.within, inl (follows, inr (sym x.keeps.stamped.number ∙ spent, (refl, refl))))))))
+
+deliver_ran_out : (kept : Kept) (number place k slot : ℕ) (m : SentMessage) → IsDelivery kept number place k slot m → length m.bytes ≤ longest_text → Steps kept (Deliver number k) (Err NoMemory) kept
+deliver_ran_out kept number place k slot m d within =
+    ran_out kept number place (Deliver number k) d.number_is d.below
     (λ w stands there.
-    let sent = message_at kept w k slot m stands k_is slot_below m_is in
-    (there, (sent.found, sent.there, subst (λ (b : List ℕ). length b ≤ longest_text) sent.bytes_is within)))
+    let f = message_at kept w number place k slot m stands d in
+    (there, (f.found, f.there, subst (λ (k : SentMessage). length k.bytes ≤ longest_text) f.kept_is within)))
 
-pub no_message : (kept : Kept) (number place k count : ℕ) → number ≡ place + 1 → place < length kept.states → count ≡ length kept.messages → IsNoNumber k count → Steps kept (Deliver number k) (Err NoMessage) kept
+-- a delta that was read isn't joined
+pub not_joined : (kept : Kept) (number place k slot : ℕ) (m : SentMessage) (read : Delta) (why : Refused) → IsDelivery kept number place k slot m → IsReadFrom m read
+    → IsJoinCause why (kept_at kept place) m.sender read → Steps kept (Deliver number k) (Err why) kept
+not_joined kept number place k slot m read (Gap held) d is cause = gap_left kept number place k slot m read held d is cause.0 cause.1
+not_joined kept number place k slot m read NumbersSpent d is cause = spent_delivery kept number place k slot m read d is cause.0 cause.1
+not_joined kept number place k slot m read NoMemory d is cause = deliver_ran_out kept number place k slot m d is.within
+not_joined kept number place k slot m read NoReplica d is cause = absurd cause
+not_joined kept number place k slot m read NoMessage d is cause = absurd cause
+not_joined kept number place k slot m read BadState d is cause = absurd cause
+
+pub no_message : (kept : Kept) (number place k count : ℕ) → number ≡ place + 1 → place < length kept.replicas → count ≡ length kept.messages → IsNoNumber k count → Steps kept (Deliver number k) (Err NoMessage) kept
 no_message kept number place k count number_is below count_is none =
     stays kept (Deliver number k) (Err NoMessage)
     (λ w stands.
-    let x = replica_at kept w number place fmap.empty stands number_is below in
-    let absent : message w k ≡ None = no_number kept_message w.messages kept.messages k count stands.messages count_is none in
-    inl (rw x.there (rw absent (refl, refl))))
+    let x = replica_at kept w number place stands number_is below in
+    let missing : message w k ≡ None = no_number kept_message w.messages kept.messages k count stands.messages count_is none in
+    inl (rw x.there (rw missing (refl, refl))))
 
-pub delivered : (old new : Kept) (number place k slot : ℕ) (m : SentMessage) (s : Entries) → number ≡ place + 1 → place < length old.states
-    → k ≡ slot + 1 → slot < length old.messages → m ≡ get_or old.messages slot m → IsText m.bytes s → Absorbed old new place (adds s) → Steps old (Deliver number k) (Ok Joined) new
-delivered old new number place k slot m s number_is below k_is slot_below m_is text a =
-    world_follows old new number place (Deliver number k) (Ok Joined) (adds s) number_is below a
-    (λ w r stands there.
-    let sent = message_at old w k slot m stands k_is slot_below m_is in
-    let same : s ≡ lat sent.found.taken = one_text s (lat sent.found.taken) text.state sent.sent.state (sym text.text ∙ sent.bytes_is ∙ sent.sent.text) in
-    let within : length sent.found.bytes ≤ longest_text = subst (λ (b : List ℕ). length b ≤ longest_text) sent.bytes_is text.within in
-    (sent.found.taken, lat-adds s ∙ same, inl (rw there (rw sent.there (inl (within, (refl, refl)))))))
+-- a message's bytes are a delta's text, so only their number can refuse them
+too_long : (bytes : List ℕ) (d : Delta) → IsDelta d → bytes ≡ delta_text d → IsDeltaCause TooLong bytes ⊎ IsDeltaCause NotState bytes → longest_text < length bytes
+too_long bytes d delta text (inl long) = long
+too_long bytes d delta text (inr not) = absurd (not.1 d delta text)
 
--- a message's bytes are a state's text, so only their number can refuse them
-too_long : (bytes : List ℕ) (s : Entries) → IsState s → bytes ≡ state_text s → IsCause TooLong bytes ⊎ IsCause NotState bytes → longest_text < length bytes
-too_long bytes s state text (inl long) = long
-too_long bytes s state text (inr not) = absurd (not.1 s state text)
-
-not_joined : (kept : Kept) (number place k slot : ℕ) (m : SentMessage) (answer : Answer) → number ≡ place + 1 → place < length kept.states
-    → k ≡ slot + 1 → slot < length kept.messages → m ≡ get_or kept.messages slot m → IsCause TooLong m.bytes ⊎ IsCause NotState m.bytes → answer ≡ Err BadState → Steps kept (Deliver number k) answer kept
-not_joined kept number place k slot m answer number_is below k_is slot_below m_is cause is =
+not_read : (kept : Kept) (number place k slot : ℕ) (m : SentMessage) (answer : Answer) → IsDelivery kept number place k slot m → IsDeltaCause TooLong m.bytes ⊎ IsDeltaCause NotState m.bytes → answer ≡ Err BadState
+    → Steps kept (Deliver number k) answer kept
+not_read kept number place k slot m answer d cause is =
     stays kept (Deliver number k) answer
     (λ w stands.
-    let x = replica_at kept w number place fmap.empty stands number_is below in
-    let sent = message_at kept w k slot m stands k_is slot_below m_is in
-    let over : longest_text < length sent.found.bytes =
-    subst (λ (b : List ℕ). longest_text < length b) sent.bytes_is (too_long m.bytes (lat sent.found.taken) sent.sent.state (sent.bytes_is ∙ sent.sent.text) cause) in
-    inl (rw x.there (rw sent.there (inr (over, (is, refl))))))
+    let x = replica_at kept w number place stands d.number_is d.below in
+    let f = message_at kept w number place k slot m stands d in
+    let bytes : m.bytes ≡ f.found.bytes = ap (λ (k : SentMessage). k.bytes) f.kept_is in
+    let over : longest_text < length f.found.bytes = subst (λ (b : List ℕ). longest_text < length b) bytes (too_long m.bytes f.found.delta f.sent.delta (bytes ∙ f.sent.text) cause) in
+    inl (rw x.there (rw f.there (inr (over, (is, refl))))))
 
-pub not_delivered : (kept : Kept) (number place k slot : ℕ) (m : SentMessage) (fault : StateFault) (answer : Answer) → number ≡ place + 1 → place < length kept.states
-    → k ≡ slot + 1 → slot < length kept.messages → m ≡ get_or kept.messages slot m → IsCause fault m.bytes → answer ≡ Err (refusal fault) → Steps kept (Deliver number k) answer kept
-not_delivered kept number place k slot m TooLong answer number_is below k_is slot_below m_is cause is = not_joined kept number place k slot m answer number_is below k_is slot_below m_is (inl cause) is
-not_delivered kept number place k slot m NotState answer number_is below k_is slot_below m_is cause is = not_joined kept number place k slot m answer number_is below k_is slot_below m_is (inr cause) is
-not_delivered kept number place k slot m fault.NoMemory answer number_is below k_is slot_below m_is cause is =
-    subst (λ (a : Answer). Steps kept (Deliver number k) a kept) (sym is) (deliver_ran_out kept number place k slot m number_is below k_is slot_below m_is cause)
+pub not_delivered : (kept : Kept) (number place k slot : ℕ) (m : SentMessage) (fault : StateFault) (answer : Answer) → IsDelivery kept number place k slot m
+    → IsDeltaCause fault m.bytes → answer ≡ Err (refusal fault) → Steps kept (Deliver number k) answer kept
+not_delivered kept number place k slot m TooLong answer d cause is = not_read kept number place k slot m answer d (inl cause) is
+not_delivered kept number place k slot m NotState answer d cause is = not_read kept number place k slot m answer d (inr cause) is
+not_delivered kept number place k slot m fault.NoMemory answer d cause is =
+    subst (λ (a : Answer). Steps kept (Deliver number k) a kept) (sym is) (deliver_ran_out kept number place k slot m d cause)
 
-pub sent_now : (old new : Kept) (number place count : ℕ) (d : Entries) (text : List ℕ) → number ≡ place + 1 → place < length old.states
-    → text ≡ state_text (get_or old.states place d) → IsState (get_or old.states place d)
-    → new.base ≡ old.base → new.states ≡ old.states → new.messages ≡ old.messages ++ record { sender = number; bytes = text } ∷ [] → count ≡ length new.messages → Steps old (Send number) (Ok (Sent count)) new
-sent_now old new number place count d text number_is below text_is state base states messages count_is = record {
-  base = base;
+-- ---- a message is sent
+
+-- the message stands behind the others, and nothing else has changed
+pub record PushedMessage (old new : Kept) (sender count : ℕ) (text : List ℕ) : Type 0 where
+  pub base : new.base ≡ old.base
+  pub replicas : new.replicas ≡ old.replicas
+  pub last : new.last ≡ old.last
+  pub messages : new.messages ≡ old.messages ++ record { sender = sender; bytes = text } ∷ []
+  pub counted : count ≡ length new.messages
+
+-- a delta is sent from what is kept, with the text that was written
+sent_one : (old new : Kept) (number place count : ℕ) (event : Event) (cursor : Option Cursor) (text : List ℕ) → number ≡ place + 1 → place < length old.replicas
+    → text ≡ delta_text (delta_from (kept_at old place).stamped cursor) → IsDelta (delta_from (kept_at old place).stamped cursor) → PushedMessage old new number count text
+    → ((w : World) (r : Replica) → replica w number ≡ Some r → Keeps (kept_at old place) r
+    → Step old.base w event (Ok (Sent (length w.messages + 1))) (with_message w (sent_by number r (delta_from (kept_at old place).stamped cursor))))
+    → Steps old event (Ok (Sent count)) new
+sent_one old new number place count event cursor text number_is below text_is written push step = record {
+  base = push.base;
   leads = λ w stands.
-      let x = replica_at old w number place d stands number_is below in
-      let m : Message = sent_by number (get_or w.replicas place fresh) in
-      let now : text ≡ m.bytes = text_is ∙ ap state_text x.kept_is in
-      let same : new.messages ≡ map kept_message (w.messages ++ m ∷ []) = messages ∙ (λ i. stands.messages i ++ record { sender = number; bytes = now i } ∷ []) ∙ sym (map_push kept_message w.messages m) in
-      let count_now : count ≡ length w.messages + 1 = count_is ∙ ap length same ∙ length-map (w.messages ++ m ∷ []) kept_message ∙ length_push w.messages m in
+      let x = replica_at old w number place stands number_is below in
+      let m : Message = sent_by number x.found (delta_from (kept_at old place).stamped cursor) in
+      let same : new.messages ≡ map kept_message (w.messages ++ m ∷ []) =
+      push.messages ∙ ((λ i. stands.messages i ++ record { sender = number; bytes = text_is i } ∷ []) ∙ sym (map_push kept_message w.messages m)) in
+      let count_now : length w.messages + 1 ≡ count = sym (push.counted ∙ (ap length same ∙ (length-map (w.messages ++ m ∷ []) kept_message ∙ length_push w.messages m))) in
+      let stepped : Step old.base w event (Ok (Sent count)) (with_message w m) = subst (λ (n : ℕ). Step old.base w event (Ok (Sent n)) (with_message w m)) count_now (step w x.found x.there x.keeps) in
       record {
         next = with_message w m;
-        step = inl (rw x.there (ap (λ (n : ℕ). Ok (Sent n)) count_now, refl));
+        step = stepped;
         stands = record {
-          states = states ∙ stands.states;
+          reached = subst (λ (b : List ℕ). IsReached b (with_message w m)) (sym push.base) (reached_next old.base w event (Ok (Sent count)) (with_message w m) stands.reached stepped);
+          replicas = subst (λ (ks : List KeptReplica). AllZip Keeps ks w.replicas) (sym push.replicas) stands.replicas;
           messages = same;
-          sent = All-push IsSent w.messages m stands.sent (record { state = subst IsState x.kept_is state; text = refl });
+          last = push.last ∙ stands.last;
+          sent = All-push IsSent w.messages m stands.sent (record { delta = written; text = refl });
         };
       };
 }
 
-pub replied : (kept : Kept) (number place : ℕ) (q : Request) (d : Entries) (r : Reply) → number ≡ place + 1 → place < length kept.states
-    → r ≡ reply_of kept.base (get_or kept.states place d) q → Steps kept (Ask number q) (Ok (Replied r)) kept
-replied kept number place q d r number_is below is =
+pub sent_whole : (old new : Kept) (number place count : ℕ) (text : List ℕ) → number ≡ place + 1 → place < length old.replicas
+    → text ≡ delta_text (delta_from (kept_at old place).stamped None) → IsDelta (delta_from (kept_at old place).stamped None) → PushedMessage old new number count text
+    → Steps old (Send number) (Ok (Sent count)) new
+sent_whole old new number place count text number_is below text_is written push =
+    sent_one old new number place count (Send number) None text number_is below text_is written push
+    (λ w r there keeps. inl (rw there ((kept_at old place).stamped, keeps.stamped, keeps.incarnation, (refl, refl))))
+
+-- a cursor at this number of the merges of the incarnation that is kept
+abbrev pub kept_cursor : Kept → ℕ → ℕ → Option Cursor
+kept_cursor kept place n = Some (record { incarnation = (kept_at kept place).stamped.incarnation; number = n })
+
+pub sent_from : (old new : Kept) (number place count n : ℕ) (text : List ℕ) → number ≡ place + 1 → place < length old.replicas
+    → text ≡ delta_text (delta_from (kept_at old place).stamped (kept_cursor old place n)) → IsDelta (delta_from (kept_at old place).stamped (kept_cursor old place n))
+    → PushedMessage old new number count text → Steps old (SendFrom number n) (Ok (Sent count)) new
+sent_from old new number place count n text number_is below text_is written push =
+    let s : StampedState = (kept_at old place).stamped in
+    sent_one old new number place count (SendFrom number n) (kept_cursor old place n) text number_is below text_is written push
+    (λ w r there keeps.
+    let same : with_message w (sent_by number r (delta_from s (kept_cursor old place n))) ≡ with_message w (sent_by number r (delta_from s (own_cursor n r))) =
+    ap (λ (i : ℕ). with_message w (sent_by number r (delta_from s (Some (record { incarnation = i; number = n }))))) keeps.incarnation in
+    inl (rw there (s, keeps.stamped, keeps.incarnation, (refl, same))))
+
+-- ---- a replica restarts
+
+pub restarted : (old new : Kept) (number place : ℕ) (k : KeptReplica) → number ≡ place + 1 → place < length old.replicas → ¬ (old.last ≡ last_number)
+    → IsStamped [] k.stamped → k.stamped.incarnation ≡ old.last + 1 → k.cursors ≡ fmap.empty
+    → new.base ≡ old.base → new.messages ≡ old.messages → new.last ≡ old.last + 1
+    → new.replicas ≡ slice_set old.replicas place k → Steps old (Restart number) (Ok Restarted) new
+restarted old new number place k number_is below left is incarnation cursors base messages last replicas = record {
+  base = base;
+  leads = λ w stands.
+      let x = replica_at old w number place stands number_is below in
+      let step : Step old.base w (Restart number) (Ok Restarted) (restarting w number) = inl (rw x.there (inl ((λ spent. left (stands.last ∙ spent)), (refl, refl)))) in
+      let keeps : Keeps k (fresh (w.last + 1)) = record { stamped = is; incarnation = incarnation ∙ ap (λ (n : ℕ). n + 1) stands.last; cursors = cursors } in
+      record {
+        next = restarting w number;
+        step = step;
+        stands = record {
+          reached = subst (λ (b : List ℕ). IsReached b (restarting w number)) (sym base) (reached_next old.base w (Restart number) (Ok Restarted) (restarting w number) stands.reached step);
+          replicas = subst (λ (ks : List KeptReplica). AllZip Keeps ks (restarting w number).replicas) (sym replicas) (placed old w number place k (fresh (w.last + 1)) stands number_is keeps);
+          messages = messages ∙ (stands.messages ∙ ap (map kept_message) (sym (messages_stay w number (fresh (w.last + 1)))));
+          last = last ∙ ap (λ (n : ℕ). n + 1) stands.last;
+          sent = subst (All IsSent) (sym (messages_stay w number (fresh (w.last + 1)))) stands.sent;
+        };
+      };
+}
+
+pub spent_restart : (kept : Kept) (number place : ℕ) → number ≡ place + 1 → place < length kept.replicas → kept.last ≡ last_number → Steps kept (Restart number) (Err NumbersSpent) kept
+spent_restart kept number place number_is below spent =
+    stays kept (Restart number) (Err NumbersSpent)
+    (λ w stands. inl (rw (replica_at kept w number place stands number_is below).there (inr (sym stands.last ∙ spent, (refl, refl)))))
+
+-- ---- a replica is asked
+
+pub replied : (kept : Kept) (number place : ℕ) (q : Request) (r : Reply) → number ≡ place + 1 → place < length kept.replicas
+    → r ≡ reply_of kept.base (kept_at kept place).stamped q → Steps kept (Ask number q) (Ok (Replied r)) kept
+replied kept number place q r number_is below is =
     stays kept (Ask number q) (Ok (Replied r))
     (λ w stands.
-    let x = replica_at kept w number place d stands number_is below in
-    let known : Knowledge = (get_or w.replicas place fresh).taken in
-    let same : r ≡ reply kept.base known q = is ∙ ap (λ (s : Entries). reply_of kept.base s q) x.kept_is ∙ sym (reply_from_state kept.base known q) in
-    inl (rw x.there (ap (λ (r : Reply). Ok (Replied r)) same, refl)))
+    let x = replica_at kept w number place stands number_is below in
+    let s : StampedState = (kept_at kept place).stamped in
+    let there : replica stands.reached.course.world number ≡ Some x.found = ap (λ (w : World). replica w number) stands.reached.world ∙ x.there in
+    let state : s.entries ≡ lat x.found.taken = x.keeps.stamped.entries ∙ merges_made stands.reached.course number x.found there in
+    let same : r ≡ reply_of kept.base (record s { entries = lat x.found.taken }) q = is ∙ ap (λ (e : Entries). reply_of kept.base (record s { entries = e }) q) state in
+    inl (rw x.there (s, x.keeps.stamped, x.keeps.incarnation, (ap (λ (r : Reply). Ok (Replied r)) same, refl))))
 
--- a run and one event more
-run_push : (base : List ℕ) (w : World) (events : List Event) (answers : List Answer) (mid : World) (event : Event) (answer : Answer) (end : World)
-    → Run base w events answers mid → Step base mid event answer end → Run base w (events ++ event ∷ []) (answers ++ answer ∷ []) end
-run_push base w [] [] mid event answer end run step = (end, subst (λ (w : World). Step base w event answer end) run step, refl)
-run_push base w [] (a ∷ answers) mid event answer end run step = absurd run
-run_push base w (e ∷ events) [] mid event answer end run step = absurd run
-run_push base w (e ∷ events) (a ∷ answers) mid event answer end run step = (run.0, run.1, run_push base run.0 events answers mid event answer end run.2 step)
+-- ---- runs
 
 pub runs_none : (kept : Kept) → Runs kept [] [] kept
 runs_none kept = record { base = refl; leads = λ w stands. record { end = w; run = refl; stands = stands } }
@@ -286,10 +504,38 @@ runs_push old mid new events answers event answer runs steps = record {
       };
 }
 
-empty_states : (n : ℕ) → replicate n (let e : Entries = fmap.empty in e) ≡ map state_of (replicate n fresh)
-empty_states zero = refl
-empty_states (suc n) = λ i. empty_is i ∷ empty_states n i
+-- ---- at first
+
+open_start : (base : List ℕ) (count : ℕ) → IsReached base (start count)
+open_start base count = record { course = record { count = count; events = []; answers = []; world = start count; run = refl }; world = refl }
 
 -- at first nothing is taken
-pub stands_at_first : (kept : Kept) (n : ℕ) → kept.states ≡ replicate n fmap.empty → kept.messages ≡ [] → Stands kept (start n)
-stands_at_first kept n states messages = record { states = states ∙ empty_states n; messages = messages; sent = λ k d below. absurd (omega (arith, below)) }
+pub stands_at_first : (kept : Kept) (n : ℕ) → AllZip Keeps kept.replicas (start n).replicas → kept.messages ≡ [] → kept.last ≡ n → Stands kept (start n)
+stands_at_first kept n replicas messages last = record {
+  reached = open_start kept.base n;
+  replicas = replicas;
+  messages = messages;
+  last = last;
+  sent = λ k d below. absurd (omega (arith, below));
+}
+
+fresh_push : (last n : ℕ) → fresh_after last (suc n) ≡ fresh_after last n ++ fresh (last + n + 1) ∷ []
+fresh_push last zero = let same : last + 1 ≡ last + 0 + 1 = omega arith in ap (λ (i : ℕ). fresh i ∷ []) same
+fresh_push last (suc n) =
+    let same : last + 1 + n + 1 ≡ last + suc n + 1 = omega arith in
+    ap (λ (rs : List Replica). fresh (last + 1) ∷ rs) (fresh_push (last + 1) n ∙ ap (λ (i : ℕ). fresh_after (last + 1) n ++ fresh i ∷ []) same)
+
+-- one more replica that has taken nothing
+pub fresh_kept : (all more : List KeptReplica) (n : ℕ) (k : KeptReplica) → AllZip Keeps all (fresh_after 0 n) → IsStamped [] k.stamped → k.stamped.incarnation ≡ n + 1 → k.cursors ≡ fmap.empty
+    → more ≡ all ++ k ∷ [] → AllZip Keeps more (fresh_after 0 (n + 1))
+fresh_kept all more n k keeps stamped incarnation cursors more_is =
+    let number : n + 1 ≡ 0 + n + 1 = omega arith in
+    let keeps_new : Keeps k (fresh (0 + n + 1)) = record { stamped = stamped; incarnation = incarnation ∙ number; cursors = cursors } in
+    let next : suc n ≡ n + 1 = omega arith in
+    subst (λ (m : ℕ). AllZip Keeps more (fresh_after 0 m)) next
+    (subst (λ (rs : List Replica). AllZip Keeps more rs) (sym (fresh_push 0 n))
+    (subst (λ (ks : List KeptReplica). AllZip Keeps ks (fresh_after 0 n ++ fresh (0 + n + 1) ∷ [])) (sym more_is) (zip_push Keeps all (fresh_after 0 n) k (fresh (0 + n + 1)) keeps keeps_new)))
+
+-- what an index reads is what is kept at the place
+pub kept_here : (kept : Kept) (place : ℕ) (k : KeptReplica) → place < length kept.replicas → k ≡ get_or kept.replicas place k → k ≡ kept_at kept place
+kept_here kept place k below is = is ∙ get_or_default kept.replicas place k nothing_kept below

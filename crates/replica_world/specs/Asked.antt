@@ -2,13 +2,13 @@
 use Rattle.std.specs.Prelude.{◌≡◌, ℕ, List, Ok, zip}
 use Rattle.timegate.specs.declared.reply.Reply.{Reply}
 use Rattle.timegate.specs.declared.request.Request.{Request}
+use Rattle.timegate.specs.Route.{IsOfTaken}
 use Rattle.replica_events.specs.declared.event.Event.{Event}
 use Rattle.replica_events.specs.declared.event.Event.TheVariants.{Ask}
 use Rattle.replica_events.specs.declared.event.Said.TheVariants.{Replied}
 use Rattle.replica_world.specs.declared.asked.Asked.{Asked}
 use Rattle.replica_events.specs.World.{World, Step, Run, start}
 use Rattle.replica_events.specs.History.{LearntAlike}
-use Rattle.replica_events.specs.Agreement.{IsOfTaken}
 
 -- the events lead to one world, in which both replicas are asked; where both have learnt the same harvests, their
 -- replies are the same

@@ -1,5 +1,5 @@
 -- The lines of commands: how each is written, and how it is read.
-use Rattle.std.specs.Prelude.{◌≡◌, ℕ, ◌<◌, ◌≤◌, ◌^◌, ◌&&◌, List, [], ◌∷◌, length, Option, None, Some, nat_le}
+use Rattle.std.specs.Prelude.{ℕ, ◌<◌, ◌≤◌, ◌^◌, ◌&&◌, List, [], ◌∷◌, length, Option, None, Some, nat_le}
 use Rattle.std.specs.Prelude.{if◌then◌else◌, codes, bytes_eq, IsTrue}
 use Rattle.std.specs.Fmt.{decimal}
 use Rattle.std.specs.List.{list_all}
@@ -32,6 +32,7 @@ pub data Form : Type 0 where
   GateAt : ℕ → List ℕ → List ℕ → Form
   Ask : AskForm → Form
   Send : ℕ → Form
+  SendFrom : ℕ → ℕ → Form
   Deliver : ℕ → ℕ → Form
   Receive : ℕ → ℕ → Form
   Restart : ℕ → Form
@@ -52,6 +53,7 @@ form_text (Gate replica original) = parted (codes "gate" ∷ decimal replica ∷
 form_text (GateAt replica original asked) = parted (codes "gate" ∷ decimal replica ∷ original ∷ asked ∷ [])
 form_text (Ask f) = parted (codes "ask" ∷ decimal f.replica ∷ f.method ∷ decimal f.count ∷ f.target ∷ [])
 form_text (Send replica) = parted (codes "send" ∷ decimal replica ∷ [])
+form_text (SendFrom replica merges) = parted (codes "sendfrom" ∷ decimal replica ∷ decimal merges ∷ [])
 form_text (Deliver replica message) = parted (codes "deliver" ∷ decimal replica ∷ decimal message ∷ [])
 form_text (Receive replica len) = parted (codes "receive" ∷ decimal replica ∷ decimal len ∷ [])
 form_text (Restart replica) = parted (codes "restart" ∷ decimal replica ∷ [])
@@ -76,6 +78,7 @@ IsWritten (Gate replica original) = IsNumber replica × Lacks space original
 IsWritten (GateAt replica original asked) = IsNumber replica × Lacks space original
 IsWritten (Ask f) = IsNumber f.replica × IsMethod f.method × (f.count ≤ most_asked)
 IsWritten (Send replica) = IsNumber replica
+IsWritten (SendFrom replica merges) = IsNumber replica × IsNumber merges
 IsWritten (Deliver replica message) = IsNumber replica × IsNumber message
 IsWritten (Receive replica len) = IsNumber replica × IsNumber len
 IsWritten (Restart replica) = IsNumber replica
@@ -132,6 +135,13 @@ send_of fields = do
   replica ← number_of fields
   Some (Send replica)
 
+-- behind `sendfrom`
+unfoldable pub send_from_of : List ℕ → Option Form
+send_from_of fields = do
+  replica ← number_field fields
+  merges ← number_of replica.1
+  Some (SendFrom replica.0 merges)
+
 -- behind `deliver`
 unfoldable pub deliver_of : List ℕ → Option Form
 deliver_of fields = do
@@ -160,6 +170,7 @@ form_by_word word fields =
     else if bytes_eq word (codes "gate") then gate_of fields
     else if bytes_eq word (codes "ask") then ask_of fields
     else if bytes_eq word (codes "send") then send_of fields
+    else if bytes_eq word (codes "sendfrom") then send_from_of fields
     else if bytes_eq word (codes "deliver") then deliver_of fields
     else if bytes_eq word (codes "receive") then receive_of fields
     else if bytes_eq word (codes "restart") then restart_of fields

@@ -4,7 +4,7 @@ use Rattle.std.specs.Prelude.{None, Some, codes}
 use Rattle.std.specs.Fmt.{decimal}
 use Rattle.text_fields.specs.Parts.{Lacks, parted}
 use Rattle.replica_events.specs.declared.event.Event.{Event}
-use Rattle.replica_events.specs.declared.event.Event.TheVariants.{Send, Deliver, Receive, Restart, Ask}
+use Rattle.replica_events.specs.declared.event.Event.TheVariants.{Send, SendFrom, Deliver, Receive, Restart, Ask}
 use Rattle.replica_world.specs.Fields.{after_empty_lines}
 use Rattle.replica_world.specs.Form as form
 use Rattle.replica_world.specs.Form.{Form, form_text, IsWritten}
@@ -66,6 +66,7 @@ Means (form.Ask f) after command rest =
     (asked : List (List ℕ)) × AreLines f.count after asked rest
     × (command ≡ Step (Ask f.replica (record { method = f.method; target = f.target; asked = asked })))
 Means (form.Send replica) after command rest = MeansEvent (Send replica) after command rest
+Means (form.SendFrom replica merges) after command rest = MeansEvent (SendFrom replica merges) after command rest
 Means (form.Deliver replica message) after command rest = MeansEvent (Deliver replica message) after command rest
 Means (form.Receive replica len) after command rest =
     (bytes : List ℕ) × IsBlock len after (bytes, rest) × (command ≡ Step (Receive replica bytes))

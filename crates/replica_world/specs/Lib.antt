@@ -1,4 +1,5 @@
 pub mod Places
+pub mod Keeping
 pub mod Stands
 pub mod Asked
 pub mod ReadBack

@@ -65,6 +65,7 @@ refusal_line why = refusal_text (words_of why)
 abbrev pub accepted_line : Event → List ℕ
 accepted_line (event.Take replica harvest) = []
 accepted_line (event.Send replica) = []
+accepted_line (event.SendFrom replica merges) = []
 accepted_line (event.Deliver replica message) = line (codes "joined")
 accepted_line (event.Receive replica bytes) = line (codes "received")
 accepted_line (event.Restart replica) = line (codes "restarted")

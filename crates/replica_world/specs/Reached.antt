@@ -3,7 +3,6 @@ use Rattle.std.specs.Prelude.{◌≡◌, ℕ, ◌≤◌, ◌⊎◌, List, [], �
 use Rattle.memento_time.specs.Text.{IsArchiveName}
 use Rattle.timemap_reader.specs.declared.page.Page.{Page}
 use Rattle.timegate.specs.declared.reply.Reply.{Reply}
-use Rattle.timegate.specs.declared.request.Request.{Request}
 use Rattle.timegate.specs.Route.{original_at}
 use Rattle.replica_events.specs.declared.event.Event.{Event}
 use Rattle.replica_events.specs.declared.event.Event.TheVariants as event

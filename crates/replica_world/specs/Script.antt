@@ -5,7 +5,7 @@ use Rattle.std.specs.Option.{option_map, option_and_then}
 use Rattle.timegate.specs.declared.request.Request.{Request}
 use Rattle.timemap_writer.specs.Service.{base_of}
 use Rattle.replica_events.specs.declared.event.Event.{Event}
-use Rattle.replica_events.specs.declared.event.Event.TheVariants.{Send, Deliver, Receive, Restart, Ask}
+use Rattle.replica_events.specs.declared.event.Event.TheVariants.{Send, SendFrom, Deliver, Receive, Restart, Ask}
 use Rattle.replica_world.specs.Fields.{◌>>=◌, field, line_of, after_empty_lines, number_field, utf8_text, block_of}
 use Rattle.replica_world.specs.Fields.{lines_of}
 use Rattle.replica_world.specs.Form as form
@@ -62,6 +62,7 @@ command_of (form.Ask f) rest = do
   asked ← lines_of f.count rest
   stepped (Ask f.replica (record { method = f.method; target = f.target; asked = asked.0 })) asked.1
 command_of (form.Send replica) rest = stepped (Send replica) rest
+command_of (form.SendFrom replica merges) rest = stepped (SendFrom replica merges) rest
 command_of (form.Deliver replica message) rest = stepped (Deliver replica message) rest
 command_of (form.Receive replica len) rest = do
   body ← block_of len rest

@@ -56,6 +56,7 @@ form_view (spelled_form.Gate replica original) = form.Gate replica original.now
 form_view (spelled_form.GateAt replica original asked) = form.GateAt replica original.now asked.now
 form_view (spelled_form.Ask f) = form.Ask (ask_form_view f)
 form_view (spelled_form.Send replica) = form.Send replica
+form_view (spelled_form.SendFrom replica merges) = form.SendFrom replica merges
 form_view (spelled_form.Deliver replica message) = form.Deliver replica message
 form_view (spelled_form.Receive replica len) = form.Receive replica len
 form_view (spelled_form.Restart replica) = form.Restart replica

@@ -1,19 +1,25 @@
 -- What the program keeps of a world, and the worlds that it stands for.
-use Rattle.std.specs.Prelude.{◌≡◌, ℕ, List, All, map, refl}
+use Rattle.std.specs.Prelude.{◌≡◌, ℕ, List, All, map, get_or, slice_set, refl}
 use Rattle.std.specs.Coded.{Coded, code_by, coded×, coded_ℕ, coded_list}
+use Rattle.std.specs.List.{AllZip}
 use Rattle.std.specs.FinMap as fmap
-use Rattle.harvest_lattice.specs.Lattice.{Entries, key_cmp, coded_key, coded_kept}
-use Rattle.harvest_lattice.specs.Knowledge.{lat}
-use Rattle.replica_exchange.specs.StateText.{IsState, state_text}
+use Rattle.memento_index.specs.declared.merge.Merge.{Merge}
+use Rattle.replica_exchange.specs.CursorRule.{Held}
+use Rattle.replica_exchange.specs.DeltaText.{delta_text, IsDelta}
+use Rattle.replica_exchange.specs.Stamps.{IsStamped}
 use Rattle.replica_events.specs.declared.event.Event.{Event}
 use Rattle.replica_world.specs.declared.message.SentMessage.{SentMessage}
-use Rattle.replica_events.specs.World.{World, Replica, Message, Answer, Step, Run}
+use Rattle.replica_world.specs.declared.replica.KeptReplica.{KeptReplica}
+use Rattle.replica_events.specs.World.{World, Replica, Message, Answer, Course, Step, Run}
+use Rattle.replica_world.specs.Keeping.{IsMerged, coded_replica}
 
--- the service's base, the state of each replica, and the sender and the bytes of each message: no set of harvests
+-- the service's base, what is kept of each replica and of each message, and the last incarnation: no set of harvests,
+-- and no list of merges
 pub record Kept : Type 0 where
   pub base : List ℕ
-  pub states : List Entries
+  pub replicas : List KeptReplica
   pub messages : List SentMessage
+  pub last : ℕ
 
 -- what is kept of a message, as a pair of its parts
 abbrev pub coded_message : Coded SentMessage
@@ -24,29 +30,57 @@ coded_message =
 -- what is kept of a world, as a tuple of its parts
 abbrev pub coded_kept_world : Coded Kept
 coded_kept_world =
-    code_by (List ℕ × (List Entries × List SentMessage))
-    (coded× (coded_list coded_ℕ)
-    (coded× (coded_list (fmap.code {R = key_cmp} coded_key coded_kept)) (coded_list coded_message)))
-    (λ k. (k.base, (k.states, k.messages))) (λ p. record { base = p.0; states = p.1.0; messages = p.1.1 }) (λ _. refl)
+    code_by (List ℕ × (List KeptReplica × (List SentMessage × ℕ)))
+    (coded× (coded_list coded_ℕ) (coded× (coded_list coded_replica) (coded× (coded_list coded_message) coded_ℕ)))
+    (λ k. (k.base, (k.replicas, (k.messages, k.last))))
+    (λ p. record { base = p.0; replicas = p.1.0; messages = p.1.1.0; last = p.1.1.1 }) (λ _. refl)
 
--- the state of what a replica has taken
-abbrev pub state_of : Replica → Entries
-state_of r = lat r.taken
+-- what is kept of a replica that has taken nothing
+abbrev pub nothing_kept : KeptReplica
+nothing_kept = record {
+  stamped = record { entries = fmap.empty; stamps = fmap.empty; number = 0; incarnation = 0 };
+  cursors = fmap.empty;
+}
+
+-- what is kept of the replica at a place
+abbrev pub kept_at : Kept → ℕ → KeptReplica
+kept_at kept place = get_or kept.replicas place nothing_kept
+
+-- the replica at the place has merged this, and holds these cursors; nothing else has changed
+pub record MergedAt (old : Kept) (place : ℕ) (m : Merge) (held : Held) (new : Kept) : Type 0 where
+  pub base : new.base ≡ old.base
+  pub messages : new.messages ≡ old.messages
+  pub last : new.last ≡ old.last
+  pub replicas : new.replicas ≡ slice_set old.replicas place (kept_at new place)
+  pub merged : IsMerged (kept_at old place) m held (kept_at new place)
+
+-- it is the state with stamps that the replica's merges made, and the replica's cursors
+pub record Keeps (kept : KeptReplica) (r : Replica) : Type 0 where
+  pub stamped : IsStamped r.merges kept.stamped
+  pub incarnation : kept.stamped.incarnation ≡ r.incarnation
+  pub cursors : kept.cursors ≡ r.cursors
 
 -- what is kept of a message
 abbrev pub kept_message : Message → SentMessage
 kept_message m = record { sender = m.sender; bytes = m.bytes }
 
--- a message's bytes are the text of its sender's state as it was
+-- a message's bytes are the text of its delta
 pub record IsSent (m : Message) : Type 0 where
-  pub state : IsState (lat m.taken)
-  pub text : m.bytes ≡ state_text (lat m.taken)
+  pub delta : IsDelta m.delta
+  pub text : m.bytes ≡ delta_text m.delta
 
--- what is kept stands for a world: for each replica the state of what it has taken, for each message its sender and its
--- bytes
+-- events lead to the world
+pub record IsReached (base : List ℕ) (w : World) : Type 0 where
+  pub course : Course base
+  pub world : course.world ≡ w
+
+-- what is kept stands for a world that events lead to: for each replica what its merges made and its cursors, for each
+-- message its sender and its bytes
 pub record Stands (kept : Kept) (w : World) : Type 0 where
-  pub states : kept.states ≡ map state_of w.replicas
+  pub reached : IsReached kept.base w
+  pub replicas : AllZip Keeps kept.replicas w.replicas
   pub messages : kept.messages ≡ map kept_message w.messages
+  pub last : kept.last ≡ w.last
   pub sent : All IsSent w.messages
 
 -- an event leads from a world to one that the new one stands for

@@ -34,15 +34,15 @@ fn memento(rt: &HostRuntime, second: u64, uri: &[u8]) -> Result<Memento, Fail> {
     Ok(Memento { at, uri })
 }
 
-fn harvest(rt: &HostRuntime, mementos: Vec<Memento>) -> Result<Harvest, Fail> {
+fn harvest(rt: &HostRuntime, revision: u64, mementos: Vec<Memento>) -> Result<Harvest, Fail> {
     let archive = ArchiveName::new(b"a1").ok_or("no name")?;
     let original = Original::new(rt.alloc(), b"http://a.example/")?;
-    Ok(Harvest::new(archive, &original, 5, mementos)?)
+    Ok(Harvest::new(archive, &original, revision, mementos)?)
 }
 
 fn take(rt: &HostRuntime, replica: usize, second: u64, uri: &[u8]) -> Result<Event, Fail> {
     let mementos = vec![in rt.alloc(); memento(rt, second, uri)?]?;
-    Ok(Event::Take(replica, harvest(rt, mementos)?))
+    Ok(Event::Take(replica, harvest(rt, 5, mementos)?))
 }
 
 fn octets(rt: &HostRuntime, text: &[u8]) -> Result<Octets, Fail> {
@@ -77,7 +77,7 @@ fn push_sends(rt: &HostRuntime, events: &mut Vec<Event>) -> Result<(), Fail> {
     Ok(())
 }
 
-fn sends(rt: &HostRuntime) -> Result<Vec<Event>, Fail> {
+fn both_sends(rt: &HostRuntime) -> Result<Vec<Event>, Fail> {
     let mut events = Vec::new(rt.alloc());
     push_sends(rt, &mut events)?;
     Ok(events)
@@ -219,7 +219,7 @@ fn joins_in_any_order(world: &mut World) -> bool {
 #[test]
 fn deliveries_in_any_order(rt: HostRuntime) -> Result<(), Fail> {
     let mut world = two_replicas(&rt)?;
-    world.run(&sends(&rt)?)?;
+    world.run(&both_sends(&rt)?)?;
     assert!(rt; joins_in_any_order(&mut world));
     assert!(rt; shows_both(&rt, &world, 1)? && shows_both(&rt, &world, 2)?);
     Ok(())
@@ -245,6 +245,8 @@ fn refusals(rt: HostRuntime) -> Result<(), Fail> {
     assert!(rt; refuses_what_is_not_there(&mut world));
     let bad = receive(&rt, b"memento-state 1\nentries 0\nend\n\n")?;
     assert!(rt; refuses(&mut world, &bad, Refused::BadState));
+    let delta = receive(&rt, THIRD)?;
+    assert!(rt; refuses(&mut world, &delta, Refused::BadState));
     let empty = receive(&rt, b"memento-state 1\nentries 0\nend\n")?;
     assert!(rt; matches!(world.step(&empty), Ok(Said::Joined)));
     assert!(rt; shows_nothing(&rt, &world, 1)?);
@@ -270,9 +272,9 @@ fn location(reply: &Reply) -> Option<&[u8]> {
     None
 }
 
-// Whether the TimeGate redirects to this address.
-fn redirects_to(rt: &HostRuntime, world: &World, uri: &[u8]) -> Result<bool, Fail> {
-    let answer = world.ask(1, &get(rt, b"/timegate/http://a.example/")?);
+// Whether the replica's TimeGate redirects to this address.
+fn redirects_to(rt: &HostRuntime, world: &World, replica: usize, uri: &[u8]) -> Result<bool, Fail> {
+    let answer = world.ask(replica, &get(rt, b"/timegate/http://a.example/")?);
     let reply = reply_of(&answer).ok_or("no reply")?;
     Ok(reply.status == 302 && location(reply) == Some(uri))
 }
@@ -286,6 +288,66 @@ fn received_bytes(rt: HostRuntime) -> Result<(), Fail> {
     let mut world = one_replica(&rt)?;
     world.step(&receive(&rt, STATE)?)?;
     let uri = b"http://arc.example/web/20000101000000/http://a.example/";
-    assert!(rt; redirects_to(&rt, &world, uri)?);
+    assert!(rt; redirects_to(&rt, &world, 1, uri)?);
+    Ok(())
+}
+
+const THIRD: &[u8] =
+    b"memento-delta 1\nfrom 1 2 3\nentries 1\nentry a1 3 0 http://a.example/\nend\n";
+
+// Whether replica 1 takes a harvest of this revision with one memento.
+fn takes(rt: &HostRuntime, world: &mut World, revision: u64, uri: &[u8]) -> Result<bool, Fail> {
+    let mementos = vec![in rt.alloc(); memento(rt, SECOND_1, uri)?]?;
+    let event = Event::Take(1, harvest(rt, revision, mementos)?);
+    Ok(matches!(world.step(&event), Ok(Said::Taken)))
+}
+
+// Whether replica 1 takes a harvest of this revision without mementos.
+fn takes_nothing(rt: &HostRuntime, world: &mut World, revision: u64) -> Result<bool, Fail> {
+    let event = Event::Take(1, harvest(rt, revision, Vec::new(rt.alloc()))?);
+    Ok(matches!(world.step(&event), Ok(Said::Taken)))
+}
+
+fn sends(world: &mut World, event: &Event, message: usize) -> bool {
+    matches!(world.step(event), Ok(Said::Sent(number)) if number == message)
+}
+
+// Replica 1 sends all after two merges, and after a third what this one changed.
+fn sends_two_deltas(rt: &HostRuntime, world: &mut World) -> Result<bool, Fail> {
+    Ok(
+        takes(rt, world, 1, b"http://m.example/1")?
+            && takes(rt, world, 2, b"http://m.example/2")?
+            && sends(world, &Event::Send(1), 1)
+            && takes_nothing(rt, world, 3)?
+            && sends(world, &Event::SendFrom(1, 2), 2),
+    )
+}
+
+fn tells_the_third(rt: &HostRuntime, world: &World) -> Result<bool, Fail> {
+    let answer = world.ask(1, &get(rt, b"/delta/1/2")?);
+    let reply = reply_of(&answer).ok_or("no reply")?;
+    Ok(reply.status == 200 && reply.body.as_slice() == THIRD)
+}
+
+fn refuses_the_gap(world: &mut World) -> bool {
+    matches!(world.step(&Event::Restart(2)), Ok(Said::Restarted))
+        && refuses(world, &Event::Deliver(2, 2), Refused::Gap { held: None })
+}
+
+fn joins(world: &mut World, message: usize) -> bool {
+    matches!(world.step(&Event::Deliver(2, message)), Ok(Said::Joined))
+}
+
+#[test]
+fn deltas(rt: HostRuntime) -> Result<(), Fail> {
+    assert_eq!(rt; THIRD.len(), 72);
+    let mut world = two_replicas(&rt)?;
+    assert!(rt; sends_two_deltas(&rt, &mut world)?);
+    assert!(rt; tells_the_third(&rt, &world)?);
+    assert!(rt; refuses_the_gap(&mut world));
+    assert!(rt; joins(&mut world, 1) && joins(&mut world, 1));
+    assert!(rt; redirects_to(&rt, &world, 2, b"http://m.example/2")?);
+    assert!(rt; joins(&mut world, 2));
+    assert!(rt; shows_nothing(&rt, &world, 2)?);
     Ok(())
 }

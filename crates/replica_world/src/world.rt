@@ -3,23 +3,26 @@ ghost use Rattle.std.specs.Prelude.{◌≡◌, ◌+◌, ◌<◌, ◌≤◌, IfSo
 ghost use Rattle.replica_world.specs.Places.{IsNoNumber};
 
 use crate::message::SentMessage;
+use crate::replica::KeptReplica;
 use harvest_lattice::Harvest;
-use memento_index::{Index, Merge};
+use memento_index::Merge;
 use memento_time::{NoMemory, Octets};
 use replica_events::{Answer, Event, Refused, Said};
-use replica_exchange::{read_state, write_state};
+use replica_exchange::{Cursor, Delta, StampFault, read_delta, read_state, write_delta};
 use std::alloc::Global;
 use std::marker::Model;
 use timegate::{Request, answer};
 use timemap_writer::Service;
 
-/// Replicas of one service, and the messages that they have sent. Replicas and messages are numbered from 1.
+/// Replicas of one service, the messages that they have sent, and the last incarnation that one of them began.
+/// Replicas and messages are numbered from 1.
 #[derive(Debug, Drop)]
 pub struct World {
     alloc: Global,
     service: Service,
-    replicas: Vec<Index>,
+    replicas: Vec<KeptReplica>,
     messages: Vec<SentMessage>,
+    last: u64,
 }
 
 impl Model for World {
@@ -29,7 +32,12 @@ impl Model for World {
 
     ghost coded = { coded_kept_world };
 
-    ghost view = { λ w. record { base = w.service; states = w.replicas.items; messages = w.messages.items } };
+    ghost view = { λ w. record {
+      base = w.service;
+      replicas = w.replicas.items;
+      messages = w.messages.items;
+      last = w.last;
+    } };
 }
 
 // The place of a number that counts from 1.
@@ -44,35 +52,40 @@ fn place_of(number: usize, count: usize) -> Option<usize>
 }
 
 impl World {
-    ghost use Rattle.std.specs.Prelude.{◌≡◌, ℕ, ◌<◌, ◌≤◌, ◌++◌, List, length, slice_set, get_or, IfOk, OnOk, OnErr};
+    ghost use Rattle.std.specs.Prelude.{◌≡◌, ◌↔◌, ◌<◌, ◌≤◌, ◌++◌, ◌∷◌, [], length, true, IfOk, IfErr, OnOk, OnErr};
+    ghost use Rattle.std.specs.Prelude.{IsErrOf};
     ghost use Rattle.std.specs.FinMap as fmap;
-    ghost use Rattle.harvest_lattice.specs.Lattice.{join};
-    ghost use Rattle.harvest_lattice.specs.Knowledge.{lat};
-    ghost use Rattle.memento_index.specs.Merges.{adds_of};
+    ghost use Rattle.memento_index.specs.declared.merge.Merge.TheVariants as merge;
+    ghost use Rattle.replica_exchange.specs.CursorRule.{fits, taken_from};
     ghost use Rattle.replica_events.specs.World.{start};
-    ghost use Rattle.replica_world.specs.Stands.{Stands, Steps, Runs};
+    ghost use Rattle.replica_world.specs.Keeping.{IsJoinCause};
+    ghost use Rattle.replica_world.specs.Stands.{Stands, Steps, Runs, MergedAt, kept_at};
     ghost use Rattle.replica_events.specs.declared.event.Event.TheVariants as event;
 
-    /// A world of `replicas` empty replicas of this service, which have sent nothing.
+    /// A world of `replicas` empty replicas of this service, which have sent nothing. Their incarnations are 1 to
+    /// `replicas`.
     pub fn new(alloc: Global, replicas: usize, service: Service) -> Result<World, NoMemory>
         requires { (1 ≤ replicas) × (replicas ≤ 16) }
         ensures stands { IfOk result (λ world. Stands world (start replicas)) }
         ensures base { IfOk result (λ world. world.base ≡ service) }
     {
-        let mut indexes = Vec::with_capacity(alloc, replicas)?;
-        for _ in 0..replicas {
-            indexes.push(Index::new(alloc))?;
+        let mut all = Vec::with_capacity(alloc, replicas)?;
+        for place in 0..replicas {
+            all.push(KeptReplica::new(alloc, place as u64 + 1))?;
         }
         Ok(World {
             alloc,
             service,
-            replicas: indexes,
+            replicas: all,
             messages: Vec::new(alloc),
+            last: replicas as u64,
         })
     }
 
     /// Runs one event. A refused one changes nothing: `NoReplica` and `NoMessage` where a number names none, `BadState`
-    /// where bytes are no state's text or too many, tested in this order. A restart takes no memory.
+    /// where bytes are no state's text or too many, `Gap` where a message leaves out merges of its sender that the
+    /// replica doesn't know, `NumbersSpent` where no number is left for a merge or an incarnation, tested in this
+    /// order. A restart takes no memory.
     pub fn step(&mut self, event: &Event) -> Answer
         ensures steps { Steps self.old event.now result self.new }
         ensures refused { OnErr result (self.new ≡ self.old) }
@@ -80,6 +93,7 @@ impl World {
         match event {
             Event::Take(number, harvest) => self.take(*number, harvest),
             Event::Send(number) => self.send(*number),
+            Event::SendFrom(number, merges) => self.send_from(*number, *merges),
             Event::Deliver(number, message) => self.deliver(*number, *message),
             Event::Receive(number, bytes) => self.receive(*number, bytes.as_slice()),
             Event::Restart(number) => self.restart(*number),
@@ -119,13 +133,26 @@ impl World {
         let Some(place) = place_of(number, self.replicas.len()) else {
             return Err(Refused::NoReplica);
         };
-        let text = write_state(self.alloc, self.replicas[place].state())?;
-        let bytes = Octets::of(text);
-        self.messages.push(SentMessage {
-            sender: number,
-            bytes,
-        })?;
-        Ok(Said::Sent(self.messages.len()))
+        let text = write_delta(self.alloc, &self.replicas[place].stamped, None)?;
+        let count = self.push_message(number, text)?;
+        Ok(Said::Sent(count))
+    }
+
+    fn send_from(&mut self, number: usize, merges: u64) -> Answer
+        ensures steps { Steps self.old (event.SendFrom number merges) result self.new }
+        ensures refused { OnErr result (self.new ≡ self.old) }
+    {
+        let Some(place) = place_of(number, self.replicas.len()) else {
+            return Err(Refused::NoReplica);
+        };
+        let stamped = &self.replicas[place].stamped;
+        let cursor = Cursor {
+            incarnation: stamped.incarnation(),
+            number: merges,
+        };
+        let text = write_delta(self.alloc, stamped, Some(cursor))?;
+        let count = self.push_message(number, text)?;
+        Ok(Said::Sent(count))
     }
 
     fn deliver(&mut self, number: usize, message: usize) -> Answer
@@ -138,8 +165,10 @@ impl World {
         let Some(sent) = place_of(message, self.messages.len()) else {
             return Err(Refused::NoMessage);
         };
-        let theirs = read_state(self.alloc, self.messages[sent].bytes.as_slice())?;
-        self.absorb(place, &Merge::State(theirs))?;
+        let message = &self.messages[sent];
+        let sender = message.sender as u64;
+        let delta = read_delta(self.alloc, message.bytes.as_slice())?;
+        self.join(place, sender, delta)?;
         Ok(Said::Joined)
     }
 
@@ -162,7 +191,11 @@ impl World {
         let Some(place) = place_of(number, self.replicas.len()) else {
             return Err(Refused::NoReplica);
         };
-        self.replicas[place] = Index::new(self.alloc);
+        let Some(incarnation) = self.last.checked_add(1) else {
+            return Err(Refused::NumbersSpent);
+        };
+        self.replicas[place] = KeptReplica::new(self.alloc, incarnation);
+        self.last = incarnation;
         Ok(Said::Restarted)
     }
 
@@ -173,21 +206,48 @@ impl World {
         let Some(place) = place_of(number, self.replicas.len()) else {
             return Err(Refused::NoReplica);
         };
-        let index = &self.replicas[place];
-        let reply = answer(self.alloc, &self.service, index, request)?;
+        let stamped = &self.replicas[place].stamped;
+        let reply = answer(self.alloc, &self.service, stamped, request)?;
         Ok(Said::Replied(reply))
     }
 
     // Merges into one replica.
-    fn absorb(&mut self, place: usize, merge: &Merge) -> Result<(), NoMemory>
-        requires { place < length self.old.states }
-        ensures base { self.new.base ≡ self.old.base }
-        ensures messages { self.new.messages ≡ self.old.messages }
-        ensures ok { OnOk result (self.new.states ≡ slice_set self.old.states place
-            (join (get_or self.old.states place fmap.empty) (lat (adds_of merge.now)))) }
+    fn absorb(&mut self, place: usize, merge: &Merge) -> Result<(), StampFault>
+        requires { place < length self.old.replicas }
+        ensures ok { OnOk result
+            (MergedAt self.old place merge.now (kept_at self.old place).cursors self.new) }
+        ensures spent { IsErrOf result StampFault.NumbersSpent
+            ↔ ((kept_at self.old place).stamped.number ≡ 18446744073709551615) }
         ensures err { OnErr result (self.new ≡ self.old) }
     {
-        self.replicas[place].absorb(merge)?;
+        self.replicas[place].stamped.absorb(merge)?;
         Ok(())
+    }
+
+    // Joins a delta of a peer to one replica.
+    fn join(&mut self, place: usize, peer: u64, delta: Delta) -> Result<(), Refused>
+        requires { place < length self.old.replicas }
+        ensures fits { OnOk result (fits (fmap.get (kept_at self.old place).cursors peer) delta ≡ true) }
+        ensures ok { OnOk result (MergedAt self.old place (merge.State delta.state)
+            (taken_from (kept_at self.old place).cursors peer delta) self.new) }
+        ensures cause { IfErr result (λ refused. IsJoinCause refused (kept_at self.old place) peer delta) }
+        ensures err { OnErr result (self.new ≡ self.old) }
+    {
+        self.replicas[place].join(peer, delta)
+    }
+
+    // Adds a message, and counts them all.
+    fn push_message(&mut self, sender: usize, text: Vec<u8>) -> Result<usize, NoMemory>
+        ensures base { self.new.base ≡ self.old.base }
+        ensures replicas { self.new.replicas ≡ self.old.replicas }
+        ensures last { self.new.last ≡ self.old.last }
+        ensures messages { OnOk result
+            (self.new.messages ≡ self.old.messages ++ record { sender = sender; bytes = text.items } ∷ []) }
+        ensures count { IfOk result (λ count. count ≡ length self.new.messages) }
+        ensures err { OnErr result (self.new ≡ self.old) }
+    {
+        let bytes = Octets::of(text);
+        self.messages.push(SentMessage { sender, bytes })?;
+        Ok(self.messages.len())
     }
 }

@@ -151,6 +151,9 @@ fn command_of<'a>(
         }
         Form::Ask(form) => ask(alloc, form, rest),
         Form::Send(replica) => Ok(step(Event::Send(*replica as usize), rest)),
+        Form::SendFrom(replica, merges) => {
+            Ok(step(Event::SendFrom(*replica as usize, *merges), rest))
+        }
         Form::Deliver(replica, message) => {
             Ok(step(Event::Deliver(*replica as usize, *message as usize), rest))
         }

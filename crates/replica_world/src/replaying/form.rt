@@ -1,8 +1,8 @@
 //! The lines of commands: what each says. How they are spelled is said at `replay`.
 ghost use Rattle.std.specs.Prelude.{◌≡◌};
 ghost use Rattle.std.specs.Option.{option_map};
-ghost use Rattle.replica_world.specs.Form.{take_of, map_of, gate_of, ask_of, send_of, deliver_of, receive_of};
-ghost use Rattle.replica_world.specs.Form.{restart_of};
+ghost use Rattle.replica_world.specs.Form.{take_of, map_of, gate_of, ask_of, send_of, send_from_of};
+ghost use Rattle.replica_world.specs.Form.{deliver_of, receive_of, restart_of};
 ghost use Rattle.replica_world.specs.Form.{form_by_word, form_of};
 ghost use Rattle.replica_world.specs.Spelled.{form_view};
 
@@ -22,6 +22,7 @@ pub enum Form<'a> {
     GateAt(u64, &'a [u8], &'a [u8]),
     Ask(AskForm<'a>),
     Send(u64),
+    SendFrom(u64, u64),
     Deliver(u64, u64),
     Receive(u64, u64),
     Restart(u64),
@@ -110,6 +111,14 @@ fn send(fields: &[u8]) -> Option<Form<'_>>
     Some(Form::Send(read_decimal(fields)?))
 }
 
+#[tactic(auto, unfolding(crate::specs::Form::send_from_of))]
+fn send_from(fields: &[u8]) -> Option<Form<'_>>
+    ensures { option_map form_view result ≡ send_from_of fields.now }
+{
+    let (replica, merges) = number_field(fields)?;
+    Some(Form::SendFrom(replica, read_decimal(merges)?))
+}
+
 #[tactic(auto, unfolding(crate::specs::Form::deliver_of))]
 fn deliver(fields: &[u8]) -> Option<Form<'_>>
     ensures { option_map form_view result ≡ deliver_of fields.now }
@@ -148,6 +157,8 @@ fn form_by_word<'a>(word: &[u8], fields: &'a [u8]) -> Option<Form<'a>>
         ask(fields)
     } else if word == b"send".as_slice() {
         send(fields)
+    } else if word == b"sendfrom".as_slice() {
+        send_from(fields)
     } else if word == b"deliver".as_slice() {
         deliver(fields)
     } else if word == b"receive".as_slice() {

@@ -4,6 +4,7 @@ ghost use Rattle.text_fields.specs.Finds.{Finds};
 ghost use Rattle.replica_world.specs.Fields.{line_of, block_of, after_empty_lines};
 ghost use Rattle.timegate.specs.declared.request.Request.{Request};
 ghost use Rattle.timegate.specs.Reply.{reply};
+ghost use Rattle.timegate.specs.Route.{IsOfTaken};
 ghost use Rattle.replica_events.specs.declared.event.Event.TheVariants.{Ask};
 ghost use Rattle.replica_world.specs.Script.{Command, start_at, command_at, commands_of};
 ghost use Rattle.replica_world.specs.Script as script;
@@ -37,27 +38,29 @@ pub fn script_is_its_layout()
 
 /// The commands of a script come to events, these lead to its world, and what it writes are their answers. So what
 /// holds of all replicas of a world holds of those of a script, whatever has happened in it: where it ends in one
-/// request to two replicas that have learnt the same harvests, it ends in one reply, written twice.
+/// request to two replicas that have learnt the same harvests, and for no delta, it ends in one reply, written twice.
 pub fn scripts_are_runs()
     ensures runs { (base : List ℕ) (world : World) (commands : List Command) (text : List ℕ) (end : World) →
         Says base world commands text end → IsRunOf base world commands text end }
     ensures twice { (base : List ℕ) (count : ℕ) (commands : List Command)
-        (i j : ℕ) (q : Request) (output : List ℕ) (end : World) →
+        (i j : ℕ) (q : Request) (output : List ℕ) (end : World) → IsOfTaken q →
         Says base (start count) (commands ++ script.Step (Ask i q) ∷ script.Step (Ask j q) ∷ []) output end →
         AnswersTwice base count commands i j output }
 {
     one_page();
 }
 
-/// A `map`, a `gate` or an `ask` writes the reply of what its replica has taken, and changes nothing. So two replicas
-/// that have taken the same harvests write the same text for the same request.
+/// A `map`, a `gate`, and an `ask` for no delta, writes the reply of what its replica has taken; so two replicas that
+/// have taken the same harvests write the same text for the same request. No question changes anything.
 pub fn same_text_from_both()
     ensures own { (base : List ℕ) (world : World) (i : ℕ) (known : Knowledge) → HasTaken world i known →
-        (q : Request) (text : List ℕ) (next : World) → Performs base world (script.Step (Ask i q)) text next →
-        (text ≡ reply_text (reply base known q)) × (next ≡ world) }
+        (q : Request) (text : List ℕ) (next : World) → IsOfTaken q →
+        Performs base world (script.Step (Ask i q)) text next → text ≡ reply_text (reply base known q) }
+    ensures unchanged { (base : List ℕ) (world : World) (i : ℕ) (q : Request) (text : List ℕ) (next : World) →
+        Performs base world (script.Step (Ask i q)) text next → next ≡ world }
     ensures same { (base : List ℕ) (world : World) (i j : ℕ) (known other : Knowledge) →
         HasTaken world i known → HasTaken world j other → SameHarvests known other →
-        (q : Request) (text again : List ℕ) (next after : World) →
+        (q : Request) (text again : List ℕ) (next after : World) → IsOfTaken q →
         Performs base world (script.Step (Ask i q)) text next →
         Performs base world (script.Step (Ask j q)) again after → text ≡ again }
 {}

@@ -117,7 +117,8 @@ fn replay_script<W: Write>(
 /// | `map I ORIGINAL` | asks replica I for the original's TimeMap | the reply |
 /// | `gate I ORIGINAL`, `gate I ORIGINAL ASKED` | asks it as a TimeGate, with an `Accept-Datetime`; ORIGINAL then ends at the first space | the reply |
 /// | `ask I METHOD COUNT TARGET`, then COUNT lines | asks it for a target, with 0 to 16 values of `Accept-Datetime` | the reply |
-/// | `send I` | replica I sends a message, numbered K | `sent K` |
+/// | `send I` | replica I sends a message with all that it has taken, numbered K | `sent K` |
+/// | `sendfrom I N` | replica I sends a message with what its merges after the first N changed | `sent K` |
 /// | `deliver J K` | replica J gets message K | `joined` |
 /// | `receive J LENGTH`, then a block | replica J gets the block as bytes from outside | `received` |
 /// | `restart I` | replica I forgets all | `restarted` |
@@ -127,7 +128,9 @@ fn replay_script<W: Write>(
 ///
 /// A command that is refused writes a line and changes nothing: `refused bad original`, `refused bad page`,
 /// `refused bad archive`, `refused too many` (over 100,000 mementos), for `take` in this order and before the next;
-/// `refused no replica`, `refused no message`, `refused bad state`.
+/// `refused no replica`, `refused no message`, `refused bad state`; `refused gap none` and `refused gap I N`, where a
+/// message leaves out merges of its sender, of which none are known or the first N of incarnation I; `refused numbers
+/// spent`, where no number of 64 bits is left.
 ///
 /// - `BadLine`: the line of this number is none of these, or its block or lines are cut short. The commands before it
 ///   were performed.

@@ -118,6 +118,63 @@ refused bad state
 refused no replica
 ";
 
+// Replica 2 gets deltas of replica 1: before it knows the merges that they follow on, and after.
+const DELTAS: &[u8] = b"replicas 2 http://agg.example
+take 1 a1 1 http://arc.example/list 73 http://a.example/
+<http://m.example/1>;rel=memento;datetime=\"Sat, 01 Jan 2000 00:00:00 GMT\"
+take 1 a1 2 http://arc.example/list 73 http://a.example/
+<http://m.example/2>;rel=memento;datetime=\"Mon, 03 Jan 2000 00:00:00 GMT\"
+send 1
+take 1 a1 3 http://arc.example/list 0 http://a.example/
+
+sendfrom 1 2
+ask 1 GET 0 /delta/1/2
+restart 2
+deliver 2 2
+deliver 2 1
+deliver 2 1
+gate 2 http://a.example/
+deliver 2 2
+gate 2 http://a.example/
+take 1 b1 1 http://arc.example/list 0 http://a.example/
+
+sendfrom 1 4
+deliver 2 3
+";
+
+const DELTAS_SAY: &[u8] = b"taken 1 0 0
+taken 1 0 0
+sent 1
+taken 0 0 0
+sent 2
+reply 200
+Content-Type: text/plain
+body 72
+memento-delta 1
+from 1 2 3
+entries 1
+entry a1 3 0 http://a.example/
+end
+restarted
+refused gap none
+joined
+joined
+reply 302
+Vary: accept-datetime
+Location: http://m.example/2
+Link: <http://a.example/>; rel=\"original\", <http://agg.example/timemap/link/http://a.example/>; rel=\"timemap\"; type=\"application/link-format\"; from=\"Mon, 03 Jan 2000 00:00:00 GMT\"; until=\"Mon, 03 Jan 2000 00:00:00 GMT\"
+body 0
+joined
+reply 404
+Vary: accept-datetime
+Content-Type: text/plain
+body 11
+no memento
+taken 0 0 0
+sent 3
+refused gap 1 3
+";
+
 /// A reader that gives a byte at a time, and fails after `reads` of them.
 #[derive(Drop)]
 struct FailingReader<'a> {
@@ -173,6 +230,7 @@ fn scripts(rt: HostRuntime) -> Result<(), Fail> {
     assert!(rt; says(&rt, ONE_PAGE, ONE_PAGE_SAYS)?);
     assert!(rt; says(&rt, EXCHANGE, EXCHANGE_SAYS)?);
     assert!(rt; says(&rt, EACH_COMMAND, EACH_COMMAND_SAYS)?);
+    assert!(rt; says(&rt, DELTAS, DELTAS_SAY)?);
     Ok(())
 }
 
@@ -198,6 +256,8 @@ fn bad_lines(rt: HostRuntime) -> Result<(), Fail> {
         bad_line(&rt, b"\nreplicas 1 http://agg.example/x\n", b""),
         Some(2)
     );
+    let sent_from_nowhere = b"replicas 1 http://agg.example\nsendfrom 1\n";
+    assert_eq!(rt; bad_line(&rt, sent_from_nowhere, b""), Some(2));
     let unended = b"replicas 1 http://agg.example\nreceive 1 3\n\n\nend\n";
     assert_eq!(rt; bad_line(&rt, unended, b""), Some(2));
     let asked_too_little = b"replicas 1 http://agg.example\nask 1 GET 2 /x\n\n";

@@ -85,7 +85,7 @@ pub fn accepted_line(event: &Event) -> &'static [u8]
         Event::Deliver(..) => b"joined\n",
         Event::Receive(..) => b"received\n",
         Event::Restart(_) => b"restarted\n",
-        Event::Take(..) | Event::Send(_) | Event::Ask(..) => b"",
+        Event::Take(..) | Event::Send(_) | Event::SendFrom(..) | Event::Ask(..) => b"",
     }
 }
 

@@ -1,11 +1,16 @@
-use Rattle.std.proofs.Common.{rules, ◌≡◌, ◌∙◌, ap, ℕ}
-use Rattle.std.specs.Prelude.{replicate}
-use Rattle.std.specs.FinMap as fmap
-use Rattle.harvest_lattice.specs.Lattice.{Entries}
-use Rattle.replica_world.proofs.Worlds.{stands_at_first}
+use Rattle.std.proofs.Common.{rules, ◌≡◌, ℕ, subst}
+use Rattle.std.specs.List.{AllZip}
+use Rattle.replica_events.specs.World.{fresh_after}
+use Rattle.replica_world.specs.Stands.{Keeps}
+use Rattle.replica_world.proofs.Worlds.{fresh_kept, stands_at_first}
 use Rattle.replica_world.proofs.world.World.new.Goals as goal
+
+pub loop-place-preserved : goal.loop-place-preserved
+loop-place-preserved c = record {
+  keeps = fresh_kept c.loop-place.all.items c.push.new.self.items c.loop-place.place c.new.result c.loop-place.invariant.keeps c.new.ensures.stamped c.new.ensures.incarnation c.new.ensures.cursors (search rules);
+}
 
 pub returns-clause-stands : goal.returns-clause-stands
 returns-clause-stands c =
-    let done : c.loop.counter ≡ c.args.replicas = search rules in
-    stands_at_first _ c.args.replicas (c.loop.invariant.items ∙ ap (λ (n : ℕ). replicate n (let e : Entries = fmap.empty in e)) done) (search rules)
+    let done : c.loop-place.place ≡ c.args.replicas = search rules in
+    stands_at_first _ c.args.replicas (subst (λ (n : ℕ). AllZip Keeps c.loop-place.all.items (fresh_after 0 n)) done c.loop-place.invariant.keeps) (search rules) (search rules)
