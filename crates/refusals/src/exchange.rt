@@ -1,4 +1,5 @@
-//! Two replicas that take a memento each, tell each other, and are asked.
+//! Two replicas that take a memento each, tell each other, and are asked. A delta is taken where the cursor reaches,
+//! and another is refused where none is held.
 use anyhow::{Context, Result};
 use harvest_lattice::Harvest;
 use memento_time::{ArchiveName, Clean, Items, Memento, Moment, Octets, Original};
@@ -50,6 +51,10 @@ fn events(alloc: Global) -> Result<Vec<Event>> {
         Event::Take(2, harvest(alloc, 6, 946_857_600, b"http://m.example/2")?),
         Event::Send(2),
         Event::Deliver(1, 3),
+        Event::SendFrom(2, 1),
+        Event::Deliver(1, 4),
+        Event::SendFrom(1, 2),
+        Event::Deliver(2, 5),
     ]?)
 }
 
@@ -68,6 +73,7 @@ fn questions(alloc: Global) -> Result<Vec<Request>> {
         get(alloc, b"/timemap/link/http://a.example/")?,
         get(alloc, b"/timegate/http://a.example/")?,
         get(alloc, b"/state")?,
+        get(alloc, b"/delta")?,
     ]?)
 }
 
