@@ -9,6 +9,8 @@ mod binding;
 mod exchanges;
 mod faults;
 mod fetching;
+#[cfg(test)]
+mod pull_tests;
 mod pulls;
 mod requests;
 mod responses;
