@@ -4,6 +4,7 @@
 #![tactic(auto)]
 
 mod check;
+mod clocks;
 mod failure;
 mod gates;
 mod rounds;

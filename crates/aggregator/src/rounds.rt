@@ -1,8 +1,10 @@
 //! One round: each archive is walked for each original, each peer is pulled, and what came is published.
-ghost use Rattle.std.specs.Prelude.{◌≡◌, ◌≤◌, ◌++◌, All, IfSome, Some};
+ghost use Rattle.std.specs.Prelude.{◌≡◌, ◌≤◌, ◌⊎◌, ◌++◌, All, IfSome, Some};
 ghost use Rattle.harvester.specs.Answers.{HasFirstUrl};
 ghost use Rattle.aggregator.specs.Lines.{round_words};
+ghost use Rattle.aggregator.specs.Pulls.{Pulls, PullsNothing};
 
+use crate::clocks::revision_now;
 use crate::runtimes::SocketRuntime;
 use crate::settings::Settings;
 use harvester::{Job, Outcome, have_first_urls, run_round};
@@ -13,7 +15,7 @@ use published_index::Merger;
 use std::alloc::Global;
 use std::fmt;
 use std::thread::{self, Threads};
-use std::time::{Clock, Duration, SystemTime, UNIX_EPOCH};
+use std::time::{Clock, Duration};
 
 /// How many jobs of a batch each worker gets: the records of a batch's walks stand in memory together.
 const JOBS_EACH: usize = 8;
@@ -24,7 +26,7 @@ pub(crate) struct Round {
     jobs: u64,
     /// Harvests that were appended.
     harvests: u64,
-    /// Peers' deltas that were appended.
+    /// Deltas of peers that were appended.
     pulls: u64,
     /// Whether what was appended is published; else it stays pending.
     published: bool,
@@ -55,7 +57,7 @@ impl Round {
             pulls: 0,
             published: false,
         };
-        let revision = seconds_now(rt);
+        let revision = revision_now(rt);
         for (archive, timemap) in &settings.archives {
             round.harvest(rt, settings, merger, *archive, timemap, revision);
         }
@@ -114,10 +116,13 @@ impl Round {
         }
     }
 
-    // Appends what the peer of this number has learnt since it was pulled last, where it answers with a delta.
+    // Appends what the peer of this number has learnt since it was pulled last, where it answers with a delta that
+    // follows on the held cursor. Else the cursor stays, and the next round asks from it again.
     fn pull<R>(&mut self, rt: &R, merger: &mut Merger, number: u64, peer: &Clean)
     where
         R: SocketRuntime,
+        ensures { Pulls number self.old merger.old self.new merger.new
+            ⊎ PullsNothing self.old merger.old self.new merger.new }
     {
         let Ok(delta) = pull_delta(rt, peer, merger.cursor(number)) else {
             return;
@@ -169,24 +174,6 @@ fn job_of(
         revision,
         first,
     })
-}
-
-// What has passed since 1970 by the clock: nothing before, or where there is no clock.
-fn passed_since_1970(rt: &impl Clock) -> Duration {
-    let Ok(now) = SystemTime::now(rt) else {
-        return Duration::ZERO;
-    };
-    now.duration_since(UNIX_EPOCH).unwrap_or(Duration::ZERO)
-}
-
-// The revision of the harvests of a round: the clock's seconds since 1970.
-fn seconds_now(rt: &impl Clock) -> u64 {
-    passed_since_1970(rt).as_secs()
-}
-
-/// The incarnation of a replica that starts now: the clock's nanoseconds since 1970, as far as 64 bits tell them.
-pub(crate) fn nanoseconds_now(rt: &impl Clock) -> u64 {
-    u64::try_from(passed_since_1970(rt).as_nanos()).unwrap_or(u64::MAX)
 }
 
 /// Waits as long as the settings say between two rounds.

@@ -7,9 +7,10 @@ ghost use Rattle.std.specs.Io.KnownBytes.{Appends};
 ghost use Rattle.aggregator.specs.Lines.{round_line};
 
 use crate::check::settings_in;
+use crate::clocks::incarnation_now;
 use crate::failure::Failure;
 use crate::gates::{Doors, open_doors};
-use crate::rounds::{Round, nanoseconds_now, sleep_between};
+use crate::rounds::{Round, sleep_between};
 use crate::runtimes::SocketRuntime;
 use crate::settings::Settings;
 use hyper_edge::EdgeFault;
@@ -114,8 +115,8 @@ where
         Ok(service) => service,
         Err(_) => return Err(ServeFault::NoMemory),
     };
-    let count = settings.gates.len();
-    let (mut merger, gates) = open(rt, rt.alloc(), service, count, nanoseconds_now(rt))?;
+    let incarnation = incarnation_now(rt);
+    let (mut merger, gates) = open(rt, rt.alloc(), service, settings.gates.len(), incarnation)?;
     let served = serve_gates(rt, settings, gates, &mut merger, &mut out);
     merger.close(rt);
     served?;

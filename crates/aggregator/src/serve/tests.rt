@@ -1,4 +1,4 @@
-//! The whole service over loopback: an archive, a round, and what a reader and a peer are then told.
+//! The whole service over loopback: an archive that is also a peer, a round, and what a reader and a peer are told.
 use crate::runtimes::SocketRuntime;
 use crate::serve::{ServeFault, serve_settings};
 use crate::settings::read_settings;
@@ -8,7 +8,7 @@ use hyper_edge::{GateService, bind, pull_delta, serve_gate};
 use memento_index::Merge;
 use memento_time::{ArchiveName, Clean, Memento, Moment, Original};
 use published_index::{Gate, Merger, open};
-use replica_exchange::{TakeFault, write_state};
+use replica_exchange::write_state;
 use std::alloc::{AllocGlobal, Global};
 use std::io::{self, Write};
 use std::net::{Net, TcpListener, TcpStream};
@@ -109,7 +109,7 @@ where
     serve_gate(rt, &mut bound, &service, 3).ok()
 }
 
-// A service of one round over the archive on this port.
+// A service of one round over the archive on this port, which it also pulls from.
 fn serve_over<R>(rt: &R, port: u16, out: Told<R>) -> Option<Result<(), ServeFault>>
 where
     R: SocketRuntime + Threads + Sync + Send + Clone + Drop + 'static,
@@ -124,7 +124,7 @@ rounds = 1
 pause = 0
 workers = 1
 originals = ["http://a.example/"]
-peers = []
+peers = ["http://127.0.0.1:{port}"]
 
 [[archives]]
 name = "arc.example"
@@ -156,61 +156,13 @@ where
 struct Seen {
     lines: String,
     reply: String,
-    pulled: Pulled,
-}
-
-/// What two pulls gave.
-#[derive(Drop)]
-struct Pulled {
-    /// The state of the first.
     state: Vec<u8>,
-    /// How many entries the second had.
-    later: usize,
-    /// What a merger says of the second that didn't take the first.
-    refused: Result<(), TakeFault>,
 }
 
 fn port_in(lines: &str) -> Option<&str> {
     let (_before, rest) = lines.split_once("gate 127.0.0.1:")?;
     let (port, _after) = rest.split_once('\n')?;
     Some(port)
-}
-
-// Pulls what the archive knows, and then what it has learnt since.
-fn pull_twice<R>(rt: &R, peer: &Clean, merger: &mut Merger, fresh: &mut Merger) -> Option<Pulled>
-where
-    R: SocketRuntime,
-{
-    let whole = pull_delta(rt, peer, merger.cursor(1)).ok()?;
-    merger.append_delta(1, &whole).ok()?;
-    let later = pull_delta(rt, peer, merger.cursor(1)).ok()?;
-    merger.append_delta(1, &later).ok()?;
-    Some(Pulled {
-        state: write_state(rt.alloc(), &whole.state).ok()?,
-        later: later.state.len(),
-        refused: fresh.append_delta(1, &later),
-    })
-}
-
-// Pulls to two mergers that know nothing.
-fn pull_to_mergers<R>(rt: &R, peer: &Clean) -> Option<Pulled>
-where
-    R: SocketRuntime,
-{
-    let alloc = rt.alloc();
-    let base = Service::new(alloc, "http://agg.example").ok()?;
-    let other = base.try_clone().ok()?;
-    let (mut merger, _gates) = open(rt, alloc, base, 1, 8).ok()?;
-    let pulled = match open(rt, alloc, other, 1, 9) {
-        Ok((mut fresh, _gates)) => {
-            let pulled = pull_twice(rt, peer, &mut merger, &mut fresh);
-            fresh.close(rt);
-            pulled
-        }
-        Err(_) => None,
-    };
-    merger.close(rt);
-    pulled
 }
 
 // Asks the service once its round is published, and pulls what the archive knows.
@@ -227,11 +179,12 @@ where
         return None;
     };
     let peer = Clean::new(alloc, peer.as_bytes()).ok()?;
-    let pulled = pull_to_mergers(rt, &peer)?;
+    let delta = pull_delta(rt, &peer, None).ok()?;
+    let state = write_state(alloc, &delta.state).ok()?;
     Some(Seen {
         lines,
         reply,
-        pulled,
+        state,
     })
 }
 
@@ -287,15 +240,13 @@ fn a_round_is_served(rt: HostRuntime) -> Result<(), Fail> {
     let seen = seen.ok_or("nothing was seen")?;
     let (gate, rest) = seen.lines.as_str().split_once('\n').ok_or("no line")?;
     assert!(rt; gate.starts_with("gate 127.0.0.1:"));
-    assert_eq!(rt; rest, "round 1 jobs 1 harvests 1 pulls 0 published\ndone\n");
+    assert_eq!(rt; rest, "round 1 jobs 1 harvests 1 pulls 1 published\ndone\n");
     assert!(rt; seen.reply.as_str().starts_with("HTTP/1.1 302 "));
     assert!(rt;
         seen.reply.as_str().contains(
             "\r\nlocation: http://arc.example/web/20000101000000/http://a.example/\r\n"
         )
     );
-    assert_eq!(rt; seen.pulled.state.as_slice(), STATE.as_bytes());
-    assert_eq!(rt; seen.pulled.later, 0);
-    assert!(rt; seen.pulled.refused == Err(TakeFault::Gap { held: None }));
+    assert_eq!(rt; seen.state.as_slice(), STATE.as_bytes());
     Ok(())
 }
