@@ -7,8 +7,8 @@
 //! - `measure hostile COUNT < TEXT`: reads the text of a state and absorbs it in an index of nothing, COUNT times.
 //! - `measure memory COUNT`: fills an index with COUNT mementos, ten of each original.
 //! - `measure stamped COUNT`: takes these mementos with a replica that stamps its entries.
-//! - `measure last COUNT`, `measure all COUNT`: takes them too, and writes ten times the delta with the last merge, or with
-//!   all merges.
+//! - `measure last COUNT`, `measure all COUNT`: takes them too, and writes ten times the delta with the last merge, or
+//!   with all merges.
 //! - `measure walk COUNT`: walks over 64 pages of 1,500 mementos each, COUNT times.
 //! - `measure read COUNT`: fetches and reads these pages COUNT times, and does no more with them.
 //! - `measure round WORKERS`: a round of 1,000 jobs, each of a page that takes a millisecond.

@@ -48,8 +48,8 @@ fn has_link_format(link: &LinkRef<'_>) -> Result<bool, AllocError>
     }
 }
 
-/// What says of a link whether it names a memento, and of which datetime: its first `rel`, or an empty one, and its first
-/// `datetime`, if it has one.
+/// What says of a link whether it names a memento, and of which datetime: its first `rel`, or an empty one, and its
+/// first `datetime`, if it has one.
 #[derive(Drop)]
 pub(crate) struct Role<'a> {
     pub rel: CowSlice<'a, u8>,
