@@ -4,8 +4,8 @@ use Rattle.std.specs.Option.{MatchOption}
 use Rattle.std.specs.Cmp.{IsTotalOrder, on_total, then_total}
 use Rattle.std.specs.Cmp.Lexicographic.{nat_list_cmp_total}
 use Rattle.std.specs.FinMap as map
-use Rattle.harvest_lattice.specs.Sets as set
-use Rattle.harvest_lattice.proofs.Sets as sets
+use Rattle.memento_sets.specs.Sets as set
+use Rattle.memento_sets.proofs.Sets as sets
 use Rattle.std.proofs.lemmas.Bool.Decides.{nat_tests}
 use Rattle.memento_time.specs.Mementos.{text_cmp, memento_cmp}
 use Rattle.memento_time.proofs.MementoLemmas.{memento_cmp_total, memento_cmp_exact}
@@ -13,10 +13,11 @@ use Rattle.memento_time.specs.declared.mementos.Memento.{Memento}
 use Rattle.std.proofs.lemmas.Option.{none-some, same_Some}
 use Rattle.std.proofs.lemmas.Bool.{eq-eqb, ne_eqb}
 use Rattle.std.proofs.lemmas.Map.Lookups.{exact_pairs}
-use Rattle.harvest_lattice.specs.Maps.{join_values}
-use Rattle.harvest_lattice.specs.Lattice.{Key, key_cmp, Kept, Entries, KeptAtMost, AtMost, Mementos, mementos_at, join_kept, join}
-use Rattle.harvest_lattice.proofs.Semilattice.{IsSemilattice, join_trans, join_antisymm, join_left, join_right, join_least}
-use Rattle.harvest_lattice.proofs.Maps.{maps_semilattice, get-join_by}
+use Rattle.memento_sets.specs.Maps.{join_values}
+use Rattle.memento_sets.specs.MementoSets.{Mementos}
+use Rattle.memento_sets.proofs.Semilattice.{IsSemilattice, join_trans, join_antisymm, join_left, join_right, join_least}
+use Rattle.memento_sets.proofs.Maps.{maps_semilattice, get-join_by}
+use Rattle.harvest_lattice.specs.Lattice.{Key, key_cmp, Kept, Entries, KeptAtMost, AtMost, mementos_at, join_kept, join}
 
 pub contains-mementos_at : (r : ℕ) (e : Kept) (m : Memento) → set.contains (mementos_at r e) m ≡ (eqb e.revision r && set.contains e.mementos m)
 contains-mementos_at r e m =

@@ -10,9 +10,9 @@ use Rattle.std.specs.declared.cmp.Ordering.TheVariants.{Less, Equal, Greater}
 use Rattle.std.specs.Cmp.{Equal-is, tied_itself, both_ways}
 use Rattle.std.specs.FinMap as fmap
 use Rattle.std.specs.FinMap.Entries.{below_all}
-use Rattle.harvest_lattice.specs.Sets as set
-use Rattle.harvest_lattice.proofs.Sets as sets
-use Rattle.harvest_lattice.proofs.Sets.{two_parts}
+use Rattle.memento_sets.specs.Sets as set
+use Rattle.memento_sets.proofs.Sets as sets
+use Rattle.memento_sets.proofs.Sets.{two_parts}
 use Rattle.std.proofs.lemmas.Bool.{true≢false, and_parts, and_from, or_left, or_right, or_cases, cases_lt, eqb-true, eq-eqb, leb-true, le-leb}
 use Rattle.std.proofs.lemmas.List.Folds.{Any-from_list_any, list_any-from_Any}
 use Rattle.std.proofs.lemmas.Bool.Decides.{nat_tests}
@@ -21,10 +21,11 @@ use Rattle.std.proofs.lemmas.List.Elements.{All-from_recursion, recursion_from_A
 use Rattle.memento_time.specs.Mementos.{text_cmp, memento_cmp}
 use Rattle.memento_time.proofs.MementoLemmas.{memento_cmp_total, memento_cmp_exact}
 use Rattle.memento_time.specs.declared.mementos.Memento.{Memento}
-use Rattle.harvest_lattice.specs.Maps.{join_values}
-use Rattle.harvest_lattice.specs.Lattice.{Key, key_cmp, Kept, Entries, KeptAtMost, AtMost, Mementos, join_kept, join}
+use Rattle.memento_sets.specs.Maps.{join_values}
+use Rattle.memento_sets.specs.MementoSets.{Mementos}
+use Rattle.memento_sets.proofs.Maps.{get-tabulate}
+use Rattle.harvest_lattice.specs.Lattice.{Key, key_cmp, Kept, Entries, KeptAtMost, AtMost, join_kept, join}
 use Rattle.harvest_lattice.specs.Knowledge.{Harvested, key_of, has_key, latest, not_before, is_current, union_all, entry_of, lat, harvest_at, adds, shown, shown_of, IsShown}
-use Rattle.harvest_lattice.proofs.Maps.{get-tabulate}
 use Rattle.harvest_lattice.proofs.Entries.{same_mementos, same_kept, revision-join_kept, contains-join_kept, key_cmp_total, key_cmp_exact, get-join, join_semilattice, at_most_left, at_most_right, at_most_least, at_most_trans, at_most_antisymm}
 
 -- ---- unions

@@ -1,16 +1,10 @@
-pub mod Semilattice
-pub mod Maps
-pub mod Sets
 pub mod Entries
 pub mod Knowledge
-pub mod Ordered
 pub mod RowLemmas
 pub mod ShownLemmas
 pub mod Walked
-pub mod Searched
 pub mod ShelfLemmas
 pub mod Rising
 pub mod Made
 pub mod NewsLemmas
 pub mod BackupLemmas
-pub mod UnitedLemmas

@@ -7,14 +7,15 @@ use Rattle.std.proofs.lemmas.Option.{none-some, same_Some}
 use Rattle.memento_time.specs.Mementos.{memento_cmp}
 use Rattle.memento_time.proofs.MementoLemmas.{memento_cmp_total, memento_cmp_exact}
 use Rattle.memento_time.specs.declared.mementos.Memento.{Memento}
-use Rattle.harvest_lattice.specs.Sets as set
+use Rattle.memento_sets.specs.Sets as set
+use Rattle.memento_sets.specs.MementoSets.{mementos_rise}
+use Rattle.memento_sets.proofs.Ordered.{sorted_marked}
+use Rattle.memento_sets.proofs.Rising.{is_true}
+use Rattle.memento_sets.proofs.Sets.{items-from_list, from_list-items, items_sorted}
 use Rattle.harvest_lattice.specs.Lattice.{Key, key_cmp, Kept, Entries}
-use Rattle.harvest_lattice.specs.Rows.{map_with, kept_with, keys_rise, mementos_rise}
+use Rattle.harvest_lattice.specs.Rows.{map_with, kept_with, keys_rise}
 use Rattle.harvest_lattice.proofs.Entries.{key_cmp_total, key_cmp_exact}
-use Rattle.harvest_lattice.proofs.Ordered.{sorted_marked}
-use Rattle.harvest_lattice.proofs.Rising.{is_true}
 use Rattle.harvest_lattice.proofs.RowLemmas.{entries_made}
-use Rattle.harvest_lattice.proofs.Sets.{items-from_list, from_list-items, items_sorted}
 
 -- the map of a map's entries is that map
 pub map_of_entries : (x : Entries) → fmap.from_entries (fmap.entries x) ≡ x

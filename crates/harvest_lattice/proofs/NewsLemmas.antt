@@ -13,14 +13,15 @@ use Rattle.std.proofs.lemmas.Map.Views.{any-filter_same}
 use Rattle.memento_time.specs.Mementos.{memento_cmp}
 use Rattle.memento_time.proofs.MementoLemmas.{memento_cmp_total, memento_cmp_exact}
 use Rattle.memento_time.specs.declared.mementos.Memento.{Memento}
+use Rattle.memento_sets.specs.Maps.{join_values}
+use Rattle.memento_sets.specs.Sets as set
+use Rattle.memento_sets.specs.MementoSets.{Mementos}
+use Rattle.memento_sets.proofs.Sets.{contains-from_list, contains-union, two_parts, both_parts}
 use Rattle.harvest_lattice.specs.declared.row.Row.{Row}
-use Rattle.harvest_lattice.specs.Maps.{join_values}
-use Rattle.harvest_lattice.specs.Sets as set
-use Rattle.harvest_lattice.specs.Lattice.{Key, key_cmp, Kept, KeptAtMost, Mementos, Entries, IsAtMostAt, join_kept, join, join_at}
+use Rattle.harvest_lattice.specs.Lattice.{Key, key_cmp, Kept, KeptAtMost, Entries, IsAtMostAt, join_kept, join, join_at}
 use Rattle.harvest_lattice.specs.Knowledge.{Harvested, key_of, lat}
 use Rattle.harvest_lattice.specs.News.{AreApart, IsFresh, IsNews, news_at, IsNoted}
 use Rattle.harvest_lattice.specs.Rows.{row_entry}
-use Rattle.harvest_lattice.proofs.Sets.{contains-from_list, contains-union, two_parts, both_parts}
 use Rattle.harvest_lattice.proofs.Entries.{same_mementos, same_kept, revision-join_kept, contains-join_kept, key_cmp_total, key_cmp_exact, get-join, join_from_at_most, entry_semilattice}
 use Rattle.harvest_lattice.proofs.Knowledge.{single, get-lat_one, same_key, below_none}
 use Rattle.harvest_lattice.proofs.RowLemmas.{without_sorted, get-joined}

@@ -19,13 +19,13 @@ use Rattle.std.specs.FinMap.Entries.{below_all}
 use Rattle.memento_time.specs.Mementos.{text_cmp}
 use Rattle.std.specs.Option.{unwrap_or}
 use Rattle.std.proofs.lemmas.Bool.{and_parts}
-use Rattle.harvest_lattice.specs.Maps.{join_values}
+use Rattle.memento_sets.specs.Maps.{join_values}
+use Rattle.memento_sets.proofs.Rising.{from_keys}
+use Rattle.memento_sets.proofs.Sets.{two_parts, both_parts}
 use Rattle.harvest_lattice.specs.Lattice.{Key, key_cmp, Kept, Entries, join_kept, join_at}
 use Rattle.harvest_lattice.specs.Rows.{put_back}
 use Rattle.harvest_lattice.specs.Shelves.{Shelved, Shelves, shelf_at, entry_in, shelf_rows, all_rows, entries_of}
 use Rattle.harvest_lattice.proofs.Entries.{key_cmp_total, key_cmp_exact}
-use Rattle.harvest_lattice.proofs.Rising.{from_keys}
-use Rattle.harvest_lattice.proofs.Sets.{two_parts, both_parts}
 
 pub text_exact : (a b : List ℕ) → text_cmp a b ≡ Equal → a ≡ b
 text_exact a b e = slice_cmp-IsAntisymmetric nat_cmp-IsAntisymmetric a b e

@@ -10,12 +10,13 @@ use Rattle.std.proofs.lemmas.List.Folds.{list_any-append}
 use Rattle.memento_time.specs.Mementos.{text_cmp, memento_cmp}
 use Rattle.memento_time.proofs.MementoLemmas.{memento_cmp_total, memento_cmp_exact}
 use Rattle.memento_time.specs.declared.mementos.Memento.{Memento}
-use Rattle.harvest_lattice.specs.Sets as set
-use Rattle.harvest_lattice.specs.Lattice.{Key, Kept, Mementos}
+use Rattle.memento_sets.specs.Sets as set
+use Rattle.memento_sets.specs.MementoSets.{Mementos}
+use Rattle.memento_sets.proofs.Sets.{contains-from_list, less_from, two_parts}
+use Rattle.harvest_lattice.specs.Lattice.{Key, Kept}
 use Rattle.harvest_lattice.specs.Knowledge.{shown_of}
 use Rattle.harvest_lattice.specs.Shelves.{Shelved, shelf_rows, all_rows}
 use Rattle.std.specs.Ordering.{is_lt, is_eq}
-use Rattle.harvest_lattice.proofs.Sets.{contains-from_list, less_from, two_parts}
 use Rattle.harvest_lattice.proofs.Entries.{same_mementos}
 use Rattle.harvest_lattice.proofs.Knowledge.{contains-shown_of}
 use Rattle.std.specs.Map.{keys_of}

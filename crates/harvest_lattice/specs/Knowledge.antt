@@ -6,12 +6,13 @@ use Rattle.memento_time.specs.declared.mementos.Memento.{Memento}
 use Rattle.std.specs.Option.{option_map}
 use Rattle.std.specs.Ordering.{eq_by_cmp}
 use Rattle.std.specs.FinMap as map
-use Rattle.harvest_lattice.specs.Sets as set
+use Rattle.memento_sets.specs.Sets as set
 use Rattle.std.specs.Prelude.{refl}
 use Rattle.std.specs.Coded.{Coded, code_by, coded×}
 use Rattle.memento_time.specs.Mementos.{text_cmp}
-use Rattle.harvest_lattice.specs.Maps.{join_values, tabulate}
-use Rattle.harvest_lattice.specs.Lattice.{Mementos, Key, key_cmp, Kept, Entries, coded_key, coded_kept}
+use Rattle.memento_sets.specs.Maps.{join_values, tabulate}
+use Rattle.memento_sets.specs.MementoSets.{Mementos}
+use Rattle.harvest_lattice.specs.Lattice.{Key, key_cmp, Kept, Entries, coded_key, coded_kept}
 
 -- what an archive had of an original at a revision
 pub record Harvested : Type 0 where

@@ -1,19 +1,15 @@
 -- What a replica keeps of each archive and original, and the order of what is kept.
-use Rattle.std.specs.Prelude.{◌≡◌, ℕ, ◌≤◌, ◌==◌, true, cond, max, List, Some, IfSome}
+use Rattle.std.specs.Prelude.{◌≡◌, ℕ, ◌≤◌, ◌==◌, cond, max, List, Some, IfSome}
 use Rattle.std.specs.declared.cmp.Ordering.{Ordering}
 use Rattle.std.specs.Ordering.{ordering_then}
 use Rattle.std.specs.Option.{MatchOption, unwrap_or}
 use Rattle.std.specs.FinMap as map
-use Rattle.harvest_lattice.specs.Sets as set
+use Rattle.memento_sets.specs.Sets as set
+use Rattle.memento_sets.specs.MementoSets.{Mementos, IsSubset}
 use Rattle.std.specs.Prelude.{refl}
 use Rattle.std.specs.Coded.{Coded, code_by, coded×, coded_ℕ, coded_list}
-use Rattle.memento_time.specs.Mementos.{text_cmp, memento_cmp, coded_memento}
-use Rattle.memento_time.specs.declared.mementos.Memento.{Memento}
-use Rattle.harvest_lattice.specs.Maps.{join_values, join_by}
-
--- a finite set of mementos
-abbrev pub Mementos : Type 0
-Mementos = set.Set memento_cmp
+use Rattle.memento_time.specs.Mementos.{text_cmp, coded_memento}
+use Rattle.memento_sets.specs.Maps.{join_values, join_by}
 
 -- an archive and an original, by their bytes
 abbrev pub Key : Type 0
@@ -31,10 +27,6 @@ pub record Kept : Type 0 where
 -- a state: a finite map from archive and original to what is kept of them
 abbrev pub Entries : Type 0
 Entries = map.FinMap key_cmp Kept
-
--- each memento of the one is in the other
-abbrev pub IsSubset : Mementos → Mementos → Type 0
-IsSubset a b = (m : Memento) → set.contains a m ≡ true → set.contains b m ≡ true
 
 -- the other's revision is no less, and where it is the same the other has every memento
 pub record KeptAtMost (a b : Kept) : Type 0 where

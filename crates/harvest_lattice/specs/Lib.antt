@@ -1,5 +1,3 @@
-pub mod Maps
-pub mod Sets
 pub mod Lattice
 pub mod Knowledge
 pub mod Rows

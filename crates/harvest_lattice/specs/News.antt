@@ -1,9 +1,10 @@
 -- What comes to a state and is news to it.
 use Rattle.std.specs.Prelude.{◌≡◌, ◌⊎◌, ◌++◌, ◌==◌, true, cond, map, List, [], ◌∷◌, Option, Some, None, IfSome}
 use Rattle.std.specs.FinMap as fmap
-use Rattle.harvest_lattice.specs.Sets as set
+use Rattle.memento_sets.specs.Sets as set
 use Rattle.std.specs.Option.{MatchOption}
-use Rattle.harvest_lattice.specs.Lattice.{Mementos, Key, Kept, Entries, IsAtMostAt, join}
+use Rattle.memento_sets.specs.MementoSets.{Mementos}
+use Rattle.harvest_lattice.specs.Lattice.{Key, Kept, Entries, IsAtMostAt, join}
 use Rattle.harvest_lattice.specs.Rows.{row_entry}
 use Rattle.harvest_lattice.specs.declared.row.Row.{Row}
 

@@ -3,9 +3,9 @@ use Rattle.std.specs.Prelude.{◌≡◌, ℕ, Bool, cond, T, List, map, Option, 
 use Rattle.std.specs.Option.{option_map}
 use Rattle.std.specs.Borrow.{Bor}
 use Rattle.std.specs.FinMap as fmap
-use Rattle.memento_time.specs.Mementos.{memento_cmp}
 use Rattle.memento_time.specs.declared.mementos.Memento.{Memento}
-use Rattle.harvest_lattice.specs.Sets as set
+use Rattle.memento_sets.specs.Sets as set
+use Rattle.memento_sets.specs.MementoSets.{mementos_rise}
 use Rattle.harvest_lattice.specs.Lattice.{Key, key_cmp, Kept, Entries}
 use Rattle.harvest_lattice.specs.declared.backup.Backup.{Backup}
 use Rattle.harvest_lattice.specs.declared.row.Row.{Row}
@@ -23,17 +23,9 @@ row_entry row = (row_key row, row.entry)
 abbrev pub RowsRise : List Row → Type 0
 RowsRise rows = T (fmap.is_sorted key_cmp (map row_entry rows))
 
--- mementos that stand in their order, none twice
-abbrev pub mementos_rise : List Memento → Bool
-mementos_rise ms = fmap.is_sorted memento_cmp (set.as_keys ms)
-
 -- the keys stand in order, each once
 abbrev pub keys_rise : List (Key × Kept) → Bool
 keys_rise es = fmap.is_sorted key_cmp es
-
--- the set of these mementos, where they stand in order
-abbrev pub mementos_with : List Memento → Option (set.Set memento_cmp)
-mementos_with ms = cond (mementos_rise ms) (Some (set.from_list ms)) None
 
 -- these mementos at the revision, where they stand in order
 abbrev pub kept_with : ℕ → List Memento → Option Kept

@@ -1,11 +1,11 @@
 //! What a state has of one archive and original: nothing outside this file looks inside an entry.
 ghost use Rattle.std.specs.Prelude.{◌≡◌, ◌↔◌, IsTrue, IfOk, OnOk, OnErr, Some};
 ghost use Rattle.std.specs.Arc.{arc_value};
-ghost use Rattle.harvest_lattice.specs.Sets as set;
+ghost use Rattle.memento_sets.specs.Sets as set;
 ghost use Rattle.harvest_lattice.specs.Lattice.{join_kept, KeptAtMost};
 ghost use Rattle.harvest_lattice.specs.News.{news_at};
 
-use crate::mementos::Mementos;
+use memento_sets::Mementos;
 use memento_time::{Memento, NoMemory};
 use std::cmp::Ordering;
 use std::marker::Model;

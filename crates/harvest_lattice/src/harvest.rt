@@ -1,14 +1,14 @@
 //! Harvests: what an archive had of an original.
 ghost use Rattle.std.specs.Prelude.{◌≡◌, ◌<◌, ◌≤◌, IfOk, IsErrOf, Some, length};
 ghost use Rattle.memento_time.specs.Mementos.{memento_cmp};
+ghost use Rattle.memento_sets.specs.Sets as set;
 ghost use Rattle.harvest_lattice.specs.Faults.{words_of};
 ghost use Rattle.harvest_lattice.specs.Knowledge.{key_of};
 ghost use Rattle.harvest_lattice.specs.Rows.{row_entry};
-ghost use Rattle.harvest_lattice.specs.Sets as set;
 
 use crate::entry::Entry;
-use crate::mementos::Mementos;
 use crate::row::Row;
+use memento_sets::Mementos;
 use memento_time::{ArchiveName, Memento, NoMemory, Original};
 use std::error::Error;
 use std::fmt;

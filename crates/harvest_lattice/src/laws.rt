@@ -1,13 +1,11 @@
 //! Laws of the definitions.
 ghost use Rattle.std.specs.Prelude.{◌≡◌, ℕ, ◌++◌, ◌↔◌, List, [], Some, IsTrue};
 ghost use Rattle.std.specs.FinMap as map;
-ghost use Rattle.std.specs.List.Sorted.{IsStrictlySortedBy};
-ghost use Rattle.memento_time.specs.Mementos.{memento_cmp};
 ghost use Rattle.memento_time.specs.declared.mementos.Memento.{Memento};
-ghost use Rattle.harvest_lattice.specs.Sets as set;
+ghost use Rattle.memento_sets.specs.Sets as set;
 ghost use Rattle.std.specs.List.{Contains};
 ghost use Rattle.harvest_lattice.specs.Knowledge.{Harvested, IsShown, adds, lat, shown, shown_of};
-ghost use Rattle.harvest_lattice.specs.Lattice.{Entries, Key, Kept, Mementos, AtMost, join};
+ghost use Rattle.harvest_lattice.specs.Lattice.{Entries, Key, Kept, AtMost, join};
 ghost use Rattle.harvest_lattice.specs.Rows.{kept_with, map_with};
 
 /// `AtMost` is a partial order.
@@ -63,15 +61,6 @@ pub fn a_state_is_its_rows()
         → map_with rows ≡ Some state ↔ map.entries state ≡ rows }
     ensures entry { (revision : ℕ) (list : List Memento) (kept : Kept)
         → kept_with revision list ≡ Some kept ↔ (kept.revision ≡ revision) × (set.items kept.mementos ≡ list) }
-{}
-
-/// A sorted list of the members of a set, each once, is the one that `items` gives.
-pub fn one_list_of_a_set()
-    ensures sorted { (mementos : Mementos) → IsStrictlySortedBy memento_cmp (set.items mementos) }
-    ensures once { (list : List Memento) → IsStrictlySortedBy memento_cmp list
-        → set.items (set.from_list {R = memento_cmp} list) ≡ list }
-    ensures members { (list : List Memento) (m : Memento)
-        → IsTrue (set.contains (set.from_list {R = memento_cmp} list) m) ↔ Contains list m }
 {}
 
 /// What is shown of an original is what its latest harvests have.

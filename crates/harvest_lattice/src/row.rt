@@ -1,12 +1,12 @@
 //! Rows: entries with their keys.
 ghost use Rattle.std.specs.Prelude.{◌≡◌, IfOk, map as map_list};
 ghost use Rattle.std.specs.Option.{option_map};
-ghost use Rattle.harvest_lattice.specs.Sets as set;
+ghost use Rattle.memento_sets.specs.Sets as set;
 ghost use Rattle.harvest_lattice.specs.Lattice.{key_cmp};
 ghost use Rattle.harvest_lattice.specs.Rows.{keys_rise, row_entry, row_key, entry_with};
 
 use crate::entry::Entry;
-use crate::mementos::Mementos;
+use memento_sets::Mementos;
 use memento_time::{ArchiveName, Memento, NoMemory, Original};
 use std::cmp::Ordering;
 use std::marker::Model;

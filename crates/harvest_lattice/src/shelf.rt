@@ -4,8 +4,8 @@ ghost use Rattle.std.specs.Prelude.{OnErr, option_copied, Some, None};
 ghost use Rattle.std.specs.FinMap as map;
 ghost use Rattle.std.specs.Ordering.{eq_by_cmp};
 ghost use Rattle.memento_time.specs.Mementos.{text_cmp};
+ghost use Rattle.memento_sets.specs.Maps.{join_values};
 ghost use Rattle.harvest_lattice.specs.Lattice.{join_kept};
-ghost use Rattle.harvest_lattice.specs.Maps.{join_values};
 ghost use Rattle.harvest_lattice.specs.Rows.{put_back};
 
 use crate::entry::Entry;

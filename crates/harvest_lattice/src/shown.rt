@@ -1,13 +1,13 @@
 // What is shown of an original.
-ghost use Rattle.std.specs.Prelude.{◌≡◌, IfOk};
+ghost use Rattle.std.specs.Prelude.{◌≡◌, ◌++◌, IfOk, OnOk};
 ghost use Rattle.std.specs.BTreeMap.{IsOrdered};
 ghost use Rattle.memento_time.specs.Mementos.{text_cmp};
-ghost use Rattle.harvest_lattice.specs.Sets as set;
+ghost use Rattle.memento_sets.specs.Sets as set;
 ghost use Rattle.harvest_lattice.specs.Knowledge.{shown_of};
 ghost use Rattle.harvest_lattice.specs.Shelves.{entries_of};
 
-use crate::mementos::{Mementos, append_copies};
 use crate::shelves::Shelves;
+use memento_sets::Mementos;
 use memento_time::{Memento, NoMemory, Original};
 use std::alloc::Global;
 
@@ -27,4 +27,14 @@ pub fn collect_shown(
         }
     }
     Ok(Mementos::of(all).into_vec())
+}
+
+// Appends copies of these mementos. After an error some may stand in the list.
+fn append_copies(list: &mut Vec<Memento>, mementos: &[Memento]) -> Result<(), NoMemory>
+    ensures { OnOk result (list.new.items ≡ list.old.items ++ mementos.now) }
+{
+    for memento in mementos {
+        list.push(memento.try_clone()?)?;
+    }
+    Ok(())
 }

@@ -3,7 +3,7 @@ ghost use Rattle.std.specs.Prelude.{◌≡◌, ◌≤◌, ◌<◌, ◌∷◌, []
 ghost use Rattle.std.specs.Prelude.{length, slice_get, option_copied, map as map_list};
 ghost use Rattle.std.specs.Ordering.{eq_by_cmp};
 ghost use Rattle.std.specs.FinMap as map;
-ghost use Rattle.harvest_lattice.specs.Sets as set;
+ghost use Rattle.memento_sets.specs.Sets as set;
 ghost use Rattle.harvest_lattice.specs.Lattice.{Entries, Key, key_cmp, AtMost, IsAtMostAt, join, join_at};
 ghost use Rattle.harvest_lattice.specs.Knowledge.{lat, shown_of};
 ghost use Rattle.harvest_lattice.specs.News.{IsNews, IsNewsOf, IsNoted};

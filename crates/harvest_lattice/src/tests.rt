@@ -38,10 +38,6 @@ fn are(alloc: Global, list: &[Memento], captures: &[Capture]) -> Result<bool, Fa
     Ok(list == mementos(alloc, captures)?.as_slice())
 }
 
-fn set(alloc: Global, captures: &[Capture]) -> Result<Mementos, Fail> {
-    Ok(Mementos::of(mementos(alloc, captures)?))
-}
-
 fn archive(name: &str) -> Result<ArchiveName, Fail> {
     let archive = ArchiveName::new(name.as_bytes()).ok_or("a name")?;
     Ok(archive)
@@ -143,36 +139,6 @@ fn the_greatest_revision_stays(rt: HostRuntime) -> Result<(), Fail> {
     assert!(rt; shows(alloc, &state, &[FIRST, SECOND, THIRD])?);
     take(alloc, &mut state, "a1", 8, &[])?;
     assert!(rt; shows(alloc, &state, &[])?);
-    Ok(())
-}
-
-// Whether these are what a set has and another hasn't.
-fn is_rest(
-    alloc: Global,
-    set: &Mementos,
-    other: &Mementos,
-    captures: &[Capture],
-) -> Result<bool, Fail> {
-    let rest = set.without(other)?;
-    are(alloc, rest.as_slice(), captures)
-}
-
-fn unite(set: &mut Mementos, other: &Mementos) -> Result<(), Fail> {
-    set.absorb(other.clone()?)?;
-    Ok(())
-}
-
-#[test]
-fn sets_are_united(rt: HostRuntime) -> Result<(), Fail> {
-    let alloc = rt.alloc();
-    let mut all = set(alloc, &[THIRD, SECOND, THIRD])?;
-    assert!(rt; all.len() == 2);
-    let second = set(alloc, &[THIRD, FIRST])?;
-    assert!(rt; is_rest(alloc, &second, &all, &[FIRST])?);
-    assert!(rt; !second.is_subset(&all));
-    unite(&mut all, &second)?;
-    assert!(rt; second.is_subset(&all));
-    assert!(rt; are(alloc, &all.into_vec(), &[FIRST, SECOND, THIRD])?);
     Ok(())
 }
 

@@ -14,9 +14,9 @@ use Rattle.std.proofs.lemmas.Cmp.{ranked}
 use Rattle.memento_time.specs.Mementos.{text_cmp, memento_cmp}
 use Rattle.memento_time.proofs.MementoLemmas.{memento_cmp_total, memento_cmp_exact}
 use Rattle.memento_time.specs.declared.mementos.Memento.{Memento}
-use Rattle.harvest_lattice.specs.Maps.{join_values}
-use Rattle.harvest_lattice.specs.Sets as set
-use Rattle.harvest_lattice.specs.Lattice.{Mementos}
+use Rattle.memento_sets.specs.Maps.{join_values}
+use Rattle.memento_sets.specs.Sets as set
+use Rattle.memento_sets.specs.MementoSets.{Mementos}
 use Rattle.memento_index.specs.Choice.{distance, IsNearest, IsLast, nearness_cmp, recency_cmp, least_by, nearest, last}
 
 abbrev Has : List Memento → Memento → Type 0

@@ -17,12 +17,13 @@ use Rattle.std.specs.List.{list_any, slice_get}
 use Rattle.memento_time.specs.Mementos.{text_cmp, memento_cmp}
 use Rattle.memento_time.specs.declared.mementos.Memento.{Memento}
 use Rattle.memento_time.proofs.MementoLemmas.{memento_cmp_exact}
-use Rattle.harvest_lattice.specs.Sets as set
-use Rattle.harvest_lattice.specs.Lattice.{Key, Kept, Mementos, Entries, IsAtMostAt, KeptAtMost, join_at}
+use Rattle.memento_sets.specs.Sets as set
+use Rattle.memento_sets.specs.MementoSets.{Mementos}
+use Rattle.memento_sets.proofs.Sets.{items_sorted}
+use Rattle.harvest_lattice.specs.Lattice.{Key, Kept, Entries, IsAtMostAt, KeptAtMost, join_at}
 use Rattle.harvest_lattice.specs.News.{AreApart, IsFresh, IsNews}
 use Rattle.harvest_lattice.specs.Rows.{row_entry}
 use Rattle.harvest_lattice.specs.declared.row.Row.{Row}
-use Rattle.harvest_lattice.proofs.Sets.{items_sorted}
 use Rattle.harvest_lattice.proofs.Entries.{contains-join_kept}
 use Rattle.harvest_lattice.proofs.RowLemmas.{map_push}
 use Rattle.memento_index.proofs.Puts.{joined_there, joined_alone}

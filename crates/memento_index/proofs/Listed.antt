@@ -8,10 +8,10 @@ use Rattle.std.proofs.lemmas.Bool.{true≢false}
 use Rattle.memento_time.specs.Mementos.{memento_cmp}
 use Rattle.memento_time.specs.declared.mementos.Memento.{Memento}
 use Rattle.memento_time.proofs.MementoLemmas.{memento_cmp_total, memento_cmp_exact}
-use Rattle.harvest_lattice.specs.Sets as set
-use Rattle.harvest_lattice.specs.Lattice.{Mementos}
-use Rattle.harvest_lattice.proofs.Sets.{contains-from_list, same_set}
-use Rattle.harvest_lattice.proofs.Ordered.{items_in_order}
+use Rattle.memento_sets.specs.Sets as set
+use Rattle.memento_sets.specs.MementoSets.{Mementos}
+use Rattle.memento_sets.proofs.Sets.{contains-from_list, same_set}
+use Rattle.memento_sets.proofs.Ordered.{items_in_order}
 use Rattle.memento_index.specs.Counts.{mementos_of, count_of, AreAbove, IsTally}
 use Rattle.memento_index.specs.declared.counted.Counted.{Counted}
 

@@ -16,11 +16,11 @@ use Rattle.std.proofs.lemmas.Option.{slice_get-get_or}
 use Rattle.memento_time.specs.Mementos.{text_cmp, memento_cmp}
 use Rattle.memento_time.specs.declared.mementos.Memento.{Memento}
 use Rattle.memento_time.proofs.MementoLemmas.{memento_cmp_total, memento_cmp_exact}
-use Rattle.harvest_lattice.specs.Sets as set
-use Rattle.harvest_lattice.specs.Lattice.{Mementos}
+use Rattle.memento_sets.specs.Sets as set
+use Rattle.memento_sets.specs.MementoSets.{Mementos}
 use Rattle.memento_index.specs.Choice.{distance, IsNearest, nearness_cmp, least_by, nearest}
-use Rattle.harvest_lattice.proofs.Sets.{contains-from_list}
-use Rattle.harvest_lattice.proofs.Ordered.{items_in_order}
+use Rattle.memento_sets.proofs.Sets.{contains-from_list}
+use Rattle.memento_sets.proofs.Ordered.{items_in_order}
 use Rattle.memento_index.proofs.Choice.{nearest-is, nearest_once}
 use Rattle.memento_index.specs.Probes.{datetimes, gap}
 

@@ -5,9 +5,9 @@ use Rattle.std.specs.Ordering.{eq_by_cmp, is_lt}
 use Rattle.std.specs.Option.{option_map, unwrap_or}
 use Rattle.std.specs.FinMap as fmap
 use Rattle.std.specs.FinMap.Entries.{below_all}
-use Rattle.harvest_lattice.specs.Maps.{join_values}
+use Rattle.memento_sets.specs.Maps.{join_values}
+use Rattle.memento_sets.proofs.Sets.{two_parts, both_parts}
 use Rattle.harvest_lattice.specs.Lattice.{Key, key_cmp, Kept, Entries, join_kept, join, join_at}
-use Rattle.harvest_lattice.proofs.Sets.{two_parts, both_parts}
 use Rattle.harvest_lattice.proofs.Entries.{key_cmp_total, key_cmp_exact, get-join}
 use Rattle.harvest_lattice.proofs.Knowledge.{same_key}
 

@@ -9,10 +9,10 @@ use Rattle.std.specs.FinMap.Entries.{below_all, by_order, put}
 use Rattle.std.proofs.lemmas.Bool.{true≢false}
 use Rattle.memento_time.specs.Mementos.{text_cmp, memento_cmp}
 use Rattle.memento_time.specs.declared.mementos.Memento.{Memento}
-use Rattle.harvest_lattice.specs.Sets as set
+use Rattle.memento_sets.specs.Sets as set
+use Rattle.memento_sets.proofs.Sets.{two_parts, both_parts, less_from, contains-empty}
 use Rattle.harvest_lattice.specs.Lattice.{Key, key_cmp, Kept, Entries, join}
 use Rattle.harvest_lattice.specs.Knowledge.{shown_of}
-use Rattle.harvest_lattice.proofs.Sets.{two_parts, both_parts, less_from, contains-empty}
 use Rattle.harvest_lattice.proofs.Entries.{key_cmp_total, key_cmp_exact}
 use Rattle.harvest_lattice.proofs.Knowledge.{contains-shown_of, below_none}
 use Rattle.memento_index.proofs.Puts.{put_all, or_else, joined_with, get-put_all, put_joined, joined_sorted}

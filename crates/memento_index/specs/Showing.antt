@@ -4,7 +4,7 @@ use Rattle.std.specs.Ordering.{eq_by_cmp}
 use Rattle.std.specs.FinMap as fmap
 use Rattle.memento_time.specs.Mementos.{text_cmp}
 use Rattle.memento_time.specs.declared.mementos.Memento.{Memento}
-use Rattle.harvest_lattice.specs.Sets as set
+use Rattle.memento_sets.specs.Sets as set
 use Rattle.harvest_lattice.specs.Lattice.{Key, Kept, Entries, join_at}
 
 -- 1 where an entry is there and shows the memento

@@ -5,7 +5,7 @@ ghost use Rattle.std.specs.FinMap as map;
 ghost use Rattle.std.specs.Ordering.{eq_by_cmp};
 ghost use Rattle.memento_time.specs.Mementos.{text_cmp};
 ghost use Rattle.memento_time.specs.declared.mementos.Memento.{Memento as AMemento};
-ghost use Rattle.harvest_lattice.specs.Sets as set;
+ghost use Rattle.memento_sets.specs.Sets as set;
 ghost use Rattle.harvest_lattice.specs.Lattice.{join_at};
 ghost use Rattle.harvest_lattice.specs.Rows.{row_entry, row_key};
 ghost use Rattle.memento_index.specs.Counts.{occurrences};

@@ -1,6 +1,6 @@
 //! A state with the list of each original at hand.
 ghost use Rattle.std.specs.Prelude.{◌≡◌, ◌++◌, List, OnOk, OnErr, IfOk, option_copied};
-ghost use Rattle.harvest_lattice.specs.Sets as set;
+ghost use Rattle.memento_sets.specs.Sets as set;
 ghost use Rattle.harvest_lattice.specs.Lattice.{join};
 ghost use Rattle.harvest_lattice.specs.Knowledge.{Harvested, lat, shown, shown_of};
 ghost use Rattle.memento_index.specs.Choice.{nearest, last};

@@ -1,8 +1,8 @@
 //! Laws of what is nearest and what is last.
 ghost use Rattle.std.specs.Prelude.{◌≡◌, ℕ, ◌+◌, ◌≤◌, [], MatchOption};
 ghost use Rattle.memento_time.specs.declared.mementos.Memento.{Memento};
-ghost use Rattle.harvest_lattice.specs.Sets as set;
-ghost use Rattle.harvest_lattice.specs.Lattice.{Mementos};
+ghost use Rattle.memento_sets.specs.Sets as set;
+ghost use Rattle.memento_sets.specs.MementoSets.{Mementos};
 ghost use Rattle.memento_index.specs.Choice.{IsNearest, IsLast, distance, nearest, last};
 
 /// A distance is what lies between the memento's second and the other, whichever is later.

@@ -10,10 +10,10 @@ use Rattle.std.proofs.lemmas.List.Folds.{list_any-append}
 use base.Stored.{Gv, gnil, gnum, gcons}
 use Rattle.memento_index.specs.declared.merge.Merge.{Merge}
 use Rattle.memento_index.specs.Merges.{adds_of}
-use Rattle.harvest_lattice.specs.Maps.{join_values}
+use Rattle.memento_sets.specs.Maps.{join_values}
+use Rattle.memento_sets.proofs.Maps.{get-tabulate}
 use Rattle.harvest_lattice.specs.Lattice.{Key, key_cmp, Kept, Entries, coded_kept, join, join_kept}
 use Rattle.harvest_lattice.specs.Knowledge.{lat}
-use Rattle.harvest_lattice.proofs.Maps.{get-tabulate}
 use Rattle.harvest_lattice.proofs.Entries.{key_cmp_total, key_cmp_exact, get-join}
 use Rattle.replica_exchange.specs.Stamps.{StampedState, IsStamped, IsRestamped, IsAbsorbed}
 use Rattle.replica_exchange.proofs.StampLemmas.{absorbed_is_stamped}

@@ -3,7 +3,7 @@ use Rattle.std.specs.Prelude.{ℕ, ◌+◌, Bool, true, false, cond, ◌&&◌, �
 use Rattle.std.specs.Coded.{coded_option}
 use Rattle.std.specs.FinMap as map
 use base.Stored.{Gv, gnil, gnum, gcons}
-use Rattle.harvest_lattice.specs.Maps.{tabulate}
+use Rattle.memento_sets.specs.Maps.{tabulate}
 use Rattle.harvest_lattice.specs.Lattice.{Key, Kept, Entries, join, coded_kept}
 use Rattle.harvest_lattice.specs.Knowledge.{lat}
 use Rattle.memento_index.specs.declared.merge.Merge.{Merge}

@@ -1,8 +1,9 @@
 -- What the replies of a world follow from.
 use Rattle.std.proofs.Common.{◌≡◌, ℕ, ◌==◌, Bool, true, false, List, [], length, Option, refl, ap, ◌∙◌, sym, subst, Ok, Some, None, inl, inr}
 use Rattle.std.specs.Prelude.{MatchOption, if◌then◌else◌}
-use Rattle.harvest_lattice.specs.Sets as set
-use Rattle.harvest_lattice.specs.Lattice.{Mementos, Entries}
+use Rattle.memento_sets.specs.Sets as set
+use Rattle.memento_sets.specs.MementoSets.{Mementos}
+use Rattle.harvest_lattice.specs.Lattice.{Entries}
 use Rattle.harvest_lattice.specs.Knowledge.{lat, shown, shown_of}
 use Rattle.harvest_lattice.proofs.Knowledge.{lat_same, shown-lat}
 use Rattle.timemap_writer.specs.TimeMap.{timemap_text}

@@ -10,8 +10,8 @@ use Rattle.std.specs.FinMap as map
 use Rattle.std.proofs.lemmas.Bool.{false≢true, true≢false, cases_Bool, cases_eq, or_cases, or_parts}
 use Rattle.memento_index.specs.declared.merge.Merge.{Merge}
 use Rattle.memento_index.specs.Merges.{adds_of}
+use Rattle.memento_sets.specs.Maps.{join_values}
 use Rattle.harvest_lattice.specs.Lattice.{Key, key_cmp, Kept, join, join_kept, coded_kept}
-use Rattle.harvest_lattice.specs.Maps.{join_values}
 use Rattle.harvest_lattice.specs.Knowledge.{lat}
 use Rattle.harvest_lattice.proofs.Entries.{key_cmp_total, key_cmp_exact, get-join}
 use Rattle.replica_exchange.specs.Stamps.{Stamps, StampedState, IsStamped, IsRestamped, IsAbsorbed}

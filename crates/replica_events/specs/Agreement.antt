@@ -1,6 +1,6 @@
 -- When replicas agree: the same harvests, the same TimeMaps, the same replies, and redirects to nearest mementos.
 use Rattle.std.specs.Prelude.{◌≡◌, ℕ, ◌↔◌, ◌==◌, if◌then◌else◌, List, [], length, Contains, Option, Some, None, Ok}
-use Rattle.harvest_lattice.specs.Sets as set
+use Rattle.memento_sets.specs.Sets as set
 use Rattle.harvest_lattice.specs.Knowledge.{Harvested, shown}
 use Rattle.timegate.specs.declared.reply.Reply.{Reply}
 use Rattle.timegate.specs.declared.request.Request.{Request}

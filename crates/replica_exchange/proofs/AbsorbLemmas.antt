@@ -7,8 +7,8 @@ use Rattle.std.specs.BTreeMap.{IsOrdered}
 use Rattle.std.specs.FinMap as fmap
 use Rattle.std.proofs.lemmas.Option.{none-some, same_Some}
 use Rattle.memento_time.specs.Mementos.{text_cmp}
+use Rattle.memento_sets.specs.Maps.{join_values}
 use Rattle.harvest_lattice.specs.declared.row.Row.{Row}
-use Rattle.harvest_lattice.specs.Maps.{join_values}
 use Rattle.harvest_lattice.specs.Lattice.{Key, key_cmp, Kept, Entries, KeptAtMost, IsAtMostAt, join, join_kept}
 use Rattle.harvest_lattice.specs.Knowledge.{lat}
 use Rattle.harvest_lattice.specs.News.{IsNews}

@@ -9,13 +9,14 @@ use Rattle.memento_time.specs.Text.{IsArchiveName, IsOriginal, IsClean}
 use Rattle.memento_time.specs.Second.{IsSecond}
 use Rattle.memento_time.specs.Mementos.{IsMemento, memento_cmp}
 use Rattle.memento_time.specs.declared.mementos.Memento.{Memento}
-use Rattle.harvest_lattice.specs.Sets as set
-use Rattle.harvest_lattice.specs.Lattice.{Key, Kept, Mementos}
-use Rattle.harvest_lattice.specs.Rows.{mementos_rise, entry_with}
-use Rattle.harvest_lattice.proofs.Sets.{items_sorted, from_list-items}
+use Rattle.memento_sets.specs.Sets as set
+use Rattle.memento_sets.specs.MementoSets.{Mementos, mementos_rise}
+use Rattle.memento_sets.proofs.Sets.{items_sorted, from_list-items}
+use Rattle.memento_sets.proofs.Ordered.{sorted_marked, items_in_order}
+use Rattle.memento_sets.proofs.Rising.{rise_in_order}
+use Rattle.harvest_lattice.specs.Lattice.{Key, Kept}
+use Rattle.harvest_lattice.specs.Rows.{entry_with}
 use Rattle.memento_time.proofs.MementoLemmas.{memento_cmp_total, memento_cmp_exact}
-use Rattle.harvest_lattice.proofs.Ordered.{sorted_marked, items_in_order}
-use Rattle.harvest_lattice.proofs.Rising.{rise_in_order}
 use Rattle.replica_exchange.specs.StateText.{memento_line, entry_line}
 use Rattle.replica_exchange.specs.Spelling.{Spelling, Begins, field, number}
 use Rattle.replica_exchange.specs.Parts.{memento, head, entry, many}

@@ -16,9 +16,9 @@ use Rattle.std.proofs.lemmas.Bool.{true≢false}
 use Rattle.std.specs.FinMap.{slice_cmp-IsAntisymmetric, nat_cmp-IsAntisymmetric}
 use Rattle.std.specs.FinMap.Entries.{below_all}
 use Rattle.memento_time.specs.Mementos.{text_cmp}
+use Rattle.memento_sets.proofs.Sets.{less_from, two_parts}
 use Rattle.harvest_lattice.specs.Lattice.{Key, key_cmp}
 use Rattle.harvest_lattice.proofs.Entries.{key_cmp_total, key_cmp_exact}
-use Rattle.harvest_lattice.proofs.Sets.{less_from, two_parts}
 use Rattle.replica_exchange.specs.StampShelves.{Slots, Shelves, slot_of, slot, filled, slot_rows, shelf_rows, all_rows, stamps_in}
 
 pub text_exact : (a b : List ℕ) → text_cmp a b ≡ Equal → a ≡ b

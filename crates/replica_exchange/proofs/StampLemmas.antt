@@ -10,11 +10,11 @@ use Rattle.std.proofs.lemmas.List.{take-append-drop, take-append-le, length_push
 use Rattle.std.proofs.lemmas.Option.{none-some}
 use Rattle.std.proofs.lemmas.Bool.{cases_lt, lt-ltb}
 use Rattle.memento_index.specs.declared.merge.Merge.{Merge}
-use Rattle.harvest_lattice.specs.Maps.{join_values}
+use Rattle.memento_sets.specs.Maps.{join_values}
+use Rattle.memento_sets.proofs.Semilattice.{join_antisymm, values_semilattice}
 use Rattle.harvest_lattice.specs.Lattice.{Key, key_cmp, Kept, Entries, AtMost, join, join_kept}
 use Rattle.harvest_lattice.specs.Knowledge.{lat}
 use Rattle.memento_index.specs.Merges.{adds_of}
-use Rattle.harvest_lattice.proofs.Semilattice.{join_antisymm, values_semilattice}
 use Rattle.harvest_lattice.proofs.Entries.{key_cmp_total, key_cmp_exact, entry_semilattice, get-join, joined_at_most, at_most_left}
 use Rattle.harvest_lattice.proofs.Knowledge.{lat-append, get-lat_nil}
 use Rattle.replica_exchange.specs.Stamps.{state_after, kept_after, IsSettled, IsStamp, StampedState, IsStampAt, IsStamped, IsRestamped, IsAbsorbed, is_above, above, entries_above}

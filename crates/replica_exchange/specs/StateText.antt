@@ -6,7 +6,7 @@ use Rattle.std.specs.FinMap as map
 use Rattle.memento_time.specs.Text.{IsArchiveName, IsOriginal}
 use Rattle.memento_time.specs.declared.mementos.Memento.{Memento}
 use Rattle.memento_time.specs.Mementos.{IsMemento}
-use Rattle.harvest_lattice.specs.Sets as set
+use Rattle.memento_sets.specs.Sets as set
 use Rattle.harvest_lattice.specs.Lattice.{Key, Kept, Entries}
 
 -- ---- the text

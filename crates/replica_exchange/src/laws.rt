@@ -2,7 +2,7 @@
 ghost use Rattle.std.specs.Prelude.{◌≡◌, ℕ, ◌+◌, List, [], ◌∷◌, ◌++◌, length, take, map as map_list};
 ghost use Rattle.std.specs.FinMap as map;
 ghost use Rattle.std.specs.List.Sorted.{IsStrictlySortedBy};
-ghost use Rattle.harvest_lattice.specs.Sets as set;
+ghost use Rattle.memento_sets.specs.Sets as set;
 ghost use Rattle.harvest_lattice.specs.Lattice.{Entries, Key, Kept, AtMost, join};
 ghost use Rattle.memento_index.specs.declared.merge.Merge.{Merge};
 ghost use Rattle.replica_exchange.specs.StateText.{state_text, IsState};

@@ -6,7 +6,7 @@ ghost use Rattle.std.specs.FinMap as map;
 ghost use Rattle.memento_time.specs.Mementos.{IsMemento};
 ghost use Rattle.replica_exchange.specs.StateText.{memento_line, entry_line, entry_text, state_text};
 ghost use Rattle.replica_exchange.specs.StateText.{IsEntryLine, IsEntry, IsState};
-ghost use Rattle.harvest_lattice.specs.Sets as set;
+ghost use Rattle.memento_sets.specs.Sets as set;
 ghost use Rattle.replica_exchange.specs.Stamps.{entries_above, above};
 ghost use Rattle.replica_exchange.specs.CursorRule.{delta_from, start_from};
 ghost use Rattle.replica_exchange.specs.DeltaText.{delta_text, from_line, IsDelta};

@@ -8,9 +8,9 @@ use Rattle.memento_time.specs.Text.{IsArchiveName}
 use Rattle.memento_time.specs.declared.mementos.Memento.{Memento}
 use Rattle.timemap_reader.specs.Answer.{IsAnswer}
 use Rattle.timemap_reader.specs.declared.page.Page.{Page}
-use Rattle.harvest_lattice.specs.Sets as set
+use Rattle.memento_sets.specs.Sets as set
+use Rattle.memento_sets.proofs.Ordered.{items_in_order}
 use Rattle.harvest_lattice.specs.Knowledge.{Harvested}
-use Rattle.harvest_lattice.proofs.Ordered.{items_in_order}
 use Rattle.replica_events.specs.declared.event.Event.{Event}
 use Rattle.replica_events.specs.declared.event.Event.TheVariants.{Take}
 use Rattle.replica_events.specs.declared.event.Refused.TheVariants.{NoMemory}

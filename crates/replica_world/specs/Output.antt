@@ -8,7 +8,7 @@ use Rattle.std.specs.Io.KnownBytes.{Appends}
 use Rattle.memento_time.specs.Text.{IsArchiveName}
 use Rattle.timemap_reader.specs.Answer.{IsAnswer}
 use Rattle.timemap_reader.specs.declared.page.Page.{Page}
-use Rattle.harvest_lattice.specs.Sets as set
+use Rattle.memento_sets.specs.Sets as set
 use Rattle.harvest_lattice.specs.Knowledge.{Harvested}
 use Rattle.timegate.specs.declared.reply.Reply.{Reply}
 use Rattle.timegate.specs.declared.reply.Header.{Header}

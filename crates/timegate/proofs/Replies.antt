@@ -9,8 +9,9 @@ use Rattle.memento_time.specs.declared.faults.NoMemory.{NoMemory}
 use Rattle.memento_time.specs.Mementos.{memento_cmp}
 use Rattle.std.proofs.lemmas.List.Elements.{Contains-append_right}
 use Rattle.memento_time.specs.declared.mementos.Memento.{Memento}
-use Rattle.harvest_lattice.specs.Sets as set
-use Rattle.harvest_lattice.specs.Lattice.{Mementos, Entries}
+use Rattle.memento_sets.specs.Sets as set
+use Rattle.memento_sets.specs.MementoSets.{Mementos}
+use Rattle.harvest_lattice.specs.Lattice.{Entries}
 use Rattle.harvest_lattice.specs.Knowledge.{Harvested, IsShown, lat, shown, shown_of}
 use Rattle.memento_index.specs.Choice.{distance, IsNearest, IsLast}
 use Rattle.harvest_lattice.proofs.Knowledge.{lat_same, shown-is, shown-lat}

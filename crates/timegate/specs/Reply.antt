@@ -2,8 +2,9 @@
 use Rattle.std.specs.FinMap as map
 use Rattle.std.specs.Prelude.{ℕ, List, [], ◌∷◌, ◌++◌, Option, None, Some, length, codes, if◌then◌else◌, ◌==◌}
 use Rattle.memento_time.specs.declared.mementos.Memento.{Memento}
-use Rattle.harvest_lattice.specs.Sets as set
-use Rattle.harvest_lattice.specs.Lattice.{Mementos, Entries}
+use Rattle.memento_sets.specs.Sets as set
+use Rattle.memento_sets.specs.MementoSets.{Mementos}
+use Rattle.harvest_lattice.specs.Lattice.{Entries}
 use Rattle.harvest_lattice.specs.Knowledge.{Harvested, lat, shown, shown_of}
 use Rattle.memento_index.specs.Choice.{nearest, last}
 use Rattle.replica_exchange.specs.StateText.{state_text}

@@ -1,7 +1,7 @@
 //! The reply to a request.
 ghost use Rattle.std.specs.Prelude.{◌≡◌, ◌++◌, ◌∷◌, [], List, Option, IfOk, IfSome, OnOk, codes, option_copied};
 ghost use Rattle.std.specs.Prelude.{if◌then◌else◌};
-ghost use Rattle.harvest_lattice.specs.Sets as set;
+ghost use Rattle.memento_sets.specs.Sets as set;
 ghost use Rattle.harvest_lattice.specs.Knowledge.{Harvested, lat, shown_of};
 ghost use Rattle.replica_exchange.specs.StateText.{state_text};
 ghost use Rattle.replica_exchange.specs.CursorRule.{delta_from};

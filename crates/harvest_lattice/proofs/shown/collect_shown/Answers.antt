@@ -4,8 +4,8 @@ use Rattle.std.specs.List.{list_any}
 use Rattle.std.specs.Ordering.{eq_by_cmp}
 use Rattle.memento_time.specs.Mementos.{memento_cmp}
 use Rattle.memento_time.specs.declared.mementos.Memento.{Memento}
-use Rattle.harvest_lattice.specs.Sets as set
-use Rattle.harvest_lattice.specs.Lattice.{Mementos}
+use Rattle.memento_sets.specs.Sets as set
+use Rattle.memento_sets.specs.MementoSets.{Mementos}
 use Rattle.harvest_lattice.specs.Knowledge.{shown_of}
 use Rattle.harvest_lattice.specs.Shelves.{Shelved, entries_of}
 use Rattle.harvest_lattice.proofs.ShownLemmas.{holds, shelf_shows, shown_any, shown_turn, shown_whole, shown_is}

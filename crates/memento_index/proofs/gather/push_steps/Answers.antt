@@ -2,7 +2,7 @@ use Rattle.std.proofs.Common.{◌≡◌, ◌+◌, ◌++◌, List, ap, ◌∙◌}
 use Rattle.std.proofs.lemmas.Grind.{common_steps}
 use Rattle.std.proofs.Common.{arith}
 use Rattle.memento_time.specs.declared.mementos.Memento.{Memento}
-use Rattle.harvest_lattice.specs.Sets as set
+use Rattle.memento_sets.specs.Sets as set
 use Rattle.harvest_lattice.specs.Lattice.{Kept}
 use Rattle.harvest_lattice.specs.Rows.{row_entry}
 use Rattle.memento_index.specs.Counts.{occurrences, endings}

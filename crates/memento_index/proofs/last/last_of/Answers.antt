@@ -1,7 +1,7 @@
 use Rattle.std.proofs.Common.{◌≡◌, Some, cond, take_all, List, sym, ap, ◌∙◌}
 use Rattle.std.specs.Ordering.{is_gt}
 use Rattle.memento_time.specs.declared.mementos.Memento.{Memento}
-use Rattle.harvest_lattice.specs.Maps.{join_values}
+use Rattle.memento_sets.specs.Maps.{join_values}
 use Rattle.memento_index.specs.Choice.{recency_cmp, least_by}
 use Rattle.memento_index.proofs.Choice.{recency_total, rest_turn}
 use Rattle.memento_index.proofs.last.last_of.Goals as goal

@@ -1,7 +1,7 @@
 use Rattle.std.proofs.Common.{◌≡◌, Some, cond, take}
 use Rattle.std.specs.Ordering.{is_gt}
 use Rattle.memento_index.specs.Choice.{recency_cmp, least_by}
-use Rattle.harvest_lattice.specs.Maps.{join_values}
+use Rattle.memento_sets.specs.Maps.{join_values}
 use Rattle.memento_index.proofs.last.last_of.Given as goal
 
 abbrev pub invariant-loop-memento : goal.invariant-loop-memento

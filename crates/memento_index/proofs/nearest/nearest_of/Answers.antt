@@ -2,7 +2,7 @@ use Rattle.std.proofs.Common.{◌≡◌, ◌<◌, List, length, Some, None, sym,
 use Rattle.std.specs.Prelude.{slice_get}
 use Rattle.std.proofs.lemmas.Option.{slice_get-get_or}
 use Rattle.memento_time.specs.declared.mementos.Memento.{Memento}
-use Rattle.harvest_lattice.specs.Sets as set
+use Rattle.memento_sets.specs.Sets as set
 use Rattle.memento_index.specs.Choice.{nearest}
 use Rattle.memento_index.specs.Probes.{Lent}
 use Rattle.memento_index.proofs.nearest.nearest_of.Goals as goal

@@ -2,8 +2,8 @@ use Rattle.std.proofs.Common.{List, sym, ap, subst, ◌∙◌}
 use Rattle.std.specs.List.Sorted.{IsStrictlySortedBy}
 use Rattle.memento_time.specs.Mementos.{memento_cmp}
 use Rattle.memento_time.specs.declared.mementos.Memento.{Memento}
+use Rattle.memento_sets.proofs.Sets.{items_sorted}
 use Rattle.harvest_lattice.specs.Knowledge.{shown_of}
-use Rattle.harvest_lattice.proofs.Sets.{items_sorted}
 use Rattle.memento_index.specs.Probes.{Lent}
 use Rattle.memento_index.proofs.tests.probe.Goals as goal
 

@@ -1,7 +1,7 @@
 use Rattle.std.specs.FinMap as map
 use Rattle.memento_time.specs.Mementos.{memento_cmp}
+use Rattle.memento_sets.proofs.Sets.{items_sorted, keys_rise}
 use Rattle.harvest_lattice.specs.Lattice.{key_cmp}
-use Rattle.harvest_lattice.proofs.Sets.{items_sorted, keys_rise}
 use Rattle.replica_exchange.proofs.laws.lines_stand_in_order.Goals as goal
 
 pub returns-clause-entries : goal.returns-clause-entries

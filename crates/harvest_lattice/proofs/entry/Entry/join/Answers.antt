@@ -2,7 +2,7 @@ use Rattle.std.proofs.Common.{◌≡◌, ◌<◌, OnOk, Result, Ok, Err, refl, s
 use Rattle.std.specs.Arc.{arc_value}
 use Rattle.std.specs.declared.cmp.Ordering.TheVariants.{Less, Equal, Greater}
 use Rattle.std.proofs.lemmas.Cmp.{ranked}
-use Rattle.harvest_lattice.specs.Sets as set
+use Rattle.memento_sets.specs.Sets as set
 use Rattle.harvest_lattice.specs.Lattice.{Kept}
 use Rattle.harvest_lattice.proofs.NewsLemmas.{join_same, join_later, join_earlier}
 use Rattle.harvest_lattice.proofs.entry.Entry.join.Goals as goal

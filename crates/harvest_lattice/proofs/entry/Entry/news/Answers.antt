@@ -1,5 +1,5 @@
 use Rattle.std.proofs.Common.{◌≡◌, cond, IfOk, Result, Ok, Err, sym, ap, ◌∙◌, eq-eqb}
-use Rattle.harvest_lattice.specs.Sets as set
+use Rattle.memento_sets.specs.Sets as set
 use Rattle.harvest_lattice.specs.Lattice.{Kept}
 use Rattle.harvest_lattice.proofs.entry.Entry.news.Goals as goal
 

@@ -5,8 +5,8 @@ use Rattle.std.specs.FinMap as map
 use Rattle.std.specs.Ordering.{eq_by_cmp}
 use Rattle.std.specs.Cmp.Lexicographic.{nat_list_cmp_total}
 use Rattle.memento_time.specs.Mementos.{text_cmp}
+use Rattle.memento_sets.specs.Maps.{join_values}
 use Rattle.harvest_lattice.specs.Lattice.{Kept, join_kept}
-use Rattle.harvest_lattice.specs.Maps.{join_values}
 use Rattle.harvest_lattice.specs.Shelves.{Shelved}
 use Rattle.harvest_lattice.proofs.ShelfLemmas.{get-shelved, shelved_put, unchanged_at, text_exact, is_some_is, on_err}
 use Rattle.harvest_lattice.proofs.shelf.Shelf.join.Goals as goal

@@ -2,10 +2,10 @@ use Rattle.std.proofs.Common.{List, sym, ap, subst, ◌∙◌}
 use Rattle.std.specs.List.Sorted.{IsStrictlySortedBy}
 use Rattle.memento_time.specs.Mementos.{memento_cmp}
 use Rattle.memento_time.specs.declared.mementos.Memento.{Memento}
-use Rattle.harvest_lattice.specs.Sets as set
-use Rattle.harvest_lattice.specs.Lattice.{Mementos}
+use Rattle.memento_sets.specs.Sets as set
+use Rattle.memento_sets.specs.MementoSets.{Mementos}
+use Rattle.memento_sets.proofs.Sets.{items_sorted}
 use Rattle.harvest_lattice.specs.Knowledge.{shown, shown_of}
-use Rattle.harvest_lattice.proofs.Sets.{items_sorted}
 use Rattle.memento_index.specs.Choice.{nearest}
 use Rattle.memento_index.proofs.ListLemmas.{from_items}
 use Rattle.memento_index.proofs.index.Index.nearest.Goals as goal

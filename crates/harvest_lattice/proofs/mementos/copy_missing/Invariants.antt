@@ -1,7 +1,0 @@
-use Rattle.std.proofs.Common.{◌≡◌, not, take}
-use Rattle.std.specs.List.{filter}
-use Rattle.harvest_lattice.specs.Sets as set
-use Rattle.harvest_lattice.proofs.mementos.copy_missing.Given as goal
-
-abbrev pub invariant-loop-memento : goal.invariant-loop-memento
-invariant-loop-memento l = l.rest.items ≡ filter (λ m. not (set.contains l.others m)) (take l.memento-index l.list)

@@ -1,0 +1,250 @@
+//! Sets of mementos, as lists in order.
+ghost use Rattle.std.specs.Prelude.{◌≡◌, ◌+◌, ◌<◌, ◌≤◌, ◌∷◌, [], ◌++◌, ◌||◌, ◌↔◌, IsTrue, IfOk, OnOk, OnErr, not};
+ghost use Rattle.std.specs.Prelude.{length, reverse, take, vec_len};
+ghost use Rattle.std.specs.Vec.{vec_capacity};
+ghost use Rattle.std.specs.List.{filter, list_all, list_any};
+ghost use Rattle.std.specs.List.Sorted.{IsStrictlySortedBy};
+ghost use Rattle.std.specs.Ordering.{eq_by_cmp};
+ghost use Rattle.memento_time.specs.Mementos.{memento_cmp};
+ghost use Rattle.memento_time.specs.declared.mementos.Memento.{Memento as AMemento};
+ghost use Rattle.memento_sets.specs.Sets as set;
+ghost use Rattle.memento_sets.specs.MementoSets.{IsSubset, mementos_rise, mementos_with};
+
+use memento_time::{Memento, NoMemory};
+use std::alloc::{AllocError, Global};
+use std::cmp::Ordering;
+use std::marker::Model;
+
+/// Mementos by datetime, then by URI, each once. A contract sees the set of them.
+#[derive(Debug, Drop)]
+pub struct Mementos {
+    list: Vec<Memento>,
+}
+
+impl Model for Mementos {
+    ghost use Rattle.std.specs.List.Sorted.{IsStrictlySortedBy};
+    ghost use Rattle.memento_time.specs.Mementos.{memento_cmp, coded_memento};
+    ghost use Rattle.memento_sets.specs.Sets as set;
+
+    ghost Value = { set.Set memento_cmp };
+
+    ghost coded = { set.code coded_memento };
+
+    ghost view = { λ s. set.from_list s.list.items };
+
+    ghost invariant = { λ s. IsStrictlySortedBy memento_cmp s.list.items };
+}
+
+impl Mementos {
+    /// The set of these, which may come in any order and more than once. Takes no memory, and no more than one walk
+    /// where they are in order already.
+    pub fn of(mut mementos: Vec<Memento>) -> Mementos
+        ensures { result ≡ set.from_list mementos.items }
+    {
+        if mementos_rise(&mementos) {
+            return Mementos { list: mementos };
+        }
+        mementos.sort_unstable();
+        mementos.dedup();
+        Mementos { list: mementos }
+    }
+
+    /// The set of these; none where they don't stand in order, each once.
+    pub fn of_sorted(mementos: Vec<Memento>) -> Option<Mementos>
+        ensures { result ≡ mementos_with mementos.items }
+    {
+        if !mementos_rise(&mementos) {
+            return None;
+        }
+        Some(Mementos { list: mementos })
+    }
+
+    /// The allocator of the list.
+    pub fn allocator(&self) -> Global {
+        *self.list.allocator()
+    }
+
+    /// How many there are.
+    pub fn len(&self) -> usize
+        ensures { result ≡ length (set.items self.now) }
+    {
+        self.as_slice().len()
+    }
+
+    /// In order.
+    pub fn as_slice(&self) -> &[Memento]
+        ensures { result.now ≡ set.items self.now }
+    {
+        &self.list
+    }
+
+    /// In order.
+    pub fn into_vec(self) -> Vec<Memento>
+        ensures { result.items ≡ set.items self }
+    {
+        self.list
+    }
+
+    /// Whether a memento is one of them. Takes time logarithmic in their number.
+    pub fn has(&self, memento: &Memento) -> bool
+        ensures { result ≡ set.contains self.now memento.now }
+    {
+        self.list.binary_search(memento).is_ok()
+    }
+
+    /// Whether the other set has each of these.
+    pub fn is_subset(&self, other: &Mementos) -> bool
+        ensures { IsTrue result ↔ IsSubset self.now other.now }
+    {
+        all_in(self.as_slice(), other)
+    }
+
+    /// Copies of those that the other set lacks.
+    pub fn without(&self, other: &Mementos) -> Result<Mementos, NoMemory>
+        ensures { IfOk result (λ rest. rest ≡ set.minus self.now other.now) }
+    {
+        let list = copy_missing(*self.list.allocator(), self.as_slice(), other)?;
+        Ok(Mementos { list })
+    }
+
+    /// Takes in all that another set has.
+    ///
+    /// Takes time in the number of what comes, and of those here that stand behind the first of it.
+    pub fn absorb(&mut self, other: Mementos) -> Result<(), NoMemory>
+        ensures ok { OnOk result (self.new ≡ set.union self.old other) }
+        ensures err { OnErr result (self.new ≡ self.old) }
+    {
+        unite(&mut self.list, other.into_vec())
+    }
+}
+
+impl Clone for Mementos {
+    ghost is_clone = { λ mementos copy. copy ≡ mementos };
+
+    fn clone(&self) -> Result<Mementos, AllocError> {
+        let list = self.list.clone()?;
+        Ok(Mementos { list })
+    }
+}
+
+// Whether each memento is below the next.
+fn mementos_rise(list: &[Memento]) -> bool
+    ensures { result ≡ mementos_rise list.now }
+{
+    for k in 1..list.len() {
+        if !list[k - 1].cmp(&list[k]).is_lt() {
+            return false;
+        }
+    }
+    true
+}
+
+fn all_in(list: &[Memento], others: &Mementos) -> bool
+    ensures { result ≡ list_all (λ m. set.contains others.now m) list.now }
+{
+    list.iter().all(|memento| others.has(memento))
+}
+
+// Copies of those of a list that a set lacks.
+fn copy_missing(
+    alloc: Global,
+    list: &[Memento],
+    others: &Mementos,
+) -> Result<Vec<Memento>, NoMemory>
+    ensures { IfOk result (λ rest. rest.items ≡ filter (λ m. not (set.contains others.now m)) list.now) }
+{
+    let mut rest = Vec::new(alloc);
+    for memento in list {
+        if !others.has(memento) {
+            rest.push(memento.try_clone()?)?;
+        }
+    }
+    Ok(rest)
+}
+
+// How many of a list in order are below a memento.
+fn count_below(list: &[Memento], memento: &Memento) -> usize
+    requires { IsStrictlySortedBy memento_cmp list.now }
+    ensures within { result ≤ length list.now }
+    ensures below { IsStrictlySortedBy memento_cmp (take result list.now ++ memento.now ∷ []) }
+{
+    match list.binary_search(memento) {
+        Ok(at) => at,
+        Err(at) => at,
+    }
+}
+
+// Adds mementos in order to others. Those behind the first of them are lifted off the list, the next one last, and come
+// back between them; where memory is refused, nothing has changed.
+fn unite(list: &mut Vec<Memento>, added: Vec<Memento>) -> Result<(), NoMemory>
+    requires list_in_order { IsStrictlySortedBy memento_cmp list.old.items }
+    requires added_in_order { IsStrictlySortedBy memento_cmp added.items }
+    ensures in_order { IsStrictlySortedBy memento_cmp list.new.items }
+    ensures members { OnOk result
+        (set.from_list {R = memento_cmp} list.new.items
+        ≡ set.union (set.from_list list.old.items) (set.from_list added.items)) }
+    ensures err { OnErr result (list.new.items ≡ list.old.items) }
+{
+    let at = match added.first() {
+        Some(first) => count_below(list, first),
+        None => return Ok(()),
+    };
+    list.reserve(added.len())?;
+    let mut lifted = list.split_off(at)?;
+    lifted.reverse();
+    merge(list, lifted, added);
+    Ok(())
+}
+
+// Puts what was lifted and what is added behind a list, in order.
+fn merge(list: &mut Vec<Memento>, mut lifted: Vec<Memento>, added: Vec<Memento>)
+    requires in_order { IsStrictlySortedBy memento_cmp (list.old.items ++ reverse lifted.items) }
+    requires added_in_order { IsStrictlySortedBy memento_cmp (list.old.items ++ added.items) }
+    requires room { vec_len list.old + vec_len lifted + vec_len added ≤ vec_capacity list.old }
+    ensures in_order { IsStrictlySortedBy memento_cmp list.new.items }
+    ensures members { (m : AMemento)
+        → list_any (eq_by_cmp memento_cmp m) list.new.items
+        ≡ (list_any (eq_by_cmp memento_cmp m) (list.old.items ++ reverse lifted.items)
+        || list_any (eq_by_cmp memento_cmp m) added.items) }
+{
+    for memento in added {
+        pass(list, &mut lifted, &memento);
+        list.push_reserved(memento);
+    }
+    settle(list, lifted);
+}
+
+// Puts back what is below a memento, and drops the memento itself, if it was lifted.
+fn pass(list: &mut Vec<Memento>, lifted: &mut Vec<Memento>, memento: &Memento)
+    requires in_order { IsStrictlySortedBy memento_cmp (list.old.items ++ reverse lifted.old.items) }
+    requires below { IsStrictlySortedBy memento_cmp (list.old.items ++ memento.now ∷ []) }
+    requires room { vec_len list.old + vec_len lifted.old ≤ vec_capacity list.old }
+    ensures in_order { IsStrictlySortedBy memento_cmp (list.new.items ++ memento.now ∷ reverse lifted.new.items) }
+    ensures members { (m : AMemento)
+        → list_any (eq_by_cmp memento_cmp m) (list.new.items ++ memento.now ∷ reverse lifted.new.items)
+        ≡ (eq_by_cmp memento_cmp m memento.now
+        || list_any (eq_by_cmp memento_cmp m) (list.old.items ++ reverse lifted.old.items)) }
+    ensures len { vec_len list.new + vec_len lifted.new ≤ vec_len list.old + vec_len lifted.old }
+    ensures capacity { vec_capacity list.old ≤ vec_capacity list.new }
+{
+    while let Some(next) = lifted.pop() {
+        match next.cmp(memento) {
+            Ordering::Less => list.push_reserved(next),
+            Ordering::Equal => return,
+            Ordering::Greater => {
+                lifted.push_reserved(next);
+                return;
+            }
+        }
+    }
+}
+
+// Puts back all that was lifted.
+fn settle(list: &mut Vec<Memento>, mut lifted: Vec<Memento>)
+    requires { vec_len list.old + vec_len lifted ≤ vec_capacity list.old }
+    ensures { list.new.items ≡ list.old.items ++ reverse lifted.items }
+{
+    while let Some(next) = lifted.pop() {
+        list.push_reserved(next);
+    }
+}
