@@ -37,7 +37,8 @@ pub(crate) fn nth_name(text: &[u8], k: usize) -> &[u8]
 fn is_same_name(a: &[u8], b: &[u8]) -> bool
     ensures { result ≡ same_name a.now b.now }
 {
-    a.eq_ignore_ascii_case(b)
+    // Nearly all are written in the usual case.
+    a == b || a.eq_ignore_ascii_case(b)
 }
 
 /// The bytes that a quoted text says, up to the closing quote.

@@ -1,5 +1,5 @@
 //! What a link of a page is, by its relation types.
-ghost use Rattle.std.specs.Prelude.{◌≡◌, Some, IfOk, OnOk, is_some, codes, option_map};
+ghost use Rattle.std.specs.Prelude.{◌≡◌, ◌↔◌, IsTrue, Some, IfOk, OnOk, is_some, codes, option_map};
 ghost use Rattle.std.specs.Cow.{cow_slice_items};
 ghost use Rattle.std.specs.Option.{option_and_then};
 ghost use Rattle.link_format.specs.Bytes.{is_blank};
@@ -67,11 +67,18 @@ pub(crate) fn read_role<'a>(link: &LinkRef<'a>) -> Result<Role<'a>, AllocError>
     Ok(Role { rel, datetime })
 }
 
+/// Whether this `rel` is the one that most links of a page have, whose words needn't be parted.
+fn is_plain_memento(rel: &[u8]) -> bool
+    ensures { IsTrue result ↔ (rel.now ≡ codes "memento") }
+{
+    rel == b"memento".as_slice()
+}
+
 /// Whether a link with this `rel` names a memento.
 pub(crate) fn is_memento_link(rel: &[u8]) -> bool
     ensures { result ≡ spec.lists (codes "memento") rel.now }
 {
-    lists(rel, b"memento")
+    is_plain_memento(rel) || lists(rel, b"memento")
 }
 
 /// Whether the link, whose `rel` this is, names a further TimeMap.
@@ -79,6 +86,9 @@ pub(crate) fn is_further_link(link: &LinkRef<'_>, rel: &[u8]) -> Result<bool, Al
     requires { rel.now ≡ spec.rel_of link.now }
     ensures { IfOk result (λ further. further ≡ spec.is_further_link link.now) }
 {
+    if is_plain_memento(rel) {
+        return Ok(false);
+    }
     Ok(lists(rel, b"timemap") && !lists(rel, b"self") && has_link_format(link)?)
 }
 
