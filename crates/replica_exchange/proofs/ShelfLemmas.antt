@@ -12,6 +12,7 @@ use Rattle.std.specs.Ordering.{eq_by_cmp, is_lt, is_eq, ordering_then}
 use Rattle.std.specs.Cmp.{tied_itself, Equal-is, eq_by_cmp_equiv}
 use Rattle.std.specs.Cmp.Lexicographic.{nat_list_cmp_total}
 use Rattle.std.specs.FinMap as fmap
+use Rattle.std.specs.Option.{option_or}
 use Rattle.std.proofs.lemmas.Bool.{true≢false}
 use Rattle.std.specs.FinMap.{slice_cmp-IsAntisymmetric, nat_cmp-IsAntisymmetric}
 use Rattle.std.specs.FinMap.Entries.{below_all}
@@ -19,26 +20,8 @@ use Rattle.memento_time.specs.Mementos.{text_cmp}
 use Rattle.memento_sets.proofs.Sets.{less_from, two_parts}
 use Rattle.harvest_lattice.specs.Lattice.{Key, key_cmp}
 use Rattle.harvest_lattice.proofs.Entries.{key_cmp_total, key_cmp_exact}
+use Rattle.harvest_lattice.proofs.ShelfLemmas.{text_exact, same_text, lookup-find, find_both, tie, apart, none_after, or_none}
 use Rattle.replica_exchange.specs.StampShelves.{Slots, Shelves, slot_of, slot, filled, slot_rows, shelf_rows, all_rows, stamps_in}
-
-pub text_exact : (a b : List ℕ) → text_cmp a b ≡ Equal → a ≡ b
-text_exact a b e = slice_cmp-IsAntisymmetric nat_cmp-IsAntisymmetric a b e
-
-pub same_text : (a b : List ℕ) → eq_by_cmp text_cmp a b ≡ true → a ≡ b
-same_text a b t = text_exact a b ((Equal-is (text_cmp a b)).0 t)
-
-pub lookup-find : {K X : Type 0} (R : K → K → Ordering) (q : K) (es : List (K × X)) → lookup (is_at (R q)) es ≡ fmap.find R q es
-lookup-find R q [] = refl
-lookup-find R q (e ∷ es) = ap (cond (is_eq (R q e.0)) (Some e.1)) (lookup-find R q es)
-
--- the first, or else the second
-abbrev or_else : Option ℕ → Option ℕ → Option ℕ
-or_else None second = second
-or_else (Some first) second = Some first
-
-find_both : (q : Key) (xs ys : List (Key × ℕ)) → fmap.find key_cmp q (xs ++ ys) ≡ or_else (fmap.find key_cmp q xs) (fmap.find key_cmp q ys)
-find_both q [] ys = refl
-find_both q (x ∷ xs) ys = elim (eq_by_cmp key_cmp q x.0) as (λ b. cond b (Some x.1) (fmap.find key_cmp q (xs ++ ys)) ≡ or_else (cond b (Some x.1) (fmap.find key_cmp q xs)) (fmap.find key_cmp q ys)) [ true ↦ refl | false ↦ find_both q xs ys ]
 
 -- no original is found among greater ones
 pub none_above : (o : List ℕ) (es : List (List ℕ × Option ℕ)) → T (below_all text_cmp o es) → fmap.find text_cmp o es ≡ None
@@ -46,9 +29,6 @@ none_above o [] h = refl
 none_above o (e ∷ es) h =
     let p = two_parts (is_lt (text_cmp o e.0)) (below_all text_cmp o es) h in
     ap (λ r. cond (is_eq r) (Some e.1) (fmap.find text_cmp o es)) (less_from (text_cmp o e.0) p.0) ∙ none_above o es p.1
-
-tie : (a o p : List ℕ) → eq_by_cmp key_cmp (a, o) (a, p) ≡ eq_by_cmp text_cmp o p
-tie a o p = ap (λ r. is_eq (ordering_then r (text_cmp o p))) (tied_itself nat_list_cmp_total a)
 
 -- an archive's rows have what its slots hold
 find_shelf : (a o : List ℕ) (es : List (List ℕ × Option ℕ)) → T (fmap.is_sorted text_cmp es) → fmap.find key_cmp (a, o) (shelf_rows a es) ≡ filled (fmap.find text_cmp o es)
@@ -65,9 +45,6 @@ find_shelf a o (e ∷ es) h =
           ∙ elim (eq_by_cmp text_cmp o e.0) as (λ b. cond b (Some v) (fmap.find key_cmp (a, o) (shelf_rows a es)) ≡ filled (cond b (Some (Some v)) (fmap.find text_cmp o es))) [ true ↦ refl | false ↦ rest ]
     ]
 
-apart : (a b o p : List ℕ) → eq_by_cmp text_cmp a b ≡ false → eq_by_cmp key_cmp (a, o) (b, p) ≡ false
-apart a b o p h = elim (text_cmp a b) as (λ r. is_eq r ≡ false → is_eq (ordering_then r (text_cmp o p)) ≡ false) [ Less ↦ λ _. refl | Equal ↦ λ e. absurd (subst T e tt) | Greater ↦ λ _. refl ] h
-
 -- another archive's rows don't
 find_other : (a b o : List ℕ) (es : List (List ℕ × Option ℕ)) → eq_by_cmp text_cmp a b ≡ false → fmap.find key_cmp (a, o) (shelf_rows b es) ≡ None
 find_other a b o [] h = refl
@@ -77,15 +54,6 @@ find_other a b o (e ∷ es) h =
       | Some v ↦ ap (λ t. cond t (Some v) (fmap.find key_cmp (a, o) (shelf_rows b es))) (apart a b o e.0 h) ∙ find_other a b o es h
     ]
 
--- no text is found among greater ones
-pub none_after : {X : Type 0} (a : List ℕ) (ss : List (List ℕ × X)) → AllByRecursion (λ b. text_cmp a b ≡ Less) (keys_of ss) → lookup (is_at (text_cmp a)) ss ≡ None
-none_after a [] h = refl
-none_after a (s ∷ ss) h = ap (λ r. cond (is_eq r) (Some s.1) (lookup (is_at (text_cmp a)) ss)) h.0 ∙ none_after a ss h.1
-
-or_none : (x : Option ℕ) → or_else x None ≡ x
-or_none None = refl
-or_none (Some x) = refl
-
 -- all rows have what the slots hold
 pub find_all : (k : Key) (ss : List (List ℕ × Slots)) → IsStrictlySortedBy text_cmp (keys_of ss) → fmap.find key_cmp k (all_rows ss) ≡ filled (slot_of (lookup (is_at (text_cmp k.0)) ss) k.1)
 unfolding IsStrictlySortedBy
@@ -93,15 +61,15 @@ find_all k [] h = refl
 find_all k (s ∷ ss) h =
     let rest = find_all k ss h.1 in
     find_both k (shelf_rows s.0 (fmap.entries s.1)) (all_rows ss)
-    ∙ elim (eq_by_cmp text_cmp k.0 s.0) as (λ b. eq_by_cmp text_cmp k.0 s.0 ≡ b → or_else (fmap.find key_cmp k (shelf_rows s.0 (fmap.entries s.1))) (fmap.find key_cmp k (all_rows ss)) ≡ filled (slot_of (cond b (Some s.1) (lookup (is_at (text_cmp k.0)) ss)) k.1)) [
+    ∙ elim (eq_by_cmp text_cmp k.0 s.0) as (λ b. eq_by_cmp text_cmp k.0 s.0 ≡ b → option_or (fmap.find key_cmp k (shelf_rows s.0 (fmap.entries s.1))) (fmap.find key_cmp k (all_rows ss)) ≡ filled (slot_of (cond b (Some s.1) (lookup (is_at (text_cmp k.0)) ss)) k.1)) [
       | true ↦ λ t.
           let here : k.0 ≡ s.0 = same_text k.0 s.0 t in
           let none : fmap.find key_cmp k (all_rows ss) ≡ None = rest ∙ ap (λ o. filled (slot_of o k.1)) (none_after k.0 ss (subst (λ a. AllByRecursion (λ b. text_cmp a b ≡ Less) (keys_of ss)) (sym here) h.0)) in
-          ap (or_else (fmap.find key_cmp k (shelf_rows s.0 (fmap.entries s.1)))) none
+          ap (option_or (fmap.find key_cmp k (shelf_rows s.0 (fmap.entries s.1)))) none
           ∙ (or_none (fmap.find key_cmp k (shelf_rows s.0 (fmap.entries s.1)))
           ∙ (ap (λ a. fmap.find key_cmp (a, k.1) (shelf_rows s.0 (fmap.entries s.1))) here
           ∙ (find_shelf s.0 k.1 (fmap.entries s.1) (fmap.entries_sorted s.1) ∙ ap filled (sym (fmap.get-entries s.1 k.1)))))
-      | false ↦ λ t. ap (λ o. or_else o (fmap.find key_cmp k (all_rows ss))) (find_other k.0 s.0 k.1 (fmap.entries s.1) t) ∙ rest
+      | false ↦ λ t. ap (λ o. option_or o (fmap.find key_cmp k (all_rows ss))) (find_other k.0 s.0 k.1 (fmap.entries s.1) t) ∙ rest
     ] refl
 
 pub get-stamps_in : (m : Shelves) → tree.IsOrdered text_cmp m → (k : Key) → fmap.get (stamps_in m) k ≡ filled (slot m k)
@@ -155,9 +123,6 @@ slot_put es fs o w now view put =
     fmap.same_map nat_list_cmp_total text_exact (fmap.from_entries fs) (fmap.insert (fmap.from_entries es) o w) (λ q.
     get-slots fs q ∙ (put q ∙ ((λ i. cond ((eq_by_cmp_equiv nat_list_cmp_total).symm o q i) (Some w) (sym (get-slots es q) i)) ∙ sym (fmap.get-insert nat_list_cmp_total (fmap.from_entries es) o w q))))
     ∙ ap (λ (s : Slots). fmap.insert s o w) view
-
-pub is_some_is : {A : Type 0} (o : Option A) (a : A) → o ≡ Some a → IsSome o
-is_some_is o a e = ap is_some e
 
 pub not_some : {A : Type 0} (o : Option A) → o ≡ None → IsSome o → ⊥
 not_some o e h = true≢false (sym h ∙ ap is_some e)

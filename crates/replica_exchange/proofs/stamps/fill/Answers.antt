@@ -4,7 +4,8 @@ use Rattle.std.specs.BTreeMap as tree
 use Rattle.std.specs.Ordering.{eq_by_cmp}
 use Rattle.memento_time.specs.Mementos.{text_cmp}
 use Rattle.replica_exchange.specs.StampShelves.{Slots, slot, slot_of}
-use Rattle.replica_exchange.proofs.ShelfLemmas.{one_filled, is_some_is, not_some}
+use Rattle.harvest_lattice.proofs.ShelfLemmas.{is_some_is}
+use Rattle.replica_exchange.proofs.ShelfLemmas.{one_filled, not_some}
 use Rattle.replica_exchange.proofs.stamps.fill.Goals as goal
 
 pub returns-clause-after : goal.returns-clause-after

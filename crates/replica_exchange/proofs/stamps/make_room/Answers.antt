@@ -3,7 +3,8 @@ use Rattle.std.specs.Option.{option_copied_mut}
 use Rattle.std.specs.BTreeMap as tree
 use Rattle.memento_time.specs.Mementos.{text_cmp}
 use Rattle.replica_exchange.specs.StampShelves.{filled, slot_of}
-use Rattle.replica_exchange.proofs.ShelfLemmas.{same_shelf, slots_stay, is_some_is}
+use Rattle.harvest_lattice.proofs.ShelfLemmas.{is_some_is}
+use Rattle.replica_exchange.proofs.ShelfLemmas.{same_shelf, slots_stay}
 use Rattle.replica_exchange.proofs.stamps.make_room.Goals as goal
 
 there : (c : goal.After-shelves-in-Some-1) → tree.get text_cmp c.make_shelf.new.shelves c.args.archive ≡ Some c.in-Some.shelf.now

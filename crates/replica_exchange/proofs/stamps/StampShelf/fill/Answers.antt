@@ -4,7 +4,8 @@ use Rattle.std.specs.BTreeMap as tree
 use Rattle.std.specs.FinMap as map
 use Rattle.memento_time.specs.Mementos.{text_cmp}
 use Rattle.replica_exchange.specs.StampShelves.{Slots}
-use Rattle.replica_exchange.proofs.ShelfLemmas.{get-slots, slot_put, is_some_is, not_some}
+use Rattle.harvest_lattice.proofs.ShelfLemmas.{is_some_is}
+use Rattle.replica_exchange.proofs.ShelfLemmas.{get-slots, slot_put, not_some}
 use Rattle.replica_exchange.proofs.stamps.StampShelf.fill.Goals as goal
 
 pub returns : goal.returns
