@@ -10,3 +10,4 @@ pub mod CleanLemmas
 pub mod FirstLemmas
 pub mod SetLemmas
 pub mod BuilderLemmas
+pub mod DayLemmas

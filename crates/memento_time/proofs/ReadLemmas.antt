@@ -1,8 +1,10 @@
 -- A text reads as one second at most, and httpdate's dates of 29 bytes are these.
-use Rattle.std.proofs.Common.{◌≡◌, ℕ, zero, suc, ◌+◌, ◌-◌, ◌/◌, ◌%◌, ◌<◌, ◌≤◌, inl, inr, refl, sym, ap, ◌∙◌, arith, List, [], ◌∷◌, ◌++◌, length, take, drop, length-append, Option, Some, append_assoc, Contains, lit≤, get_or}
+use Rattle.std.proofs.Common.{◌≡◌, ◌≢◌, Result, Ok, Err, MatchResult, Bor, None, ℕ, zero, suc, ◌+◌, ◌-◌, ◌/◌, ◌%◌, ◌<◌, ◌≤◌, inl, inr, refl, sym, ap, ◌∙◌, arith, List, [], ◌∷◌, ◌++◌, length, take, drop, length-append, Option, Some, append_assoc, Contains, lit≤, get_or}
 use Rattle.std.proofs.Math.Seq.{take-append_seam}
 use Rattle.std.proofs.lemmas.List.{get_or_default}
-use Rattle.std.proofs.lemmas.Option.{same_Some}
+use Rattle.std.proofs.lemmas.Option.{same_Some, none-some}
+use Rattle.std.specs.Array.{IsWholeChunk}
+use Rattle.std.specs.Result.{result_ok}
 use Rattle.std.specs.Int.{IsInRange}
 use Rattle.httpdate.specs.Calendar.{weekday}
 use Rattle.httpdate.specs.declared.parts.Parts.{Parts}
@@ -111,7 +113,7 @@ tail_of_injective p q h k e =
 weekday_in_range : (n : ℕ) → IsInRange 1 7 (weekday n)
 weekday_in_range n = (omega arith, omega arith)
 
-wday_in_range : (p : Parts) → IsValid p → IsInRange 1 7 p.wday
+pub wday_in_range : (p : Parts) → IsValid p → IsInRange 1 7 p.wday
 wday_in_range p h = rw h.2 (weekday_in_range _)
 
 pub drop-imf : (s : ℕ) → IsSecond s → drop 3 (imf s) ≡ tail_of (civil_time s)
@@ -204,3 +206,13 @@ Reads-imf s h =
       day = rw split (named (day_name (civil_time s).wday) (tail_of (civil_time s)) ((civil_time s).wday - 1) (omega (arith, day)) (get_or_default day_names _ _ [] (omega (arith, day))) (length-day_name _ day));
       rest = refl;
     }
+
+-- ---- a text as an array of 29 bytes, where it has as many
+pub whole_array : {E : Type 0} (text : List ℕ) (r : Result (Bor (List ℕ)) E) (b : Bor (List ℕ)) → MatchResult r (λ y. IsWholeChunk text y.now 29) (λ _. length text ≢ 29) → ◌≡◌ {A = Option (Bor (List ℕ))} (Some b) (result_ok r)
+    → (b.now ≡ text) × (length text ≡ 29)
+whole_array text (Ok y) b h e = (ap (λ (x : Bor (List ℕ)). x.now) (same_Some _ _ e) ∙ h.same, h.long)
+whole_array text (Err x) b h e = absurd (cc)
+
+pub no_array : {E : Type 0} (text : List ℕ) (r : Result (Bor (List ℕ)) E) → MatchResult r (λ y. IsWholeChunk text y.now 29) (λ _. length text ≢ 29) → ◌≡◌ {A = Option (Bor (List ℕ))} None (result_ok r) → length text ≢ 29
+no_array text (Ok y) h e = absurd (none-some _ e)
+no_array text (Err x) h e = h

@@ -9,3 +9,4 @@ pub mod Mementos
 pub mod SecondOf
 pub mod Faults
 pub mod Builder
+pub mod Clock

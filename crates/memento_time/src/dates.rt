@@ -1,0 +1,161 @@
+//! Rows of dates. Neighbours mostly share their day, so that a date is read and written by its clock alone.
+ghost use Rattle.std.specs.Prelude.{◌≡◌, ◌<◌, drop, IfSome};
+ghost use Rattle.memento_time.specs.Clock.{clock_text};
+ghost use Rattle.memento_time.specs.Second.{imf, Reads};
+ghost use Rattle.memento_time.specs.SecondOf.{second_of};
+
+use crate::moments::Moment;
+use std::marker::Model;
+
+const DAY: u64 = 86_400;
+
+/// Where the clock begins in an IMF-fixdate.
+const CLOCK: usize = 17;
+
+/// Reads dates one after another, each as `Moment::read_imf` does: what it has read before only spares time.
+#[derive(Debug, Drop)]
+pub struct DateReader {
+    text: [u8; 29],
+    moment: Moment,
+}
+
+impl Model for DateReader {
+    ghost use Rattle.memento_time.specs.Second.{Reads};
+
+    ghost Value = { Unit {0} };
+
+    ghost view = { λ _. tt };
+
+    ghost invariant = { λ reader. Reads reader.text reader.moment };
+}
+
+impl DateReader {
+    pub fn new() -> DateReader {
+        let moment = epoch();
+        DateReader {
+            text: moment.to_imf(),
+            moment,
+        }
+    }
+
+    /// Reads an IMF-fixdate (RFC 9110, section 5.6.7). The name of the day needn't fit the date.
+    pub fn read(&mut self, text: &[u8]) -> Option<Moment>
+        ensures { result ≡ second_of text.now }
+    {
+        let text: &[u8; 29] = text.try_into().ok()?;
+        if let Some(moment) = self.read_same_day(text) {
+            return Some(moment);
+        }
+        let moment = Moment::read_imf(text)?;
+        *self = DateReader {
+            text: *text,
+            moment,
+        };
+        Some(moment)
+    }
+
+    /// Reads a date of the day that was read last.
+    fn read_same_day(&self, text: &[u8; 29]) -> Option<Moment>
+        ensures { IfSome result (λ s. Reads text.now s) }
+    {
+        if text[..CLOCK] != self.text[..CLOCK] {
+            return None;
+        }
+        let clock = read_clock(text)?;
+        Moment::from_secs(self.moment.secs() / DAY * DAY + clock)
+    }
+}
+
+/// Writes dates one after another, each as `Moment::to_imf` does: what it has written before only spares time.
+#[derive(Debug, Drop)]
+pub struct DateWriter {
+    text: [u8; 29],
+    moment: Moment,
+}
+
+impl Model for DateWriter {
+    ghost use Rattle.std.specs.Prelude.{◌≡◌};
+    ghost use Rattle.memento_time.specs.Second.{imf};
+
+    ghost Value = { Unit {0} };
+
+    ghost view = { λ _. tt };
+
+    ghost invariant = { λ writer. writer.text ≡ imf writer.moment };
+}
+
+impl DateWriter {
+    pub fn new() -> DateWriter {
+        let moment = epoch();
+        DateWriter {
+            text: moment.to_imf(),
+            moment,
+        }
+    }
+
+    /// The IMF-fixdate (RFC 9110, section 5.6.7), as `Sat, 01 Jan 2000 00:00:00 GMT`.
+    pub fn write(&mut self, moment: Moment) -> [u8; 29]
+        ensures { result ≡ imf moment }
+    {
+        let secs = moment.secs();
+        let mut text = self.text;
+        if secs / DAY == self.moment.secs() / DAY {
+            text[CLOCK..].copy_from_slice(&to_clock(secs));
+        } else {
+            text = moment.to_imf();
+        }
+        *self = DateWriter { text, moment };
+        text
+    }
+}
+
+/// The second of the day that the clock of a date shows.
+fn read_clock(text: &[u8; 29]) -> Option<u64>
+    ensures { IfSome result (λ secs. (secs < 86400) × (drop 17 text.now ≡ clock_text secs)) }
+{
+    let hour = number(text[17], text[18]);
+    let minute = number(text[20], text[21]);
+    let second = number(text[23], text[24]);
+    let secs = hour * 3600 + minute * 60 + second;
+    // Whatever the bytes are: it is this second that they show, or none.
+    if secs < DAY && &text[CLOCK..] == to_clock(secs).as_slice() {
+        Some(secs)
+    } else {
+        None
+    }
+}
+
+/// The number of these two digits; any where they are none.
+fn number(tens: u8, ones: u8) -> u64
+    ensures { result < 2806 }
+{
+    u64::from(tens.wrapping_sub(b'0')) * 10 + u64::from(ones.wrapping_sub(b'0'))
+}
+
+/// The clock of a second, as `08:49:37 GMT`.
+#[tactic(auto, unfolding(crate::specs::Clock::clock_text))]
+fn to_clock(secs: u64) -> [u8; 12]
+    ensures { result ≡ clock_text secs }
+{
+    let (hour, minute, second) = (secs / 3600 % 24, secs / 60 % 60, secs % 60);
+    [
+        b'0' + (hour / 10) as u8,
+        b'0' + (hour % 10) as u8,
+        b':',
+        b'0' + (minute / 10) as u8,
+        b'0' + (minute % 10) as u8,
+        b':',
+        b'0' + (second / 10) as u8,
+        b'0' + (second % 10) as u8,
+        b' ',
+        b'G',
+        b'M',
+        b'T',
+    ]
+}
+
+fn epoch() -> Moment
+    ensures { result ≡ 0 }
+{
+    Moment::from_secs(0).unwrap()
+}
