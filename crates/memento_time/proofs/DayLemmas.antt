@@ -80,3 +80,7 @@ Reads_same_day text last t c h len front small clock =
 -- the day of one second before the clock of another of that day
 pub imf_same_day : (s t : ℕ) → IsSecond s → IsSecond t → s / 86400 ≡ t / 86400 → take 17 (imf t) ++ clock_text s ≡ imf s
 imf_same_day s t h k e = rw (take_day t k, ← e) (sym (imf_parts s))
+
+pub imf_epoch : codes "Thu, 01 Jan 1970 00:00:00 GMT" ≡ imf 0
+unfolding imf civil_time civil_date
+imf_epoch = refl

@@ -9,6 +9,8 @@ use std::marker::Model;
 
 const DAY: u64 = 86_400;
 
+const EPOCH: &[u8; 29] = b"Thu, 01 Jan 1970 00:00:00 GMT";
+
 /// Where the clock begins in an IMF-fixdate.
 const CLOCK: usize = 17;
 
@@ -31,10 +33,9 @@ impl Model for DateReader {
 
 impl DateReader {
     pub fn new() -> DateReader {
-        let moment = epoch();
         DateReader {
-            text: moment.to_imf(),
-            moment,
+            text: *EPOCH,
+            moment: epoch(),
         }
     }
 
@@ -86,10 +87,9 @@ impl Model for DateWriter {
 
 impl DateWriter {
     pub fn new() -> DateWriter {
-        let moment = epoch();
         DateWriter {
-            text: moment.to_imf(),
-            moment,
+            text: *EPOCH,
+            moment: epoch(),
         }
     }
 

@@ -11,7 +11,7 @@ use crate::address::is_http;
 use crate::firsts::firsts;
 use crate::role::{self, Role};
 use link_format::{LinkFault, LinkRef, Links, read_links};
-use memento_time::{Clean, Items, Memento, MementosBuilder, in_order};
+use memento_time::{Clean, DateReader, Items, Memento, MementosBuilder, in_order};
 use std::alloc::{AllocError, Global};
 use std::error::Error;
 use std::fmt;
@@ -84,6 +84,7 @@ impl Found {
     /// Adds what the link says as a memento link, if it is one.
     fn add_memento(
         &mut self,
+        dates: &mut DateReader,
         alloc: Global,
         base: &Url,
         link: &LinkRef<'_>,
@@ -101,7 +102,7 @@ impl Found {
         if !role::is_memento_link(&role.rel) {
             return Ok(());
         }
-        if !role::push_memento(&mut self.mementos, alloc, base, link, role)? {
+        if !role::push_memento(&mut self.mementos, dates, alloc, base, link, role)? {
             self.dropped += 1;
         }
         Ok(())
@@ -145,10 +146,11 @@ fn find(alloc: Global, base: &Url, links: &Links<'_>) -> Result<Found, AllocErro
         further: Vec::new(alloc),
         dropped: 0,
     };
+    let mut dates = DateReader::new();
     for k in 0..links.len() {
         let link = links.link(k);
         let role = role::read_role(&link)?;
-        found.add_memento(alloc, base, &link, &role)?;
+        found.add_memento(&mut dates, alloc, base, &link, &role)?;
         found.add_further(alloc, base, &link, &role)?;
     }
     Ok(found)

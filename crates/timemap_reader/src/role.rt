@@ -12,7 +12,7 @@ ghost use Rattle.timemap_reader.specs.Role as spec;
 
 use crate::address::{before_byte, further_address, is_same_word, push_memento_at};
 use link_format::LinkRef;
-use memento_time::{Clean, MementosBuilder, Moment, trim, trim_blanks};
+use memento_time::{Clean, DateReader, MementosBuilder, Moment, trim, trim_blanks};
 use std::alloc::{AllocError, Global};
 use std::borrow::CowSlice;
 use url::Url;
@@ -93,12 +93,12 @@ pub(crate) fn is_further_link(link: &LinkRef<'_>, rel: &[u8]) -> Result<bool, Al
 }
 
 /// The second that a link's first `datetime` names.
-fn moment(datetime: &Option<CowSlice<'_, u8>>) -> Option<Moment>
+fn moment(dates: &mut DateReader, datetime: &Option<CowSlice<'_, u8>>) -> Option<Moment>
     ensures { result ≡ option_and_then (λ value. second_of (trim_blanks value))
         (option_map (λ v. cow_slice_items v) datetime.now) }
 {
     match datetime {
-        Some(text) => Moment::read_imf(trim_blanks(text)),
+        Some(text) => dates.read(trim_blanks(text)),
         None => None,
     }
 }
@@ -106,6 +106,7 @@ fn moment(datetime: &Option<CowSlice<'_, u8>>) -> Option<Moment>
 /// Adds the memento that the link, whose role this is, names. False where its datetime or its address can't be read.
 pub(crate) fn push_memento(
     mementos: &mut MementosBuilder,
+    dates: &mut DateReader,
     alloc: Global,
     base: &Url,
     link: &LinkRef<'_>,
@@ -115,7 +116,7 @@ pub(crate) fn push_memento(
     ensures mementos { OnOk result (mementos.new ≡ with_found mementos.old (spec.memento_of base.now link.now)) }
     ensures found { IfOk result (λ found. found ≡ is_some (spec.memento_of base.now link.now)) }
 {
-    match moment(&role.datetime) {
+    match moment(dates, &role.datetime) {
         Some(at) => push_memento_at(mementos, at, alloc, base, link.target()),
         None => Ok(false),
     }

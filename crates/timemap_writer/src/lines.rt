@@ -9,7 +9,7 @@ ghost use Rattle.timemap_writer.specs.TimeMap.{memento_relations, memento_link};
 
 use crate::service::Service;
 use link_format::{write_param, write_plain_param, write_target};
-use memento_time::{Memento, NoMemory, Original};
+use memento_time::{DateWriter, Memento, NoMemory, Original};
 use std::alloc::Global;
 
 /// `<http://a.example/>; rel="original"`
@@ -39,6 +39,7 @@ pub fn push_timegate(
 pub fn push_timemap(
     out: &mut Vec<u8>,
     alloc: Global,
+    dates: &mut DateWriter,
     relation: &[u8],
     service: &Service,
     original: &Original,
@@ -51,8 +52,8 @@ pub fn push_timemap(
     write_target(out, &address(alloc, service, b"/timemap/link/", original)?)?;
     write_param(out, b"rel", relation)?;
     write_param(out, b"type", b"application/link-format")?;
-    push_datetime(out, b"from", mementos.first())?;
-    push_datetime(out, b"until", mementos.last())?;
+    push_datetime(out, dates, b"from", mementos.first())?;
+    push_datetime(out, dates, b"until", mementos.last())?;
     Ok(())
 }
 
@@ -77,23 +78,28 @@ fn address(
 }
 
 /// The datetime of the memento, of which a quoted text says each byte as it is.
-fn datetime(memento: &Memento) -> [u8; 29]
+fn datetime(dates: &mut DateWriter, memento: &Memento) -> [u8; 29]
     ensures value { result ≡ imf memento.now.at }
     ensures plain { IsPlainValue result }
 {
     // Read for its contract: the moment is one that has a date.
     let _second = memento.at.secs();
-    memento.at.to_imf()
+    dates.write(memento.at)
 }
 
 /// The parameter of this name with the datetime of the memento, if there is one.
-fn push_datetime(out: &mut Vec<u8>, name: &[u8], memento: Option<&Memento>) -> Result<(), NoMemory>
+fn push_datetime(
+    out: &mut Vec<u8>,
+    dates: &mut DateWriter,
+    name: &[u8],
+    memento: Option<&Memento>,
+) -> Result<(), NoMemory>
     requires { IsName name.now }
     ensures { OnOk result (out.new.items
         ≡ out.old.items ++ params_text (datetime_of name.now (option_copied memento.entry))) }
 {
     if let Some(memento) = memento {
-        write_plain_param(out, name, &datetime(memento))?;
+        write_plain_param(out, name, &datetime(dates, memento))?;
     }
     Ok(())
 }
@@ -101,6 +107,7 @@ fn push_datetime(out: &mut Vec<u8>, name: &[u8], memento: Option<&Memento>) -> R
 /// The line of a memento, behind the comma and the end of the line before.
 pub fn push_memento(
     out: &mut Vec<u8>,
+    dates: &mut DateWriter,
     first: bool,
     last: bool,
     memento: &Memento,
@@ -111,7 +118,7 @@ pub fn push_memento(
     out.extend_from_slice(b",\n")?;
     write_target(out, memento.uri.as_bytes())?;
     write_plain_param(out, b"rel", relations(first, last))?;
-    write_plain_param(out, b"datetime", &datetime(memento))?;
+    write_plain_param(out, b"datetime", &datetime(dates, memento))?;
     Ok(())
 }
 

@@ -5,7 +5,7 @@ ghost use Rattle.timemap_writer.specs.TimeMap.{memento_links, timemap_text, gate
 
 use crate::lines::{push_memento, push_original, push_timegate, push_timemap};
 use crate::service::Service;
-use memento_time::{Memento, NoMemory, Original};
+use memento_time::{DateWriter, Memento, NoMemory, Original};
 use std::alloc::Global;
 
 /// The bytes of a TimeMap beside its addresses and the lines of its mementos, whose ends have `first` and `last`.
@@ -33,20 +33,27 @@ pub fn write_timemap(
     text.extend_from_slice(b",\n")?;
     push_timegate(&mut text, alloc, service, original)?;
     text.extend_from_slice(b",\n")?;
-    push_timemap(&mut text, alloc, b"self", service, original, mementos)?;
-    push_mementos(&mut text, mementos)?;
+    let mut dates = DateWriter::new();
+    push_timemap(
+        &mut text, alloc, &mut dates, b"self", service, original, mementos,
+    )?;
+    push_mementos(&mut text, &mut dates, mementos)?;
     text.extend_from_slice(b"\n")?;
     Ok(text)
 }
 
 // The lines of all mementos.
-fn push_mementos(out: &mut Vec<u8>, mementos: &[Memento]) -> Result<(), NoMemory>
+fn push_mementos(
+    out: &mut Vec<u8>,
+    dates: &mut DateWriter,
+    mementos: &[Memento],
+) -> Result<(), NoMemory>
     ensures { OnOk result (out.new.items ≡ out.old.items ++ followed (codes ",\n") (memento_links true mementos.now)) }
 {
     let mut first = true;
     let mut left = mementos;
     while let [memento, rest @ ..] = left {
-        push_memento(out, first, rest.is_empty(), memento)?;
+        push_memento(out, dates, first, rest.is_empty(), memento)?;
         first = false;
         left = rest;
     }
@@ -78,6 +85,9 @@ pub fn write_gate_links(
     let mut text = Vec::with_capacity(alloc, LINKS_FRAME + addresses)?;
     push_original(&mut text, original)?;
     text.extend_from_slice(b", ")?;
-    push_timemap(&mut text, alloc, b"timemap", service, original, mementos)?;
+    let mut dates = DateWriter::new();
+    push_timemap(
+        &mut text, alloc, &mut dates, b"timemap", service, original, mementos,
+    )?;
     Ok(text)
 }
