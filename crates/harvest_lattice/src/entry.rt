@@ -62,6 +62,14 @@ impl Entry {
         self.mementos.as_slice()
     }
 
+    /// The set of these, shared and not copied.
+    pub fn share(&self) -> Result<Arc<Mementos>, NoMemory>
+        ensures { IfOk result (λ list. arc_value list ≡ self.now.mementos) }
+    {
+        let list = Arc::try_clone(&self.mementos)?;
+        Ok(list)
+    }
+
     /// Whether this is of a lesser revision, or of the same with a subset of the mementos.
     pub fn le(&self, other: &Entry) -> bool
         ensures { IsTrue result ↔ KeptAtMost self.now other.now }

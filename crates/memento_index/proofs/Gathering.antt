@@ -1,5 +1,5 @@
 -- The steps of a state's changes.
-use Rattle.std.proofs.Common.{◌≡◌, ℕ, zero, suc, ◌+◌, ◌<◌, ◌≤◌, Bool, true, false, cond, eqb, max, ◌&&◌, ◌||◌, map, take, length, get_or, List, [], ◌∷◌, ◌++◌, Option, Some, None, IfSome, unwrap_or, inl, inr, refl, sym, ap, subst, ◌∙◌, arith}
+use Rattle.std.proofs.Common.{◌≡◌, ℕ, zero, suc, ◌+◌, ◌<◌, ◌≤◌, Bool, true, false, cond, eqb, max, ◌&&◌, ◌||◌, map, take, length, get_or, List, [], ◌∷◌, ◌++◌, Option, Some, None, IfSome, inl, inr, refl, sym, ap, subst, ◌∙◌, arith}
 use Rattle.std.specs.List.{AllByRecursion}
 use Rattle.std.specs.List.Sorted.{IsStrictlySortedBy}
 use Rattle.std.specs.Ordering.{eq_by_cmp, is_eq}
@@ -30,9 +30,11 @@ use Rattle.memento_index.proofs.Puts.{joined_there, joined_alone}
 use Rattle.harvest_lattice.proofs.ShelfLemmas.{same_text}
 use Rattle.harvest_lattice.proofs.Walked.{value_at}
 use Rattle.memento_index.specs.declared.counted.Step.{Step}
+use Rattle.memento_index.specs.declared.counted.Steps.{Steps}
 use Rattle.memento_index.specs.Counts.{once, occurrences, beginnings, endings}
 use Rattle.memento_index.specs.Showing.{shows_one, showing_by, shown_before, shown_after}
-use Rattle.memento_index.specs.Lists.{StepLists, steps_of, AreNews, IsNewsAt, IsShifted, AreGathered}
+use Rattle.memento_index.specs.Lists.{Lists, StepLists, each_begins, steps_in, steps_or_none, steps_of, tally_of, IsFirst, AreFirst, AreNews, IsNewsAt, IsShifted, AreGathered}
+use Rattle.memento_index.proofs.Shared.{all_begin, none_ends}
 
 -- ---- a set's members in order stand once each
 
@@ -120,14 +122,42 @@ shifted x e old more new before after is counts shown replaced within = record {
   shown = λ m. omega (arith, within m, shown m, ap (λ (ss : List Step). endings ss m) is, endings-append old more m);
 }
 
+-- all of a list begins, where it replaces nothing
+pub shifted_first : (x : Entries) (e : Key × Kept) (before : List Memento) → length before ≡ 0 → ((m : Memento) → shows_one (Some (join_at x e)) m + occurrences before m ≡ shows_one (fmap.get x e.0) m + occurrences (set.items e.1.mementos) m) → IsShifted x e [] (each_begins (set.items e.1.mementos))
+shifted_first x e [] none replaced = record {
+  counts = λ m. omega (arith, replaced m, all_begin (set.items e.1.mementos) m, none_ends (set.items e.1.mementos) m);
+  shown = λ m. omega (arith, none_ends (set.items e.1.mementos) m);
+}
+shifted_first x e (m ∷ ms) none replaced = absurd (omega arith)
+
 -- ---- steps taken out and put back
 
-module _ (m n w : StepLists) (a k : List ℕ) (v : List Step) (gone : (q : List ℕ) → tree.get text_cmp n q ≡ cond (eq_by_cmp text_cmp a q) None (tree.get text_cmp m q)) (put : (q : List ℕ) → tree.get text_cmp w q ≡ cond (is_at (text_cmp k) q) (Some v) (tree.get text_cmp n q)) (same : k ≡ a) where
-  pub steps_put : steps_of w a ≡ v
-  steps_put = ap (λ (s : Option (List Step)). unwrap_or s []) (put a ∙ ap (λ b. cond b (Some v) (tree.get text_cmp n a)) (ap (λ p. is_at (text_cmp p) a) same ∙ ap is_eq (tied_itself nat_list_cmp_total a)))
+pub none_gone : (m : StepLists) (a : List ℕ) → tree.get text_cmp m a ≡ None → (o : List ℕ) → tree.get text_cmp m o ≡ cond (eq_by_cmp text_cmp a o) None (tree.get text_cmp m o)
+none_gone m a none o =
+    elim (eq_by_cmp text_cmp a o) as (λ b. eq_by_cmp text_cmp a o ≡ b → tree.get text_cmp m o ≡ cond b None (tree.get text_cmp m o)) [
+      | true ↦ λ t. ap (λ p. tree.get text_cmp m p) (sym (same_text a o t)) ∙ none
+      | false ↦ λ _. refl
+    ] refl
+
+module _ (m n w : StepLists) (a k : List ℕ) (v : Steps) (gone : (q : List ℕ) → tree.get text_cmp n q ≡ cond (eq_by_cmp text_cmp a q) None (tree.get text_cmp m q)) (put : (q : List ℕ) → tree.get text_cmp w q ≡ cond (is_at (text_cmp k) q) (Some v) (tree.get text_cmp n q)) (same : k ≡ a) where
+  here : tree.get text_cmp w a ≡ Some v
+  here = put a ∙ ap (λ b. cond b (Some v) (tree.get text_cmp n a)) (ap (λ p. is_at (text_cmp p) a) same ∙ ap is_eq (tied_itself nat_list_cmp_total a))
+
+  elsewhere : (o : List ℕ) → eq_by_cmp text_cmp a o ≡ false → tree.get text_cmp w o ≡ tree.get text_cmp m o
+  elsewhere o apart = put o ∙ (ap (λ b. cond b (Some v) (tree.get text_cmp n o)) (ap (λ p. is_at (text_cmp p) o) same ∙ apart) ∙ (gone o ∙ ap (λ b. cond b None (tree.get text_cmp m o)) apart))
+
+  pub steps_put : steps_of w a ≡ steps_in v
+  steps_put = ap (λ (s : Option Steps). steps_or_none s) here
 
   pub others_stay : (o : List ℕ) → eq_by_cmp text_cmp a o ≡ false → steps_of w o ≡ steps_of m o
-  others_stay o apart = ap (λ (s : Option (List Step)). unwrap_or s []) (put o ∙ (ap (λ b. cond b (Some v) (tree.get text_cmp n o)) (ap (λ p. is_at (text_cmp p) o) same ∙ apart) ∙ (gone o ∙ ap (λ b. cond b None (tree.get text_cmp m o)) apart)))
+  others_stay o apart = ap (λ (s : Option Steps). steps_or_none s) (elsewhere o apart)
+
+  pub first_put : (lists : Lists) → AreFirst lists m → IsFirst (tally_of lists a) v → AreFirst lists w
+  first_put lists first comes o =
+      elim (eq_by_cmp text_cmp a o) as (λ b. eq_by_cmp text_cmp a o ≡ b → IfSome (tree.get text_cmp w o) (IsFirst (tally_of lists o))) [
+        | true ↦ λ t. subst (λ p. IfSome (tree.get text_cmp w p) (IsFirst (tally_of lists p))) (same_text a o t) (subst (λ (s : Option Steps). IfSome s (IsFirst (tally_of lists a))) (sym here) comes)
+        | false ↦ λ apart. subst (λ (s : Option Steps). IfSome s (IsFirst (tally_of lists o))) (sym (elsewhere o apart)) (first o)
+      ] refl
 
 -- ---- row after row
 

@@ -6,5 +6,6 @@ pub mod Puts
 pub mod Showing
 pub mod Tallies
 pub mod Listed
+pub mod Shared
 pub mod Columns
 pub mod Gathering

@@ -1,5 +1,5 @@
 -- The lists of an index.
-use Rattle.std.proofs.Common.{◌≡◌, ℕ, ◌+◌, ◌≤◌, true, false, cond, length, List, [], ◌∷◌, Option, Some, None, is_some, IfSome, unwrap_or, ◌⊎◌, inl, inr, refl, sym, ap, subst, ◌∙◌, arith}
+use Rattle.std.proofs.Common.{◌≡◌, ℕ, ◌+◌, ◌≤◌, true, false, cond, length, List, [], ◌∷◌, Option, Some, None, is_some, IfSome, ◌⊎◌, inl, inr, refl, sym, ap, subst, ◌∙◌, arith}
 use Rattle.std.specs.Map.{lookup, keys_of}
 use Rattle.std.specs.List.Sorted.{IsStrictlySortedBy}
 use Rattle.std.specs.Ordering.{eq_by_cmp, is_eq}
@@ -21,10 +21,12 @@ use Rattle.harvest_lattice.proofs.Entries.{same_mementos}
 use Rattle.harvest_lattice.proofs.ShelfLemmas.{same_text, none_after}
 use Rattle.memento_index.specs.declared.counted.Counted.{Counted}
 use Rattle.memento_index.specs.declared.counted.Step.{Step}
+use Rattle.memento_index.specs.declared.counted.Steps.{Steps}
+use Rattle.memento_index.specs.declared.counted.Steps.TheVariants.{First, Each}
 use Rattle.memento_index.specs.Counts.{IsTally, count_of, beginnings, mementos_of, IsRecounted}
 use Rattle.memento_index.specs.Showing.{showing, showing_by}
 use Rattle.memento_index.specs.Tallies.{Tallied}
-use Rattle.memento_index.specs.Lists.{Lists, StepLists, tally_in, tally_of, steps_of, Grows, HasRoom, HaveRoom, CanCount, IsCounted, AreGathered}
+use Rattle.memento_index.specs.Lists.{Lists, StepLists, tally_in, tally_of, steps_in, steps_or_none, steps_of, Grows, IsFirst, AreFirst, CanTake, HasRoom, HaveRoom, CanCount, IsCounted, AreGathered}
 use Rattle.memento_index.proofs.Showing.{join_shows, before-le, showing-le, shown_counts, not_shown_counts}
 use Rattle.memento_index.proofs.Tallies.{beginnings-le}
 use Rattle.memento_index.proofs.Listed.{tally_lists}
@@ -52,28 +54,36 @@ grown_same None b p = p
 grown_same (Some t) None p = absurd p
 grown_same (Some t) (Some u) p = p.0
 
-pub grown_room : (keys : ℕ) (a b : Option Tallied) (spare wide more : ℕ) → Grows a b → spare ≤ wide → HasRoom keys a spare more → HasRoom keys b wide more
-grown_room keys None b spare wide more p le h = absurd h
-grown_room keys (Some t) None spare wide more p le h = absurd p
-grown_room keys (Some t) (Some u) spare wide more p le h =
-    let same : length u.entries ≡ length t.entries = ap (λ es. length es) p.0 in
-    let wider = p.1 in
-    let here = h.0 in
-    let there = h.1 in
-    (omega arith, omega arith, h.2)
+pub grown_room : (keys : ℕ) (a b : Option Tallied) (spare wide : ℕ) (steps : Steps) → Grows a b → spare ≤ wide → HasRoom keys a spare steps → HasRoom keys b wide steps
+grown_room keys None b spare wide steps p le h = absurd h
+grown_room keys (Some t) None spare wide steps p le h = absurd p
+grown_room keys (Some t) (Some u) spare wide steps p le h = (wider steps h.0, h.1)
+  where
+    wider : (s : Steps) → CanTake t spare s → CanTake u wide s
+    wider (First list) empty = p.0 ∙ empty
+    wider (Each each) fits =
+        let same : length u.entries ≡ length t.entries = ap (λ es. length es) p.0 in
+        let more = p.1 in
+        let here = fits.0 in
+        let there = fits.1 in
+        (omega arith, omega arith)
 
-pub fewer_keys : (keys : ℕ) (a : Option Tallied) (spare more : ℕ) → HasRoom keys a spare more → HasRoom 0 a spare more
-fewer_keys keys None spare more h = absurd h
-fewer_keys keys (Some t) spare more h = let few = h.2 in (h.0, h.1, omega arith)
+pub fewer_keys : (keys : ℕ) (a : Option Tallied) (spare : ℕ) (steps : Steps) → HasRoom keys a spare steps → HasRoom 0 a spare steps
+fewer_keys keys None spare steps h = absurd h
+fewer_keys keys (Some t) spare steps h = let few = h.1 in (h.0, omega arith)
+
+-- a first list still comes where nothing is listed
+pub still_first : (m n : Lists) (all : StepLists) → ((o : List ℕ) → Grows (tree.get text_cmp m o) (tree.get text_cmp n o)) → AreFirst m all → AreFirst n all
+still_first m n all grow first o = subst (λ (es : List Counted). IfSome (tree.get text_cmp all o) (IsFirst es)) (sym (grown_same (tree.get text_cmp m o) (tree.get text_cmp n o) (grow o))) (first o)
 
 pub fewer_keys_all : (keys : ℕ) (all : StepLists) (lists : Lists) (spare : ℕ) → HaveRoom keys all lists spare → HaveRoom 0 all lists spare
 fewer_keys_all keys all lists spare h o = by (tree.get text_cmp all o) (h o)
   where
-    by : (s : Option (List Step)) → IfSome s (λ steps. HasRoom keys (tree.get text_cmp lists o) spare (length steps)) → IfSome s (λ steps. HasRoom 0 (tree.get text_cmp lists o) spare (length steps))
+    by : (s : Option Steps) → IfSome s (HasRoom keys (tree.get text_cmp lists o) spare) → IfSome s (HasRoom 0 (tree.get text_cmp lists o) spare)
     by None h = tt
-    by (Some steps) h = fewer_keys keys (tree.get text_cmp lists o) spare (length steps) h
+    by (Some steps) h = fewer_keys keys (tree.get text_cmp lists o) spare steps h
 
-pub none_there : (t : Option Tallied) → is_some t ≡ false → t ≡ None
+pub none_there : {A : Type 0} (t : Option A) → is_some t ≡ false → t ≡ None
 none_there None h = refl
 none_there (Some t) h = absurd (true≢false h)
 
@@ -89,37 +99,41 @@ one_grows m n a w put grow o =
 -- ---- a walk over the steps of each original
 
 -- an original's steps are still to come, or it has its room
-abbrev pub HasRoomOr : ℕ → StepLists → List (List ℕ × List Step) → Lists → ℕ → List ℕ → Type 0
-HasRoomOr keys all left lists spare o = (lookup (is_at (text_cmp o)) left ≡ tree.get text_cmp all o) ⊎ IfSome (tree.get text_cmp all o) (λ steps. HasRoom keys (tree.get text_cmp lists o) spare (length steps))
+abbrev pub HasRoomOr : ℕ → StepLists → List (List ℕ × Steps) → Lists → ℕ → List ℕ → Type 0
+HasRoomOr keys all left lists spare o = (lookup (is_at (text_cmp o)) left ≡ tree.get text_cmp all o) ⊎ IfSome (tree.get text_cmp all o) (HasRoom keys (tree.get text_cmp lists o) spare)
 
-pub room_stays : (keys : ℕ) (s : Option (List Step)) (a b : Option Tallied) (spare wide : ℕ) → Grows a b → spare ≤ wide → IfSome s (λ steps. HasRoom keys a spare (length steps)) → IfSome s (λ steps. HasRoom keys b wide (length steps))
+pub room_stays : (keys : ℕ) (s : Option Steps) (a b : Option Tallied) (spare wide : ℕ) → Grows a b → spare ≤ wide → IfSome s (HasRoom keys a spare) → IfSome s (HasRoom keys b wide)
 room_stays keys None a b spare wide grow le h = tt
-room_stays keys (Some steps) a b spare wide grow le h = grown_room keys a b spare wide (length steps) grow le h
+room_stays keys (Some steps) a b spare wide grow le h = grown_room keys a b spare wide steps grow le h
 
-pub one_more_room : (keys : ℕ) (all : StepLists) (left new : List (List ℕ × List Step)) (e : List ℕ × List Step) (was now : Lists) (spare wide : ℕ) → left ≡ e ∷ new → ((o : List ℕ) → Grows (tree.get text_cmp was o) (tree.get text_cmp now o)) → spare ≤ wide → HasRoom keys (tree.get text_cmp now e.0) wide (length e.1) → (o : List ℕ) → HasRoomOr keys all left was spare o → HasRoomOr keys all new now wide o
-one_more_room keys all left new e was now spare wide is grow le made o (inr had) = inr (room_stays keys (tree.get text_cmp all o) (tree.get text_cmp was o) (tree.get text_cmp now o) spare wide (grow o) le had)
-one_more_room keys all left new e was now spare wide is grow le made o (inl to_come) =
+pub one_more_room : (keys : ℕ) (all : StepLists) (left new : List (List ℕ × Steps)) (e : List ℕ × Steps) (was now : Lists) (spare wide : ℕ) → left ≡ e ∷ new → ((o : List ℕ) → Grows (tree.get text_cmp was o) (tree.get text_cmp now o)) → spare ≤ wide → AreFirst was all → (IsFirst (tally_of was e.0) e.1 → HasRoom keys (tree.get text_cmp now e.0) wide e.1) → (o : List ℕ) → HasRoomOr keys all left was spare o → HasRoomOr keys all new now wide o
+one_more_room keys all left new e was now spare wide is grow le first made o (inr had) = inr (room_stays keys (tree.get text_cmp all o) (tree.get text_cmp was o) (tree.get text_cmp now o) spare wide (grow o) le had)
+one_more_room keys all left new e was now spare wide is grow le first made o (inl to_come) =
     elim (is_at (text_cmp o) e.0) as (λ b. is_at (text_cmp o) e.0 ≡ b → cond b (Some e.1) (lookup (is_at (text_cmp o)) new) ≡ tree.get text_cmp all o → HasRoomOr keys all new now wide o) [
-      | true ↦ λ t its. inr (subst (λ (s : Option (List Step)). IfSome s (λ steps. HasRoom keys (tree.get text_cmp now o) wide (length steps))) its (subst (λ p. HasRoom keys (tree.get text_cmp now p) wide (length e.1)) (sym (same_text o e.0 t)) made))
+      | true ↦ λ t its.
+          let same : o ≡ e.0 = same_text o e.0 t in
+          let comes : IsFirst (tally_of was o) e.1 = subst (λ (s : Option Steps). IfSome s (IsFirst (tally_of was o))) (sym its) (first o) in
+          let room : HasRoom keys (tree.get text_cmp now e.0) wide e.1 = made (subst (λ p. IsFirst (tally_of was p) e.1) same comes) in
+          inr (subst (λ (s : Option Steps). IfSome s (HasRoom keys (tree.get text_cmp now o) wide)) its (subst (λ p. HasRoom keys (tree.get text_cmp now p) wide e.1) (sym same) room))
       | false ↦ λ _ rest. inl rest
     ] refl (ap (lookup (is_at (text_cmp o))) (sym is) ∙ to_come)
 
-pub all_roomy : (keys : ℕ) (all : StepLists) (left : List (List ℕ × List Step)) (lists : Lists) (spare : ℕ) → left ≡ [] → ((o : List ℕ) → HasRoomOr keys all left lists spare o) → HaveRoom keys all lists spare
+pub all_roomy : (keys : ℕ) (all : StepLists) (left : List (List ℕ × Steps)) (lists : Lists) (spare : ℕ) → left ≡ [] → ((o : List ℕ) → HasRoomOr keys all left lists spare o) → HaveRoom keys all lists spare
 all_roomy keys all left lists spare is has o =
     elim (has o) [
       | inr room ↦ room
-      | inl to_come ↦ subst (λ (s : Option (List Step)). IfSome s (λ steps. HasRoom keys (tree.get text_cmp lists o) spare (length steps))) (ap (lookup (is_at (text_cmp o))) (sym is) ∙ to_come) tt
+      | inl to_come ↦ subst (λ (s : Option Steps). IfSome s (HasRoom keys (tree.get text_cmp lists o) spare)) (ap (lookup (is_at (text_cmp o))) (sym is) ∙ to_come) tt
     ]
 
 -- ---- a walk that counts
 
 -- an original's steps are still to come and its list is as it was, or they are counted
-abbrev pub IsCountedOr : StepLists → List (List ℕ × List Step) → Lists → Lists → List ℕ → Type 0
+abbrev pub IsCountedOr : StepLists → List (List ℕ × Steps) → Lists → Lists → List ℕ → Type 0
 IsCountedOr all left was now o =
     ((lookup (is_at (text_cmp o)) left ≡ tree.get text_cmp all o) × (tree.get text_cmp now o ≡ tree.get text_cmp was o)) ⊎ ((lookup (is_at (text_cmp o)) left ≡ None) × IsRecounted (tally_of was o) (steps_of all o) (tally_of now o))
 
 -- the steps that come next are those of their original
-pub next_is : (all : StepLists) (left new : List (List ℕ × List Step)) (e : List ℕ × List Step) (was now : Lists) → left ≡ e ∷ new → ((o : List ℕ) → IsCountedOr all left was now o) → (tree.get text_cmp all e.0 ≡ Some e.1) × (tree.get text_cmp now e.0 ≡ tree.get text_cmp was e.0)
+pub next_is : (all : StepLists) (left new : List (List ℕ × Steps)) (e : List ℕ × Steps) (was now : Lists) → left ≡ e ∷ new → ((o : List ℕ) → IsCountedOr all left was now o) → (tree.get text_cmp all e.0 ≡ Some e.1) × (tree.get text_cmp now e.0 ≡ tree.get text_cmp was e.0)
 next_is all left new e was now is each =
     let here : lookup (is_at (text_cmp e.0)) left ≡ Some e.1 = ap (lookup (is_at (text_cmp e.0))) is ∙ ap (λ b. cond b (Some e.1) (lookup (is_at (text_cmp e.0)) new)) (text_itself e.0) in
     elim (each e.0) [
@@ -130,25 +144,25 @@ next_is all left new e was now is each =
     text_itself : (a : List ℕ) → is_at (text_cmp a) a ≡ true
     text_itself a = ap is_eq (tied_itself nat_list_cmp_total a)
 
-    not_none : (s : List Step) → Some s ≡ None → ⊥
+    not_none : (s : Steps) → Some s ≡ None → ⊥
     not_none s e = cc
 
 -- so what is asked of each original holds of the next one
-pub next_tally : (all : StepLists) (left new : List (List ℕ × List Step)) (e : List ℕ × List Step) (was now : Lists) → left ≡ e ∷ new → ((o : List ℕ) → IsCountedOr all left was now o) → ((o : List ℕ) → IsTally (tally_of was o)) → IsTally (tally_of now e.0)
+pub next_tally : (all : StepLists) (left new : List (List ℕ × Steps)) (e : List ℕ × Steps) (was now : Lists) → left ≡ e ∷ new → ((o : List ℕ) → IsCountedOr all left was now o) → ((o : List ℕ) → IsTally (tally_of was o)) → IsTally (tally_of now e.0)
 next_tally all left new e was now is each tally = subst (λ (t : Option Tallied). IsTally (tally_in t)) (sym (next_is all left new e was now is each).1) (tally e.0)
 
-pub next_can : (all : StepLists) (left new : List (List ℕ × List Step)) (e : List ℕ × List Step) (was now : Lists) → left ≡ e ∷ new → ((o : List ℕ) → IsCountedOr all left was now o) → ((o : List ℕ) → CanCount (tally_of was o) (steps_of all o)) → CanCount (tally_of now e.0) e.1
+pub next_can : (all : StepLists) (left new : List (List ℕ × Steps)) (e : List ℕ × Steps) (was now : Lists) → left ≡ e ∷ new → ((o : List ℕ) → IsCountedOr all left was now o) → ((o : List ℕ) → CanCount (tally_of was o) (steps_of all o)) → CanCount (tally_of now e.0) (steps_in e.1)
 next_can all left new e was now is each can =
     let its = next_is all left new e was now is each in
-    subst (λ (t : Option Tallied). CanCount (tally_in t) e.1) (sym its.1) (subst (λ (s : Option (List Step)). CanCount (tally_of was e.0) (unwrap_or s [])) its.0 (can e.0))
+    subst (λ (t : Option Tallied). CanCount (tally_in t) (steps_in e.1)) (sym its.1) (subst (λ (s : Option Steps). CanCount (tally_of was e.0) (steps_or_none s)) its.0 (can e.0))
 
-pub next_room : (all : StepLists) (left new : List (List ℕ × List Step)) (e : List ℕ × List Step) (was now : Lists) → left ≡ e ∷ new → ((o : List ℕ) → IsCountedOr all left was now o) → (spare wide : ℕ) → spare ≤ wide → HaveRoom 0 all was spare → HasRoom 0 (tree.get text_cmp now e.0) wide (length e.1)
+pub next_room : (all : StepLists) (left new : List (List ℕ × Steps)) (e : List ℕ × Steps) (was now : Lists) → left ≡ e ∷ new → ((o : List ℕ) → IsCountedOr all left was now o) → (spare wide : ℕ) → spare ≤ wide → HaveRoom 0 all was spare → HasRoom 0 (tree.get text_cmp now e.0) wide e.1
 next_room all left new e was now is each spare wide le room =
     let its = next_is all left new e was now is each in
-    let here : HasRoom 0 (tree.get text_cmp was e.0) spare (length e.1) = subst (λ (s : Option (List Step)). IfSome s (λ steps. HasRoom 0 (tree.get text_cmp was e.0) spare (length steps))) its.0 (room e.0) in
-    subst (λ (t : Option Tallied). HasRoom 0 t wide (length e.1)) (sym its.1) (grown_room 0 (tree.get text_cmp was e.0) (tree.get text_cmp was e.0) spare wide (length e.1) (grows_same (tree.get text_cmp was e.0)) le here)
+    let here : HasRoom 0 (tree.get text_cmp was e.0) spare e.1 = subst (λ (s : Option Steps). IfSome s (HasRoom 0 (tree.get text_cmp was e.0) spare)) its.0 (room e.0) in
+    subst (λ (t : Option Tallied). HasRoom 0 t wide e.1) (sym its.1) (grown_room 0 (tree.get text_cmp was e.0) (tree.get text_cmp was e.0) spare wide e.1 (grows_same (tree.get text_cmp was e.0)) le here)
 
-pub one_more_counted : (all : StepLists) (left new : List (List ℕ × List Step)) (e : List ℕ × List Step) (was now next : Lists) → left ≡ e ∷ new → IsStrictlySortedBy text_cmp (keys_of left) → ((o : List ℕ) → IsCountedOr all left was now o) → IsRecounted (tally_of now e.0) e.1 (tally_of next e.0) → ((o : List ℕ) → eq_by_cmp text_cmp e.0 o ≡ false → tree.get text_cmp next o ≡ tree.get text_cmp now o) → (o : List ℕ) → IsCountedOr all new was next o
+pub one_more_counted : (all : StepLists) (left new : List (List ℕ × Steps)) (e : List ℕ × Steps) (was now next : Lists) → left ≡ e ∷ new → IsStrictlySortedBy text_cmp (keys_of left) → ((o : List ℕ) → IsCountedOr all left was now o) → IsRecounted (tally_of now e.0) (steps_in e.1) (tally_of next e.0) → ((o : List ℕ) → eq_by_cmp text_cmp e.0 o ≡ false → tree.get text_cmp next o ≡ tree.get text_cmp now o) → (o : List ℕ) → IsCountedOr all new was next o
 unfolding IsStrictlySortedBy
 one_more_counted all left new e was now next is sorted each recounted others o =
     elim (eq_by_cmp text_cmp e.0 o) as (λ b. eq_by_cmp text_cmp e.0 o ≡ b → IsCountedOr all new was next o) [
@@ -157,13 +171,13 @@ one_more_counted all left new e was now next is sorted each recounted others o =
     ] refl
   where
     gone : lookup (is_at (text_cmp e.0)) new ≡ None
-    gone = let h : IsStrictlySortedBy text_cmp (keys_of (e ∷ new)) = subst (λ (es : List (List ℕ × List Step)). IsStrictlySortedBy text_cmp (keys_of es)) is sorted in none_after e.0 new h.0
+    gone = let h : IsStrictlySortedBy text_cmp (keys_of (e ∷ new)) = subst (λ (es : List (List ℕ × Steps)). IsStrictlySortedBy text_cmp (keys_of es)) is sorted in none_after e.0 new h.0
 
     here : IsRecounted (tally_of was e.0) (steps_of all e.0) (tally_of next e.0)
     here =
         let its = next_is all left new e was now is each in
-        subst (λ (s : List Step). IsRecounted (tally_of was e.0) s (tally_of next e.0)) (sym (ap (λ (s : Option (List Step)). unwrap_or s []) its.0))
-        (subst (λ (t : Option Tallied). IsRecounted (tally_in t) e.1 (tally_of next e.0)) its.1 recounted)
+        subst (λ (s : List Step). IsRecounted (tally_of was e.0) s (tally_of next e.0)) (sym (ap (λ (s : Option Steps). steps_or_none s) its.0))
+        (subst (λ (t : Option Tallied). IsRecounted (tally_in t) (steps_in e.1) (tally_of next e.0)) its.1 recounted)
 
     other : eq_by_cmp text_cmp e.0 o ≡ false → IsCountedOr all left was now o → IsCountedOr all new was next o
     other f before =
@@ -175,19 +189,19 @@ one_more_counted all left new e was now next is sorted each recounted others o =
         ]
 
 -- at the end all are counted
-pub all_counted : (all : StepLists) (left : List (List ℕ × List Step)) (was now : Lists) → left ≡ [] → ((o : List ℕ) → IsTally (tally_of was o)) → ((o : List ℕ) → IsCountedOr all left was now o) → (o : List ℕ) → IsRecounted (tally_of was o) (steps_of all o) (tally_of now o)
+pub all_counted : (all : StepLists) (left : List (List ℕ × Steps)) (was now : Lists) → left ≡ [] → ((o : List ℕ) → IsTally (tally_of was o)) → ((o : List ℕ) → IsCountedOr all left was now o) → (o : List ℕ) → IsRecounted (tally_of was o) (steps_of all o) (tally_of now o)
 all_counted all left was now is tally each o =
     elim (each o) [
       | inr done ↦ done.1
       | inl to_come ↦
-          let none : steps_of all o ≡ [] = ap (λ (s : Option (List Step)). unwrap_or s []) (sym to_come.0 ∙ ap (lookup (is_at (text_cmp o))) is) in
+          let none : steps_of all o ≡ [] = ap (λ (s : Option Steps). steps_or_none s) (sym to_come.0 ∙ ap (lookup (is_at (text_cmp o))) is) in
           subst (λ (s : List Step). IsRecounted (tally_of was o) s (tally_of now o)) (sym none)
           (subst (λ (t : Option Tallied). IsRecounted (tally_of was o) [] (tally_in t)) (sym to_come.1) (record { tally = tally o; counts = λ m. refl }))
     ]
 
-pub later_sorted : (left new : List (List ℕ × List Step)) (e : List ℕ × List Step) → left ≡ e ∷ new → IsStrictlySortedBy text_cmp (keys_of left) → IsStrictlySortedBy text_cmp (keys_of new)
+pub later_sorted : (left new : List (List ℕ × Steps)) (e : List ℕ × Steps) → left ≡ e ∷ new → IsStrictlySortedBy text_cmp (keys_of left) → IsStrictlySortedBy text_cmp (keys_of new)
 unfolding IsStrictlySortedBy
-later_sorted left new e is sorted = let h : IsStrictlySortedBy text_cmp (keys_of (e ∷ new)) = subst (λ (es : List (List ℕ × List Step)). IsStrictlySortedBy text_cmp (keys_of es)) is sorted in h.1
+later_sorted left new e is sorted = let h : IsStrictlySortedBy text_cmp (keys_of (e ∷ new)) = subst (λ (es : List (List ℕ × Steps)). IsStrictlySortedBy text_cmp (keys_of es)) is sorted in h.1
 
 -- ---- an index of nothing
 
@@ -230,10 +244,10 @@ module _ (x news : Entries) (all : StepLists) (lists made : Lists) (counted : Is
     few = λ m. omega (arith, counts_made o m, showing-le x o m, few (tree.get text_cmp all o) (tree.get text_cmp made o) m (room o));
   }
     where
-      few : (s : Option (List Step)) (t : Option Tallied) (m : Memento) → IfSome s (λ steps. HasRoom keys t spare (length steps)) → keys + beginnings (unwrap_or s []) m ≤ 18446744073709551615
+      few : (s : Option Steps) (t : Option Tallied) (m : Memento) → IfSome s (HasRoom keys t spare) → keys + beginnings (steps_or_none s) m ≤ 18446744073709551615
       few None t m h = omega arith
       few (Some steps) None m h = absurd h
-      few (Some steps) (Some t) m h = let most = h.2 in omega (arith, beginnings-le steps m, most)
+      few (Some steps) (Some t) m h = let most = h.1 in omega (arith, beginnings-le (steps_in steps) m, most)
 
   -- and once they are, the counts are those of the join
   pub counted_after : (y : Entries) (after : Lists) → y ≡ join x news → ((o : List ℕ) → IsRecounted (tally_of made o) (steps_of all o) (tally_of after o)) → IsCounted y after

@@ -1,14 +1,18 @@
 -- The lists of an index.
-use Rattle.std.specs.Prelude.{◌≡◌, ℕ, ◌+◌, ◌≤◌, List, [], length, Option, Some, None, unwrap_or, IfSome}
+use Rattle.std.specs.Prelude.{◌≡◌, ℕ, ◌+◌, ◌≤◌, true, List, [], length, map, Option, Some, None, IfSome}
+use Rattle.std.specs.Arc.{arc_value}
 use Rattle.std.specs.BTreeMap as tree
 use Rattle.std.specs.BTreeMap.{BTreeMap}
 use Rattle.memento_time.specs.Mementos.{text_cmp}
 use Rattle.memento_time.specs.declared.mementos.Memento.{Memento}
 use Rattle.std.specs.FinMap as fmap
+use Rattle.memento_sets.specs.Sets as set
 use Rattle.harvest_lattice.specs.Lattice.{Key, Kept, Entries, IsAtMostAt, join_at}
 use Rattle.harvest_lattice.specs.News.{IsFresh}
 use Rattle.memento_index.specs.declared.counted.Counted.{Counted}
 use Rattle.memento_index.specs.declared.counted.Step.{Step}
+use Rattle.memento_index.specs.declared.counted.Steps.{Steps}
+use Rattle.memento_index.specs.declared.counted.Steps.TheVariants.{First, Each}
 use Rattle.memento_index.specs.Counts.{IsTally, count_of, beginnings, endings}
 use Rattle.memento_index.specs.Showing.{shows_one, showing, shown_before, shown_after}
 use Rattle.memento_index.specs.Tallies.{Tallied}
@@ -32,30 +36,57 @@ Grows None new = tally_in new ≡ []
 Grows (Some t) None = ⊥
 Grows (Some t) (Some u) = (u.entries ≡ t.entries) × (t.room ≤ u.room)
 
+-- each memento begins to be shown
+abbrev pub each_begins : List Memento → List Step
+each_begins ms = map (λ m. record { memento = m; begins = true }) ms
+
+-- the steps, one by one
+abbrev pub steps_in : Steps → List Step
+steps_in (First list) = each_begins (set.items (arc_value list))
+steps_in (Each steps) = steps
+
 -- of each original that has some, its steps
 abbrev pub StepLists : Type 0
-StepLists = BTreeMap (List ℕ) (List Step)
+StepLists = BTreeMap (List ℕ) Steps
+
+-- the steps that there are: none is as those of nothing
+abbrev pub steps_or_none : Option Steps → List Step
+steps_or_none None = []
+steps_or_none (Some steps) = steps_in steps
 
 -- the steps of an original
 abbrev pub steps_of : StepLists → List ℕ → List Step
-steps_of all o = unwrap_or (tree.get text_cmp all o) []
+steps_of all o = steps_or_none (tree.get text_cmp all o)
+
+-- a first list comes where nothing is listed
+abbrev pub IsFirst : List Counted → Steps → Type 0
+IsFirst entries (First list) = entries ≡ []
+IsFirst entries (Each steps) = Unit {0}
+
+-- and so does each of these
+abbrev pub AreFirst : Lists → StepLists → Type 0
+AreFirst lists all = (o : List ℕ) → IfSome (tree.get text_cmp all o) (IsFirst (tally_of lists o))
 
 -- each memento of an original stands in its list with the number of archives that show it
 pub record IsCounted (x : Entries) (lists : Lists) : Type 0 where
   pub tally : (o : List ℕ) → IsTally (tally_of lists o)
   pub counts : (o : List ℕ) (m : Memento) → count_of (tally_of lists o) m ≡ showing x o m
 
--- a list that is there has room for that many more, and so has what is lifted off it; and no count of the keys and
--- these grows too large
-abbrev pub HasRoom : ℕ → Option Tallied → ℕ → ℕ → Type 0
-HasRoom keys None spare more = ⊥
-HasRoom keys (Some t) spare more = (length t.entries + more ≤ t.room) × (length t.entries + more ≤ spare)
-    × (keys + more ≤ 18446744073709551615)
+-- the list has room for the steps, and so has what is lifted off it; a first list wants none, and takes an empty one's
+-- place
+abbrev pub CanTake : Tallied → ℕ → Steps → Type 0
+CanTake t spare (First list) = t.entries ≡ []
+CanTake t spare (Each steps) = (length t.entries + length steps ≤ t.room) × (length t.entries + length steps ≤ spare)
+
+-- the list is there, and the steps fit; and no count of the keys and these grows too large
+abbrev pub HasRoom : ℕ → Option Tallied → ℕ → Steps → Type 0
+HasRoom keys None spare steps = ⊥
+HasRoom keys (Some t) spare steps = CanTake t spare steps × (keys + length (steps_in steps) ≤ 18446744073709551615)
 
 -- the steps of each original have room
 abbrev pub HaveRoom : ℕ → StepLists → Lists → ℕ → Type 0
 HaveRoom keys all lists spare = (o : List ℕ)
-    → IfSome (tree.get text_cmp all o) (λ steps. HasRoom keys (tree.get text_cmp lists o) spare (length steps))
+    → IfSome (tree.get text_cmp all o) (HasRoom keys (tree.get text_cmp lists o) spare)
 
 -- what ceases is counted, and no count grows too large
 pub record CanCount (entries : List Counted) (steps : List Step) : Type 0 where

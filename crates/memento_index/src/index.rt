@@ -59,7 +59,8 @@ impl Index {
     ///
     /// It has all its memory before the first change, and then changes only the counts of what begins or ceases to be
     /// shown. It takes time in the size of what it takes and of the entries at its keys; of a list that changes, in
-    /// what stands from the first change on; and logarithmic in the number of keys and of lists. Neither the number of
+    /// what stands from the first change on; and logarithmic in the number of keys and of lists. An original's first
+    /// list is shared with the entry that shows it, and copied once, when it first changes. Neither the number of
     /// archives nor the lists that don't change make a difference.
     pub fn absorb(&mut self, merge: &Merge) -> Result<(), NoMemory>
         ensures ok { OnOk result (self.new ≡ join self.old (lat (adds_of merge.now))) }
@@ -68,7 +69,7 @@ impl Index {
         ensures err { OnErr result (self.new ≡ self.old) }
     {
         let changes = merge.changes(&self.state)?;
-        let steps = gather_steps(self.alloc, &self.state, &changes)?;
+        let steps = gather_steps(self.alloc, &self.state, &self.lists, &changes)?;
         let keys = self.state.len();
         let mut lifted = Tally::new(self.alloc);
         make_rooms(&mut self.lists, &mut lifted, self.alloc, &steps, keys)?;

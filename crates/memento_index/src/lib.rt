@@ -10,6 +10,7 @@ mod gather;
 mod index;
 mod last;
 mod laws;
+mod listing;
 mod lists;
 mod merge;
 mod nearest;

@@ -4,22 +4,23 @@ ghost use Rattle.std.specs.BTreeMap as tree;
 ghost use Rattle.std.specs.Ordering.{eq_by_cmp};
 ghost use Rattle.memento_time.specs.Mementos.{text_cmp};
 ghost use Rattle.memento_index.specs.Counts.{IsTally, IsRecounted};
-ghost use Rattle.memento_index.specs.Lists.{Grows, tally_of, steps_of, HasRoom, HaveRoom, CanCount};
+ghost use Rattle.memento_index.specs.Lists.{Grows, tally_of, steps_in, steps_of, IsFirst, AreFirst, HasRoom, HaveRoom};
+ghost use Rattle.memento_index.specs.Lists.{CanCount};
 
-use crate::counted::Step;
-use crate::counts::recount;
+use crate::counted::Steps;
+use crate::listing::Listing;
 use crate::tally::Tally;
-use memento_time::{Items, NoMemory, Original};
+use memento_time::{NoMemory, Original};
 use std::alloc::Global;
 use std::collections::BTreeMap;
 
-pub type Lists = BTreeMap<Original, Tally>;
+pub type Lists = BTreeMap<Original, Listing>;
 
 // What begins and ceases to be shown of each original.
-pub type StepLists = BTreeMap<Original, Items<Step>>;
+pub type StepLists = BTreeMap<Original, Steps>;
 
-// Makes room in the list of each original for its steps, and room to lift the longest of these lists. No count of the
-// keys and the steps is too large.
+// Makes room in the list of each original for its steps, and room to lift the longest of these lists. What comes first
+// wants an empty list, and no room. No count of the keys and the steps is too large.
 pub fn make_rooms(
     lists: &mut Lists,
     lifted: &mut Tally,
@@ -27,12 +28,13 @@ pub fn make_rooms(
     all: &StepLists,
     keys: usize,
 ) -> Result<(), NoMemory>
+    requires first { AreFirst lists.old all.now }
     ensures grow { (o : List ℕ) → Grows (tree.get text_cmp lists.old o) (tree.get text_cmp lists.new o) }
     ensures lifted { lifted.new.entries ≡ lifted.old.entries }
     ensures made { OnOk result (HaveRoom keys all.now lists.new lifted.new.room) }
 {
     for (original, steps) in all {
-        make_room(lists, lifted, alloc, original, steps.as_slice().len(), keys)?;
+        make_room(lists, lifted, alloc, original, steps, keys)?;
     }
     Ok(())
 }
@@ -42,21 +44,25 @@ fn make_room(
     lifted: &mut Tally,
     alloc: Global,
     original: &Original,
-    more: usize,
+    steps: &Steps,
     keys: usize,
 ) -> Result<(), NoMemory>
     ensures grow { (o : List ℕ) → Grows (tree.get text_cmp lists.old o) (tree.get text_cmp lists.new o) }
     ensures lifted { lifted.new.entries ≡ lifted.old.entries }
     ensures lifted_room { lifted.old.room ≤ lifted.new.room }
-    ensures made { OnOk result (HasRoom keys (tree.get text_cmp lists.new original.now) lifted.new.room more) }
+    ensures made { OnOk result (IsFirst (tally_of lists.old original.now) steps.now
+        → HasRoom keys (tree.get text_cmp lists.new original.now) lifted.new.room steps.now) }
 {
+    let more = steps.len();
     // No memory has room for that many.
     if keys.checked_add(more).is_none() {
         return Err(NoMemory);
     }
     make_list(lists, alloc, original)?;
-    let most = reserve(lists, original, more)?;
-    lifted.reserve(most)?;
+    if let Steps::Each(_) = steps {
+        let most = reserve(lists, original, more)?;
+        lifted.reserve(most)?;
+    }
     Ok(())
 }
 
@@ -67,7 +73,7 @@ fn make_list(lists: &mut Lists, alloc: Global, original: &Original) -> Result<()
 {
     if !lists.contains_key(original) {
         let original = original.try_clone()?;
-        lists.insert(original, Tally::new(alloc))?;
+        lists.insert(original, Listing::new(alloc))?;
     }
     Ok(())
 }
@@ -95,16 +101,16 @@ pub fn recount_all(lists: &mut Lists, lifted: &mut Tally, all: StepLists)
 {
     for entry in all {
         let (original, steps) = entry;
-        recount_list(lists, lifted, &original, steps.into_vec());
+        recount_list(lists, lifted, &original, steps);
     }
 }
 
-fn recount_list(lists: &mut Lists, lifted: &mut Tally, original: &Original, steps: Vec<Step>)
+fn recount_list(lists: &mut Lists, lifted: &mut Tally, original: &Original, steps: Steps)
     requires tally { IsTally (tally_of lists.old original.now) }
-    requires can { CanCount (tally_of lists.old original.now) steps.items }
-    requires room { HasRoom 0 (tree.get text_cmp lists.old original.now) lifted.old.room (length steps.items) }
+    requires can { CanCount (tally_of lists.old original.now) (steps_in steps) }
+    requires room { HasRoom 0 (tree.get text_cmp lists.old original.now) lifted.old.room steps }
     requires settled { lifted.old.entries ≡ [] }
-    ensures recounted { IsRecounted (tally_of lists.old original.now) steps.items (tally_of lists.new original.now) }
+    ensures recounted { IsRecounted (tally_of lists.old original.now) (steps_in steps) (tally_of lists.new original.now) }
     ensures others { (o : List ℕ) → eq_by_cmp text_cmp original.now o ≡ false
         → tree.get text_cmp lists.new o ≡ tree.get text_cmp lists.old o }
     ensures settled { lifted.new.entries ≡ [] }
@@ -120,13 +126,13 @@ fn recount_in_place(
     lists: &mut Lists,
     lifted: &mut Tally,
     original: &Original,
-    steps: Vec<Step>,
+    steps: Steps,
 ) -> bool
     requires tally { IsTally (tally_of lists.old original.now) }
-    requires can { CanCount (tally_of lists.old original.now) steps.items }
-    requires room { HasRoom 0 (tree.get text_cmp lists.old original.now) lifted.old.room (length steps.items) }
+    requires can { CanCount (tally_of lists.old original.now) (steps_in steps) }
+    requires room { HasRoom 0 (tree.get text_cmp lists.old original.now) lifted.old.room steps }
     requires settled { lifted.old.entries ≡ [] }
-    ensures recounted { IsRecounted (tally_of lists.old original.now) steps.items (tally_of lists.new original.now) }
+    ensures recounted { IsRecounted (tally_of lists.old original.now) (steps_in steps) (tally_of lists.new original.now) }
     ensures others { (o : List ℕ) → eq_by_cmp text_cmp original.now o ≡ false
         → tree.get text_cmp lists.new o ≡ tree.get text_cmp lists.old o }
     ensures settled { lifted.new.entries ≡ [] }
@@ -135,8 +141,8 @@ fn recount_in_place(
 {
     match lists.get_mut(original) {
         Some(list) => {
-            recount(list, lifted, steps);
-            list.len() == 0
+            list.recount(lifted, steps);
+            list.mementos().is_empty()
         }
         None => false,
     }

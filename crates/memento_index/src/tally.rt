@@ -50,12 +50,6 @@ impl Tally {
         &self.mementos
     }
 
-    pub fn len(&self) -> usize
-        ensures { result ≡ length self.now.entries }
-    {
-        self.mementos.len()
-    }
-
     // Makes room for more mementos, and gives the length that the list may then have.
     pub fn reserve(&mut self, more: usize) -> Result<usize, NoMemory>
         ensures entries { self.new.entries ≡ self.old.entries }

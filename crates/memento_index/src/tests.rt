@@ -202,6 +202,20 @@ fn archives_are_listed_as_one(rt: HostRuntime) -> Result<(), Fail> {
 }
 
 #[test]
+fn a_list_of_one_archive_changes_with_the_next(rt: HostRuntime) -> Result<(), Fail> {
+    let alloc = rt.alloc();
+    let mut index = indexed(
+        alloc,
+        &[("a1", 1, &[FIRST, SECOND]), ("b1", 1, &[SECOND, THIRD])],
+    )?;
+    assert!(rt; lists(alloc, &index, &[FIRST, SECOND, THIRD])?);
+    take(alloc, &mut index, "a1", 2, &[])?;
+    assert!(rt; lists(alloc, &index, &[SECOND, THIRD])?);
+    assert!(rt; copy_shows(alloc, index.state(), &[SECOND, THIRD])?);
+    Ok(())
+}
+
+#[test]
 fn nearest_and_latest(rt: HostRuntime) -> Result<(), Fail> {
     let alloc = rt.alloc();
     let index = indexed(alloc, &[("a1", 1, &[FIRST, SECOND, THIRD])])?;

@@ -1,11 +1,10 @@
-use Rattle.std.proofs.Common.{ℕ, List, length, inl, refl, ap, subst, ◌∙◌}
+use Rattle.std.proofs.Common.{ℕ, List, inl, refl, ap, ◌∙◌}
 use Rattle.std.specs.BTreeMap as tree
 use Rattle.std.specs.BTreeMap.{is_at}
 use Rattle.std.specs.Map.{lookup}
 use Rattle.memento_time.specs.Mementos.{text_cmp}
-use Rattle.memento_index.specs.declared.counted.Step.{Step}
-use Rattle.memento_index.specs.Lists.{HasRoom}
-use Rattle.memento_index.proofs.ListLemmas.{grows_same, grows_on, one_more_room, all_roomy}
+use Rattle.memento_index.specs.declared.counted.Steps.{Steps}
+use Rattle.memento_index.proofs.ListLemmas.{grows_same, grows_on, still_first, one_more_room, all_roomy}
 use Rattle.memento_index.proofs.lists.make_rooms.Goals as goal
 
 pub loop-original-init : goal.loop-original-init
@@ -17,14 +16,14 @@ loop-original-init c = record {
 
 pub loop-original-preserved : goal.loop-original-preserved
 loop-original-preserved c =
-    let e : List ℕ × List Step = (c.in-Some.original.now, c.in-Some.steps.now) in
+    let e : List ℕ × Steps = (c.in-Some.original.now, c.in-Some.steps.now) in
     let was = c.loop-original.lists in
     let now = c.make_room.new.lists in
     record {
       grow = λ o. grows_on (tree.get text_cmp c.args.lists.now o) (tree.get text_cmp was o) (tree.get text_cmp now o) (c.loop-original.invariant.grow o) (c.make_room.ensures.grow o);
       lifted = c.make_room.ensures.lifted ∙ c.loop-original.invariant.lifted;
       room = λ o. one_more_room c.args.keys c.args.all.now c.loop-original.original-iterator c.next.new.self e was now c.loop-original.lifted.room c.make_room.new.lifted.room c.in-Some.ensures.steps c.make_room.ensures.grow c.make_room.ensures.lifted_room
-          (subst (λ n. HasRoom c.args.keys (tree.get text_cmp now e.0) c.make_room.new.lifted.room n) (ap (λ (ss : List Step). length ss) c.as_slice.ensures) c.in_ok-make_room.ensures.made) o (c.loop-original.invariant.room o);
+          (still_first c.args.lists.now was c.args.all.now c.loop-original.invariant.grow c.requires.first) c.in_ok-make_room.ensures.made o (c.loop-original.invariant.room o);
     }
 
 pub returns-clause-made : goal.returns-clause-made

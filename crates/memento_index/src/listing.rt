@@ -1,0 +1,126 @@
+// The list of one original.
+ghost use Rattle.std.specs.Prelude.{◌≡◌, ◌+◌, ◌≤◌, [], IfOk, length};
+ghost use Rattle.std.specs.Prelude.{Some};
+ghost use Rattle.std.specs.Arc.{arc_value};
+ghost use Rattle.memento_sets.specs.Sets as set;
+ghost use Rattle.memento_index.specs.Counts.{mementos_of, IsTally, IsRecounted};
+ghost use Rattle.memento_index.specs.Lists.{steps_in, CanCount, HasRoom};
+ghost use Rattle.memento_index.specs.Tallies.{each_once};
+
+use crate::counted::{Counted, Step, Steps};
+use crate::counts::recount;
+use crate::tally::Tally;
+use memento_sets::Mementos;
+use memento_time::{Memento, NoMemory};
+use std::alloc::Global;
+use std::marker::Model;
+use std::sync::Arc;
+
+// What an archive alone shows is the list of its entry, shared, and has no columns. It gets columns of its own when it
+// first changes.
+#[derive(Debug, Drop)]
+pub struct Listing {
+    shared: Option<Arc<Mementos>>,
+    own: Tally,
+}
+
+impl Model for Listing {
+    ghost use Rattle.std.specs.Arc.{arc_value};
+    ghost use Rattle.std.specs.Option.{option_map};
+    ghost use Rattle.memento_index.specs.Tallies.{Tallied, coded_tallied, shared_or};
+
+    ghost Value = { Tallied };
+
+    ghost coded = { coded_tallied };
+
+    ghost view = { λ l. shared_or (option_map arc_value l.shared) l.own };
+}
+
+impl Listing {
+    // No mementos. Takes no memory.
+    pub fn new(alloc: Global) -> Listing
+        ensures { result.entries ≡ [] }
+    {
+        Listing {
+            shared: None,
+            own: Tally::new(alloc),
+        }
+    }
+
+    // The mementos, in order.
+    pub fn mementos(&self) -> &[Memento]
+        ensures { result.now ≡ mementos_of self.now.entries }
+    {
+        match &self.shared {
+            Some(shared) => shared.as_slice(),
+            None => self.own.mementos(),
+        }
+    }
+
+    // Makes room for more mementos, and gives the length that the list may then have.
+    pub fn reserve(&mut self, more: usize) -> Result<usize, NoMemory>
+        ensures entries { self.new.entries ≡ self.old.entries }
+        ensures room { self.old.room ≤ self.new.room }
+        ensures made { IfOk result (λ most. (most ≡ length self.new.entries + more) × (most ≤ self.new.room)) }
+    {
+        if let Some(shared) = &self.shared {
+            self.own = count_each(shared.allocator(), shared.as_slice(), more)?;
+            self.shared = None;
+        }
+        self.own.reserve(more)
+    }
+
+    // Counts what archives begin and cease to show. Takes no memory.
+    pub fn recount(&mut self, lifted: &mut Tally, steps: Steps)
+        requires tally { IsTally self.old.entries }
+        requires can { CanCount self.old.entries (steps_in steps) }
+        requires room { HasRoom 0 (Some self.old) lifted.old.room steps }
+        requires settled { lifted.old.entries ≡ [] }
+        ensures recounted { IsRecounted self.old.entries (steps_in steps) self.new.entries }
+        ensures settled { lifted.new.entries ≡ [] }
+        ensures lifted_room { lifted.old.room ≤ lifted.new.room }
+    {
+        match steps {
+            Steps::First(list) => self.share(list),
+            Steps::Each(steps) => self.recount_each(lifted, steps.into_vec()),
+        }
+    }
+
+    fn share(&mut self, list: Arc<Mementos>)
+        ensures { self.new.entries ≡ each_once (set.items (arc_value list)) }
+    {
+        self.shared = Some(list);
+    }
+
+    fn recount_each(&mut self, lifted: &mut Tally, steps: Vec<Step>)
+        requires tally { IsTally self.old.entries }
+        requires can { CanCount self.old.entries steps.items }
+        requires list_room { length self.old.entries + length steps.items ≤ self.old.room }
+        requires lifted_room { length self.old.entries + length steps.items ≤ lifted.old.room }
+        requires settled { lifted.old.entries ≡ [] }
+        ensures recounted { IsRecounted self.old.entries steps.items self.new.entries }
+        ensures settled { lifted.new.entries ≡ [] }
+        ensures lifted_room { lifted.old.room ≤ lifted.new.room }
+    {
+        // What is shared has no room, so there are steps in columns alone.
+        if self.shared.is_none() {
+            recount(&mut self.own, lifted, steps);
+        }
+    }
+}
+
+// Columns of these, each shown by one archive, with room for more.
+fn count_each(alloc: Global, mementos: &[Memento], more: usize) -> Result<Tally, NoMemory>
+    ensures { IfOk result (λ tally. tally.entries ≡ each_once mementos.now) }
+{
+    let mut tally = Tally::new(alloc);
+    let Some(most) = mementos.len().checked_add(more) else {
+        return Err(NoMemory);
+    };
+    tally.reserve(most)?;
+    for memento in mementos {
+        let memento = memento.try_clone()?;
+        tally.push(Counted { memento, count: 1 });
+    }
+    Ok(tally)
+}
