@@ -1,6 +1,5 @@
 // The list of one original.
-ghost use Rattle.std.specs.Prelude.{◌≡◌, ◌+◌, ◌≤◌, [], IfOk, length};
-ghost use Rattle.std.specs.Prelude.{Some};
+ghost use Rattle.std.specs.Prelude.{◌≡◌, ◌+◌, ◌≤◌, [], IfOk, Some, length};
 ghost use Rattle.std.specs.Arc.{arc_value};
 ghost use Rattle.memento_sets.specs.Sets as set;
 ghost use Rattle.memento_index.specs.Counts.{mementos_of, IsTally, IsRecounted};
@@ -16,8 +15,8 @@ use std::alloc::Global;
 use std::marker::Model;
 use std::sync::Arc;
 
-// What an archive alone shows is the list of its entry, shared, and has no columns. It gets columns of its own when it
-// first changes.
+// An original's first list is the set of the entry that shows it, shared, and has no columns. It gets columns of its
+// own when it first changes.
 #[derive(Debug, Drop)]
 pub struct Listing {
     shared: Option<Arc<Mementos>>,
@@ -102,7 +101,7 @@ impl Listing {
         ensures settled { lifted.new.entries ≡ [] }
         ensures lifted_room { lifted.old.room ≤ lifted.new.room }
     {
-        // What is shared has no room, so there are steps in columns alone.
+        // What is shared has no room, so steps come to columns alone.
         if self.shared.is_none() {
             recount(&mut self.own, lifted, steps);
         }

@@ -110,7 +110,8 @@ fn recount_list(lists: &mut Lists, lifted: &mut Tally, original: &Original, step
     requires can { CanCount (tally_of lists.old original.now) (steps_in steps) }
     requires room { HasRoom 0 (tree.get text_cmp lists.old original.now) lifted.old.room steps }
     requires settled { lifted.old.entries ≡ [] }
-    ensures recounted { IsRecounted (tally_of lists.old original.now) (steps_in steps) (tally_of lists.new original.now) }
+    ensures recounted { IsRecounted (tally_of lists.old original.now) (steps_in steps)
+        (tally_of lists.new original.now) }
     ensures others { (o : List ℕ) → eq_by_cmp text_cmp original.now o ≡ false
         → tree.get text_cmp lists.new o ≡ tree.get text_cmp lists.old o }
     ensures settled { lifted.new.entries ≡ [] }
@@ -132,7 +133,8 @@ fn recount_in_place(
     requires can { CanCount (tally_of lists.old original.now) (steps_in steps) }
     requires room { HasRoom 0 (tree.get text_cmp lists.old original.now) lifted.old.room steps }
     requires settled { lifted.old.entries ≡ [] }
-    ensures recounted { IsRecounted (tally_of lists.old original.now) (steps_in steps) (tally_of lists.new original.now) }
+    ensures recounted { IsRecounted (tally_of lists.old original.now) (steps_in steps)
+        (tally_of lists.new original.now) }
     ensures others { (o : List ℕ) → eq_by_cmp text_cmp original.now o ≡ false
         → tree.get text_cmp lists.new o ≡ tree.get text_cmp lists.old o }
     ensures settled { lifted.new.entries ≡ [] }
