@@ -101,7 +101,7 @@ impl Listing {
         ensures settled { lifted.new.entries ≡ [] }
         ensures lifted_room { lifted.old.room ≤ lifted.new.room }
     {
-        // What is shared has no room, so steps come to columns alone.
+        // A list that is shared has no room: then it is empty, and there are no steps.
         if self.shared.is_none() {
             recount(&mut self.own, lifted, steps);
         }

@@ -5,7 +5,7 @@ use Rattle.std.proofs.lemmas.List.{take-append-drop, drop-take}
 use Rattle.httpdate.specs.Calendar.{weekday}
 use Rattle.httpdate.specs.Text.{day_name, month_name, two_digits, four_digits}
 use Rattle.memento_time.specs.Civil.{civil_date, civil_time}
-use Rattle.memento_time.specs.Clock.{clock_text}
+use Rattle.memento_time.specs.Clock.{clock_text, day_of}
 use Rattle.memento_time.specs.Second.{imf, IsSecond, Reads}
 use Rattle.memento_time.proofs.CivilLemmas.{civil_time-valid}
 use Rattle.memento_time.proofs.ReadLemmas.{length-day_name, length-month_name, wday_in_range}
@@ -52,14 +52,18 @@ behind_name (a ∷ b ∷ c ∷ rest) = sym (take-append-drop 14 rest)
 front_of : (text other : List ℕ) → drop 3 text ≡ drop 3 other → drop 3 (take 17 text) ≡ drop 3 (take 17 other)
 front_of text other e = drop-take 3 14 text ∙ ap (take 14) e ∙ sym (drop-take 3 14 other)
 
+-- the day of a clock put behind the start of a day
+pub day_of_clock : (t c : ℕ) → c < 86400 → day_of (t / 86400 * 86400 + c) ≡ day_of t
+day_of_clock t c small = omega (arith, small)
+
 -- a text that differs in its clock alone from one that reads as a second of the day
 pub Reads_same_day : (text last : List ℕ) (t c : ℕ) → Reads last t → length text ≡ 29 → take 17 text ≡ take 17 last
     → c < 86400 → drop 17 text ≡ clock_text c → Reads text (t / 86400 * 86400 + c)
 Reads_same_day text last t c h len front small clock =
     let u = t / 86400 * 86400 + c in
     let second : IsSecond u = omega (arith, h.second) in
-    let day : u / 86400 ≡ t / 86400 = omega arith in
-    let days : take 17 (imf t) ≡ take 17 (imf u) = take_day t h.second ∙ (ap day_text (sym day) ∙ sym (take_day u second)) in
+    let days : take 17 (imf t) ≡ take 17 (imf u) =
+    take_day t h.second ∙ (ap day_text (sym (day_of_clock t c small)) ∙ sym (take_day u second)) in
     let fronts : drop 3 (take 17 text) ≡ drop 3 (take 17 (imf u)) =
     ap (drop 3) front ∙ (front_of last (imf t) h.rest ∙ ap (drop 3) days) in
     let clocks : drop 17 text ≡ drop 17 (imf u) = clock ∙ (sym (clock_of_day (t / 86400) c small) ∙ sym (drop_day u second)) in

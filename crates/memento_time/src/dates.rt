@@ -1,6 +1,6 @@
 //! Rows of dates. Neighbours mostly share their day, so that a date is read and written by its clock alone.
-ghost use Rattle.std.specs.Prelude.{◌≡◌, ◌<◌, drop, IfSome};
-ghost use Rattle.memento_time.specs.Clock.{clock_text};
+ghost use Rattle.std.specs.Prelude.{◌≡◌, ◌<◌, ◌≤◌, ◌*◌, drop, IfNone, IfSome};
+ghost use Rattle.memento_time.specs.Clock.{clock_text, day_of};
 ghost use Rattle.memento_time.specs.Second.{imf, Reads};
 ghost use Rattle.memento_time.specs.SecondOf.{second_of};
 
@@ -14,7 +14,7 @@ const EPOCH: &[u8; 29] = b"Thu, 01 Jan 1970 00:00:00 GMT";
 /// Where the clock begins in an IMF-fixdate.
 const CLOCK: usize = 17;
 
-/// Reads dates one after another, each as `Moment::read_imf` does: what it has read before only spares time.
+/// Reads dates one after another, each as `Moment::read_imf` does: the day that it has read last only spares time.
 #[derive(Debug, Drop)]
 pub struct DateReader {
     text: [u8; 29],
@@ -22,17 +22,23 @@ pub struct DateReader {
 }
 
 impl Model for DateReader {
+    ghost use Rattle.std.specs.Prelude.{ℕ};
+    ghost use Rattle.memento_time.specs.Clock.{day_of};
     ghost use Rattle.memento_time.specs.Second.{Reads};
 
-    ghost Value = { Unit {0} };
+    // The day that was read last, counted from 1 January 1970.
+    ghost Value = { ℕ };
 
-    ghost view = { λ _. tt };
+    ghost view = { λ reader. day_of reader.moment };
 
     ghost invariant = { λ reader. Reads reader.text reader.moment };
 }
 
 impl DateReader {
-    pub fn new() -> DateReader {
+    /// A reader that knows the day of 1 January 1970.
+    pub fn new() -> DateReader
+        ensures { result ≡ 0 }
+    {
         DateReader {
             text: *EPOCH,
             moment: epoch(),
@@ -41,7 +47,9 @@ impl DateReader {
 
     /// Reads an IMF-fixdate (RFC 9110, section 5.6.7). The name of the day needn't fit the date.
     pub fn read(&mut self, text: &[u8]) -> Option<Moment>
-        ensures { result ≡ second_of text.now }
+        ensures read { result ≡ second_of text.now }
+        ensures day { IfSome result (λ s. self.new ≡ day_of s) }
+        ensures none { IfNone result (self.new ≡ self.old) }
     {
         let text: &[u8; 29] = text.try_into().ok()?;
         if let Some(moment) = self.read_same_day(text) {
@@ -57,7 +65,7 @@ impl DateReader {
 
     /// Reads a date of the day that was read last.
     fn read_same_day(&self, text: &[u8; 29]) -> Option<Moment>
-        ensures { IfSome result (λ s. Reads text.now s) }
+        ensures { IfSome result (λ s. Reads text.now s × (day_of s ≡ self.now)) }
     {
         if text[..CLOCK] != self.text[..CLOCK] {
             return None;
@@ -75,18 +83,23 @@ pub struct DateWriter {
 }
 
 impl Model for DateWriter {
-    ghost use Rattle.std.specs.Prelude.{◌≡◌};
+    ghost use Rattle.std.specs.Prelude.{◌≡◌, ℕ};
+    ghost use Rattle.memento_time.specs.Clock.{day_of};
     ghost use Rattle.memento_time.specs.Second.{imf};
 
-    ghost Value = { Unit {0} };
+    // The day that was written last, counted from 1 January 1970.
+    ghost Value = { ℕ };
 
-    ghost view = { λ _. tt };
+    ghost view = { λ writer. day_of writer.moment };
 
     ghost invariant = { λ writer. writer.text ≡ imf writer.moment };
 }
 
 impl DateWriter {
-    pub fn new() -> DateWriter {
+    /// A writer that knows the day of 1 January 1970.
+    pub fn new() -> DateWriter
+        ensures { result ≡ 0 }
+    {
         DateWriter {
             text: *EPOCH,
             moment: epoch(),
@@ -95,7 +108,8 @@ impl DateWriter {
 
     /// The IMF-fixdate (RFC 9110, section 5.6.7), as `Sat, 01 Jan 2000 00:00:00 GMT`.
     pub fn write(&mut self, moment: Moment) -> [u8; 29]
-        ensures { result ≡ imf moment }
+        ensures text { result ≡ imf moment }
+        ensures day { self.new ≡ day_of moment }
     {
         let secs = moment.secs();
         let mut text = self.text;
@@ -127,7 +141,7 @@ fn read_clock(text: &[u8; 29]) -> Option<u64>
 
 /// The number of these two digits; any where they are none.
 fn number(tens: u8, ones: u8) -> u64
-    ensures { result < 2806 }
+    ensures { result ≤ 11 * 255 }
 {
     u64::from(tens.wrapping_sub(b'0')) * 10 + u64::from(ones.wrapping_sub(b'0'))
 }

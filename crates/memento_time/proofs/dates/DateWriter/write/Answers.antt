@@ -1,4 +1,4 @@
-use Rattle.std.proofs.Common.{◌≡◌, ◌∙◌, ℕ, List, ◌++◌, length, take, drop, ap, arith}
+use Rattle.std.proofs.Common.{◌≡◌, ◌∙◌, ℕ, List, ◌++◌, length, take, drop, ap, arith, refl}
 use Rattle.std.proofs.lemmas.List.{append-nil, drop_all, length-drop}
 use borrow.Rule.Slice.PartMut.{put_mid}
 use Rattle.memento_time.specs.Second.{imf}
@@ -25,4 +25,4 @@ pub invariant_of-self : goal.invariant_of-self
 invariant_of-self c = text_is c
 
 pub returns : goal.returns
-returns c = text_is c
+returns c = record {text = text_is c; day = refl}
