@@ -59,7 +59,7 @@ pub(crate) struct Role<'a> {
 pub(crate) fn read_role<'a>(link: &LinkRef<'a>) -> Result<Role<'a>, AllocError>
     ensures { IfOk result (IsRoleOf link.now) }
 {
-    let (rel, datetime) = link.value_refs(b"rel", b"datetime")?;
+    let (rel, datetime) = link.rel_and_datetime()?;
     let rel = match rel {
         Some(rel) => rel,
         None => CowSlice::Borrowed(&[]),
