@@ -1,6 +1,8 @@
 -- The parameters that nearly every link of a TimeMap begins with.
-use Rattle.std.specs.Prelude.{ℕ, List, [], ◌∷◌, Some, codes}
+use Rattle.std.specs.Prelude.{◌≡◌, ℕ, List, [], ◌∷◌, ◌++◌, Some, codes, ◌⊎◌, option_map}
+use Rattle.link_format.specs.Bytes.{is_blank}
 use Rattle.link_format.specs.Grammar.{Param}
+use Rattle.link_format.specs.Scan.{past, after_byte}
 
 -- a memento's relation type and its datetime
 abbrev pub usual_params : List ℕ → List Param
@@ -8,3 +10,11 @@ usual_params datetime =
     record { name = codes "rel"; value = Some (codes "memento") }
     ∷ record { name = codes "datetime"; value = Some datetime }
     ∷ []
+
+-- what follows a semicolon and the blanks around it
+abbrev pub IsSemicolon : List ℕ → List ℕ → Type 0
+IsSemicolon text rest = option_map (past is_blank) (after_byte 59 (past is_blank text)) ≡ Some rest
+
+-- what follows the relation type
+abbrev pub IsRelation : List ℕ → List ℕ → Type 0
+IsRelation text rest = (text ≡ codes "rel=\"memento\"" ++ rest) ⊎ (text ≡ codes "rel=memento" ++ rest)

@@ -1,19 +1,89 @@
-//! The parameters that nearly every link of a TimeMap begins with, read at one glance.
-ghost use Rattle.std.specs.Prelude.{◌≡◌, ◌+◌, ◌≤◌, ◌++◌, length, IfSome};
+//! The parameters that nearly every link of a TimeMap begins with, read by their words: the relation type `memento`, and
+//! a datetime (RFC 7089, section 5).
+ghost use Rattle.std.specs.Prelude.{◌≡◌, ◌+◌, ◌≤◌, ◌++◌, length, codes, IfSome};
 ghost use Rattle.link_format.specs.Scan.{behind_params, params_of};
-ghost use Rattle.link_format.specs.Usual.{usual_params};
+ghost use Rattle.link_format.specs.Usual.{usual_params, IsRelation, IsSemicolon};
 ghost use Rattle.link_format.specs.Walk.{behind_link, left_by};
 
 use crate::bytes::Class;
-use crate::scan::{skip_byte, split_while};
+use crate::scan::{skip_byte, skip_while, split_while};
 
-/// What archives write behind the address of a memento, up to its datetime (RFC 7089, section 5).
-const USUAL: &[u8; 27] = b"; rel=\"memento\"; datetime=\"";
-
-/// The relation type that it names.
+/// The relation type of usual parameters.
 pub(crate) const MEMENTO: &[u8; 7] = b"memento";
 
-/// The datetime behind usual parameters, and what follows its quote.
+/// What follows a semicolon and the blanks around it.
+#[inline(always)]
+fn skip_semicolon(text: &[u8]) -> Option<&[u8]>
+    ensures { IfSome result (λ rest. IsSemicolon text.now rest.now) }
+{
+    let rest = skip_byte(b';', skip_while(Class::Blank, text))?;
+    Some(skip_while(Class::Blank, rest))
+}
+
+/// What follows the relation type, a quoted text or a token.
+#[inline(always)]
+fn skip_relation(text: &[u8]) -> Option<&[u8]>
+    ensures { IfSome result (λ rest. IsRelation text.now rest.now) }
+{
+    match text {
+        [
+            b'r',
+            b'e',
+            b'l',
+            b'=',
+            b'"',
+            b'm',
+            b'e',
+            b'm',
+            b'e',
+            b'n',
+            b't',
+            b'o',
+            b'"',
+            rest @ ..,
+        ] => Some(rest),
+        [
+            b'r',
+            b'e',
+            b'l',
+            b'=',
+            b'm',
+            b'e',
+            b'm',
+            b'e',
+            b'n',
+            b't',
+            b'o',
+            rest @ ..,
+        ] => Some(rest),
+        _ => None,
+    }
+}
+
+/// What follows the opening quote of a datetime.
+#[inline(always)]
+fn skip_datetime(text: &[u8]) -> Option<&[u8]>
+    ensures { IfSome result (λ rest. text.now ≡ codes "datetime=\"" ++ rest.now) }
+{
+    match text {
+        [
+            b'd',
+            b'a',
+            b't',
+            b'e',
+            b't',
+            b'i',
+            b'm',
+            b'e',
+            b'=',
+            b'"',
+            rest @ ..,
+        ] => Some(rest),
+        _ => None,
+    }
+}
+
+/// The datetime of usual parameters at the front, and what follows its quote.
 #[inline(always)]
 pub(crate) fn split_usual(text: &[u8]) -> Option<(&[u8], &[u8])>
     ensures params { IfSome result (λ x. params_of text.now ≡ usual_params x.0.now ++ params_of x.1.now) }
@@ -21,14 +91,11 @@ pub(crate) fn split_usual(text: &[u8]) -> Option<(&[u8], &[u8])>
     ensures left { IfSome result (λ x. left_by behind_link text.now ≡ left_by behind_link x.1.now) }
     ensures shorter { IfSome result (λ x. 2 + length x.1.now ≤ length text.now) }
 {
-    if text.len() < USUAL.len() {
-        return None;
-    }
-    let (usual, behind) = text.split_at(USUAL.len());
-    if usual != USUAL.as_slice() {
-        return None;
-    }
-    let (datetime, rest) = split_while(Class::Plain, behind);
+    let first = skip_semicolon(text)?;
+    let behind = skip_relation(first)?;
+    let second = skip_semicolon(behind)?;
+    let quoted = skip_datetime(second)?;
+    let (datetime, rest) = split_while(Class::Plain, quoted);
     let rest = skip_byte(b'"', rest)?;
     Some((datetime, rest))
 }
