@@ -25,4 +25,4 @@ pub invariant_of-self : goal.invariant_of-self
 invariant_of-self c = text_is c
 
 pub returns : goal.returns
-returns c = record {text = text_is c; day = refl}
+returns c = record { text = text_is c; day = refl }
