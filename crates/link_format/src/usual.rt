@@ -25,38 +25,9 @@ fn skip_semicolon(text: &[u8]) -> Option<&[u8]>
 fn skip_relation(text: &[u8]) -> Option<&[u8]>
     ensures { IfSome result (λ rest. IsRelation text.now rest.now) }
 {
-    match text {
-        [
-            b'r',
-            b'e',
-            b'l',
-            b'=',
-            b'"',
-            b'm',
-            b'e',
-            b'm',
-            b'e',
-            b'n',
-            b't',
-            b'o',
-            b'"',
-            rest @ ..,
-        ] => Some(rest),
-        [
-            b'r',
-            b'e',
-            b'l',
-            b'=',
-            b'm',
-            b'e',
-            b'm',
-            b'e',
-            b'n',
-            b't',
-            b'o',
-            rest @ ..,
-        ] => Some(rest),
-        _ => None,
+    match text.strip_prefix(b"rel=\"memento\"") {
+        Some(rest) => Some(rest),
+        None => text.strip_prefix(b"rel=memento"),
     }
 }
 
@@ -65,22 +36,7 @@ fn skip_relation(text: &[u8]) -> Option<&[u8]>
 fn skip_datetime(text: &[u8]) -> Option<&[u8]>
     ensures { IfSome result (λ rest. text.now ≡ codes "datetime=\"" ++ rest.now) }
 {
-    match text {
-        [
-            b'd',
-            b'a',
-            b't',
-            b'e',
-            b't',
-            b'i',
-            b'm',
-            b'e',
-            b'=',
-            b'"',
-            rest @ ..,
-        ] => Some(rest),
-        _ => None,
-    }
+    text.strip_prefix(b"datetime=\"")
 }
 
 /// The datetime of usual parameters at the front, and what follows its quote.
