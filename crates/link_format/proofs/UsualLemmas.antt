@@ -6,7 +6,7 @@ use Rattle.std.proofs.lemmas.Option.{same_Some}
 use Rattle.link_format.specs.Bytes.{is_blank, is_plain, is_token_byte}
 use Rattle.link_format.specs.Grammar.{Param}
 use Rattle.link_format.specs.Scan.{front, past, after_byte, value_at, tail_at, param_at, behind_params, params_of}
-use Rattle.link_format.specs.Usual.{usual_params, IsRelation, IsSemicolon}
+use Rattle.link_format.specs.Usual.{usual_params, FollowsRelation, FollowsSemicolon}
 use Rattle.link_format.specs.Walk.{behind_link, left_by}
 use Rattle.link_format.proofs.Complete.{StopsAt, front_stops, past_stops, other_byte}
 use Rattle.link_format.proofs.Quoted.{plain_until_quote}
@@ -37,7 +37,7 @@ stops_token (b ∷ text) more h =
       | inr not_token ↦ not_token
     ]
 
-relation_at : (text rest more : List ℕ) → IsRelation text rest → after_byte 59 (past is_blank rest) ≡ Some more
+relation_at : (text rest more : List ℕ) → FollowsRelation text rest → after_byte 59 (past is_blank rest) ≡ Some more
     → param_at text ≡ Some (relation ∷ [], rest)
 unfolding param_at tail_at value_at
 relation_at text rest more (inl quoted) h = rw quoted refl
@@ -72,8 +72,8 @@ semicolon_is : (o : Option (List ℕ)) (rest : List ℕ) → option_map (past is
 semicolon_is None rest h = absurd cc
 semicolon_is (Some more) rest h = (more, refl, same_Some _ _ h)
 
-pub usual : (text first behind second more rest : List ℕ) → IsSemicolon text first → IsRelation first behind → IsSemicolon behind second
-    → second ≡ codes "datetime=\"" ++ more → after_byte 34 (past is_plain more) ≡ Some rest → IsUsual text (front is_plain more) rest
+pub usual : (text first behind second more rest : List ℕ) → FollowsSemicolon text first → FollowsRelation first behind
+    → FollowsSemicolon behind second → second ≡ codes "datetime=\"" ++ more → after_byte 34 (past is_plain more) ≡ Some rest → IsUsual text (front is_plain more) rest
 usual text first behind second more rest a r b d quote =
     let x = semicolon_is (after_byte 59 (past is_blank text)) first a in
     let y = semicolon_is (after_byte 59 (past is_blank behind)) second b in

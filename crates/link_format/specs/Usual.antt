@@ -12,9 +12,9 @@ usual_params datetime =
     ∷ []
 
 -- what follows a semicolon and the blanks around it
-abbrev pub IsSemicolon : List ℕ → List ℕ → Type 0
-IsSemicolon text rest = option_map (past is_blank) (after_byte 59 (past is_blank text)) ≡ Some rest
+abbrev pub FollowsSemicolon : List ℕ → List ℕ → Type 0
+FollowsSemicolon text rest = option_map (past is_blank) (after_byte 59 (past is_blank text)) ≡ Some rest
 
 -- what follows the relation type
-abbrev pub IsRelation : List ℕ → List ℕ → Type 0
-IsRelation text rest = (text ≡ codes "rel=\"memento\"" ++ rest) ⊎ (text ≡ codes "rel=memento" ++ rest)
+abbrev pub FollowsRelation : List ℕ → List ℕ → Type 0
+FollowsRelation text rest = (text ≡ codes "rel=\"memento\"" ++ rest) ⊎ (text ≡ codes "rel=memento" ++ rest)

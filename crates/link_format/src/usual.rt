@@ -2,7 +2,7 @@
 //! a datetime (RFC 7089, section 5).
 ghost use Rattle.std.specs.Prelude.{◌≡◌, ◌+◌, ◌≤◌, ◌++◌, length, codes, IfSome};
 ghost use Rattle.link_format.specs.Scan.{behind_params, params_of};
-ghost use Rattle.link_format.specs.Usual.{usual_params, IsRelation, IsSemicolon};
+ghost use Rattle.link_format.specs.Usual.{usual_params, FollowsRelation, FollowsSemicolon};
 ghost use Rattle.link_format.specs.Walk.{behind_link, left_by};
 
 use crate::bytes::Class;
@@ -14,7 +14,7 @@ pub(crate) const MEMENTO: &[u8; 7] = b"memento";
 /// What follows a semicolon and the blanks around it.
 #[inline(always)]
 fn skip_semicolon(text: &[u8]) -> Option<&[u8]>
-    ensures { IfSome result (λ rest. IsSemicolon text.now rest.now) }
+    ensures { IfSome result (λ rest. FollowsSemicolon text.now rest.now) }
 {
     let rest = skip_byte(b';', skip_while(Class::Blank, text))?;
     Some(skip_while(Class::Blank, rest))
@@ -23,7 +23,7 @@ fn skip_semicolon(text: &[u8]) -> Option<&[u8]>
 /// What follows the relation type, a quoted text or a token.
 #[inline(always)]
 fn skip_relation(text: &[u8]) -> Option<&[u8]>
-    ensures { IfSome result (λ rest. IsRelation text.now rest.now) }
+    ensures { IfSome result (λ rest. FollowsRelation text.now rest.now) }
 {
     match text.strip_prefix(b"rel=\"memento\"") {
         Some(rest) => Some(rest),

@@ -26,7 +26,7 @@ impl Model for DateReader {
     ghost use Rattle.memento_time.specs.Clock.{day_of};
     ghost use Rattle.memento_time.specs.Second.{Reads};
 
-    // The day that was read last, counted from 1 January 1970.
+    // The day that was read last, counted from 1 January 1970; 0 where none was.
     ghost Value = { ℕ };
 
     ghost view = { λ reader. day_of reader.moment };
@@ -87,7 +87,7 @@ impl Model for DateWriter {
     ghost use Rattle.memento_time.specs.Clock.{day_of};
     ghost use Rattle.memento_time.specs.Second.{imf};
 
-    // The day that was written last, counted from 1 January 1970.
+    // The day that was written last, counted from 1 January 1970; 0 where none was.
     ghost Value = { ℕ };
 
     ghost view = { λ writer. day_of writer.moment };
