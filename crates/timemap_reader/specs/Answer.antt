@@ -6,6 +6,7 @@ use Rattle.url.specs.Parser.{parse_url}
 use Rattle.link_format.specs.Grammar.{Link}
 use Rattle.link_format.specs.Limits as link
 use Rattle.link_format.specs.Words as link_words
+use Rattle.link_format.specs.declared.fault.LinkFault.{LinkFault}
 use Rattle.link_format.specs.declared.fault.LinkFault.TheVariants as LinkFault
 use Rattle.timemap_reader.specs.declared.page.Page.{Page}
 use Rattle.timemap_reader.specs.declared.page.PageFault.{PageFault}
@@ -21,6 +22,11 @@ http_url (Err e) = None
 -- the base that a text names: an http or https URL, of a text of at most 8,192 bytes
 abbrev pub base_of : List ℕ → Option Parts
 base_of text = if nat_lt 8192 (length text) then None else http_url (parse_url None text)
+
+-- the fault of a page whose text has this one
+abbrev pub fault_of : LinkFault → PageFault
+fault_of LinkFault.NoMemory = NoMemory
+fault_of fault = Links fault
 
 -- of a body that isn't too long
 abbrev pub IsShort : List ℕ → Type 0

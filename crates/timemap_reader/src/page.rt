@@ -1,6 +1,9 @@
 //! Pages of TimeMaps.
-ghost use Rattle.std.specs.Prelude.{◌≡◌, ◌≤◌, ◌<◌, ◌+◌, ◌^◌, ◌⊎◌, ◌++◌, [], ◌∷◌, Some, None, IfOk, OnOk, MatchResult};
-ghost use Rattle.std.specs.Prelude.{length};
+ghost use Rattle.std.specs.Prelude.{◌≡◌, ◌≤◌, ◌<◌, ◌+◌, ◌^◌, ◌⊎◌, ◌++◌, List, [], ◌∷◌, Some, None, Ok, Err};
+ghost use Rattle.std.specs.Prelude.{IfOk, IfErr, OnOk, MatchResult};
+ghost use Rattle.url.specs.Parts.{Parts};
+ghost use Rattle.link_format.specs.Grammar.{Link};
+ghost use Rattle.link_format.specs.Limits as limits;
 ghost use Rattle.timemap_reader.specs.Answer.{IsAnswer, base_of, words_of};
 ghost use Rattle.timemap_reader.specs.Found.{IsFoundIn};
 ghost use Rattle.timemap_reader.specs.Page.{IsPageOf, left_out, named};
@@ -10,7 +13,7 @@ ghost use Rattle.timemap_reader.specs.Said.{IsRoleOf};
 use crate::address::is_http;
 use crate::firsts::firsts;
 use crate::role::{self, Role};
-use link_format::{LinkFault, LinkRef, Links, read_links};
+use link_format::{LinkFault, LinkReader, LinkRef, read_links};
 use memento_time::{Clean, DateReader, Items, Memento, MementosBuilder, in_order};
 use std::alloc::{AllocError, Global};
 use std::error::Error;
@@ -60,6 +63,20 @@ impl fmt::Display for PageFault {
 }
 
 impl Error for PageFault {}
+
+impl From<LinkFault> for PageFault {
+    ghost use Rattle.std.specs.Prelude.{◌≡◌};
+    ghost use Rattle.timemap_reader.specs.Answer.{fault_of};
+
+    ghost from_gives = { λ fault of_page. of_page ≡ fault_of fault };
+
+    fn from(fault: LinkFault) -> PageFault {
+        match fault {
+            LinkFault::NoMemory => PageFault::NoMemory,
+            _ => PageFault::Links(fault),
+        }
+    }
+}
 
 impl From<AllocError> for PageFault {
     ghost use Rattle.std.specs.Prelude.{◌≡◌};
@@ -136,10 +153,11 @@ impl Found {
     }
 }
 
-/// What the links name. Each is looked at once.
-fn find(alloc: Global, base: &Url, links: &Links<'_>) -> Result<Found, AllocError>
-    requires { length links.now ≤ 200000 }
-    ensures { IfOk result (λ found. IsFoundIn base.now links.now found) }
+/// What the links of a body name. Each is looked at once, as it is read.
+fn find(alloc: Global, base: &Url, body: &[u8]) -> Result<Found, LinkFault>
+    ensures ok { IfOk result (λ found. (links : List Link)
+        × limits.IsAnswer body.now (Ok links) × IsFoundIn base.now links found) }
+    ensures err { IfErr result (λ fault. limits.IsAnswer body.now (Err fault)) }
 {
     let mut found = Found {
         mementos: MementosBuilder::new(alloc),
@@ -147,8 +165,8 @@ fn find(alloc: Global, base: &Url, links: &Links<'_>) -> Result<Found, AllocErro
         dropped: 0,
     };
     let mut dates = DateReader::new();
-    for k in 0..links.len() {
-        let link = links.link(k);
+    let mut links = LinkReader::new(alloc, body);
+    while let Some(link) = links.read()? {
         let role = role::read_role(&link)?;
         found.add_memento(&mut dates, alloc, base, &link, &role)?;
         found.add_further(alloc, base, &link, &role)?;
@@ -156,12 +174,11 @@ fn find(alloc: Global, base: &Url, links: &Links<'_>) -> Result<Found, AllocErro
     Ok(found)
 }
 
-/// What these links say on a page at this base.
-fn page_of(alloc: Global, base: &Url, links: &Links<'_>) -> Result<Page, AllocError>
-    requires { length links.now ≤ 200000 }
-    ensures { IfOk result (λ page. IsPageOf base.now links.now page) }
+/// The page that links make which name this.
+fn page_of(alloc: Global, found: Found) -> Result<Page, AllocError>
+    ensures { IfOk result (λ page. (base : Parts) → (links : List Link)
+        → IsFoundIn base links found → IsPageOf base links page) }
 {
-    let found = find(alloc, base, links)?;
     Ok(Page {
         mementos: Items::of(in_order(found.mementos.build(alloc)?)),
         further: Items::of(firsts(alloc, found.further)?),
@@ -208,11 +225,14 @@ pub fn read_page(alloc: Global, base: &str, body: &[u8]) -> Result<Page, PageFau
     if body.len() > MAX_PAGE {
         return Err(PageFault::TooLong);
     }
-    let links = match read_links(alloc, body) {
-        Ok(links) => links,
-        Err(LinkFault::NoMemory) => return Err(PageFault::NoMemory),
-        Err(fault) => return Err(PageFault::Links(fault)),
+    let url = match read_base(alloc, base) {
+        Ok(url) => url,
+        Err(fault) => {
+            // A fault of the text comes before one of the base.
+            read_links(alloc, body)?;
+            return Err(fault);
+        }
     };
-    let url = read_base(alloc, base)?;
-    Ok(page_of(alloc, &url, &links)?)
+    let found = find(alloc, &url, body)?;
+    Ok(page_of(alloc, found)?)
 }
