@@ -151,6 +151,29 @@ impl Found {
         }
         Ok(())
     }
+
+    /// Adds what the link names.
+    fn add(
+        &mut self,
+        dates: &mut DateReader,
+        alloc: Global,
+        base: &Url,
+        link: &LinkRef<'_>,
+    ) -> Result<(), AllocError>
+        requires room { self.old.dropped < 2 ^ 62 }
+        ensures mementos { OnOk result (self.new.mementos
+            ≡ self.old.mementos ++ named is_memento_link (memento_of base.now) (link.now ∷ [])) }
+        ensures further { OnOk result (self.new.further.items
+            ≡ self.old.further.items ++ named is_further_link (further_of base.now) (link.now ∷ [])) }
+        ensures dropped { OnOk result (self.new.dropped
+            ≡ self.old.dropped + left_out is_memento_link (memento_of base.now) (link.now ∷ [])
+            + left_out is_further_link (further_of base.now) (link.now ∷ [])) }
+        ensures bound { OnOk result (self.new.dropped ≤ self.old.dropped + 2) }
+    {
+        let role = role::read_role(link)?;
+        self.add_memento(dates, alloc, base, link, &role)?;
+        self.add_further(alloc, base, link, &role)
+    }
 }
 
 /// What the links of a body name. Each is looked at once, as it is read.
@@ -167,9 +190,7 @@ fn find(alloc: Global, base: &Url, body: &[u8]) -> Result<Found, LinkFault>
     let mut dates = DateReader::new();
     let mut links = LinkReader::new(alloc, body);
     while let Some(link) = links.read()? {
-        let role = role::read_role(&link)?;
-        found.add_memento(&mut dates, alloc, base, &link, &role)?;
-        found.add_further(alloc, base, &link, &role)?;
+        found.add(&mut dates, alloc, base, &link)?;
     }
     Ok(found)
 }
