@@ -40,7 +40,7 @@ fn next_span(text: &[u8]) -> Result<Option<(LinkSpan<'_>, Option<&[u8]>)>, usize
 fn is_within(others: usize, link: LinkSpan<'_>) -> bool
     ensures { IsTrue result ↔ IsWithin others (link_of link.entry) }
 {
-    others < MAX_LINKS && link.count <= MAX_PARAMS && link.target.len() <= MAX_TARGET
+    others < MAX_LINKS && link.params.count <= MAX_PARAMS && link.target.len() <= MAX_TARGET
 }
 
 /// The first fault of a text that isn't read.

@@ -1,6 +1,7 @@
 //! The parts of a text, where they stand in it.
-ghost use Rattle.std.specs.Prelude.{◌≡◌, length};
+ghost use Rattle.std.specs.Prelude.{◌≡◌, ℕ, List, length, Some, option_map};
 ghost use Rattle.link_format.specs.Scan.{params_of};
+ghost use Rattle.link_format.specs.Usual.{SaysMemento};
 
 /// A value, as it stands in the text.
 #[derive(Clone, Copy)]
@@ -18,13 +19,23 @@ pub(crate) struct ParamSpan<'a> {
     pub value: Option<ValueSpan<'a>>,
 }
 
+/// The parameters of a link, as they stand in the text.
+#[derive(Clone, Copy)]
+pub(crate) struct ParamsSpan<'a> {
+    /// All that stands behind the target's `>`, the parameters at the front.
+    pub text: &'a [u8],
+    /// How many they are.
+    pub count: usize,
+    /// The datetime of a memento, where they begin with usual parameters.
+    pub usual: Option<&'a [u8]>,
+    ghost counted: { count ≡ length (params_of text.now) },
+    ghost says: { (datetime : List ℕ) → option_map (λ u. u.now) usual ≡ Some datetime
+        → SaysMemento (params_of text.now) datetime },
+}
+
 /// A link, as it stands in the text.
 #[derive(Clone, Copy)]
 pub(crate) struct LinkSpan<'a> {
     pub target: &'a [u8],
-    /// All that stands behind the target's `>`, its parameters at the front.
-    pub params: &'a [u8],
-    /// How many parameters these are.
-    pub count: usize,
-    ghost counted: { count ≡ length (params_of params.now) },
+    pub params: ParamsSpan<'a>,
 }
