@@ -116,7 +116,7 @@ impl Found {
             ≡ self.old.dropped + left_out is_memento_link (memento_of base.now) (link.now ∷ [])) }
         ensures bound { OnOk result (self.new.dropped ≤ self.old.dropped + 1) }
     {
-        if !role::is_memento_link(&role.rel) {
+        if !role.is_memento {
             return Ok(());
         }
         if !role::push_memento(&mut self.mementos, dates, alloc, base, link, role)? {
@@ -142,7 +142,7 @@ impl Found {
             ≡ self.old.dropped + left_out is_further_link (further_of base.now) (link.now ∷ [])) }
         ensures bound { OnOk result (self.new.dropped ≤ self.old.dropped + 1) }
     {
-        if !role::is_further_link(link, &role.rel)? {
+        if !role.is_further {
             return Ok(());
         }
         match role::further(alloc, base, link)? {
