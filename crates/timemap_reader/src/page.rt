@@ -235,10 +235,10 @@ fn read_base(alloc: Global, base: &str) -> Result<Url, PageFault>
 ///   base. A further TimeMap's address loses its fragment. Bytes that aren't clean are escaped.
 /// - A link from which a memento or a further TimeMap can't be read is left out and counted.
 ///
-/// Time and memory grow with the body and with what is read from it. Beside the body stand up to 80
-/// bytes a link, 56 a memento beside its address, and 130 a further TimeMap beside its address; of a
-/// page that is read 24 a memento stay, and all addresses of mementos in one buffer of just their
-/// size. A relative target is as long as the base once it is joined, 8 KB in the worst case for each
+/// Time and memory grow with the body and with what is read from it. Beside the body stand up to 56
+/// bytes a memento beside its address, and 130 a further TimeMap beside its address; where the base is
+/// refused or a link passes a limit, up to 112 bytes a link. Of a page that is read 24 a memento stay,
+/// and all addresses of mementos in one buffer of just their size. A relative target is as long as the base once it is joined, 8 KB in the worst case for each
 /// of up to 200,000 links: a page of 3 MB can name addresses of 1.6 GB.
 pub fn read_page(alloc: Global, base: &str, body: &[u8]) -> Result<Page, PageFault>
     ensures { IsAnswer base.now body.now result }
