@@ -1,5 +1,5 @@
 -- How far a text is read, link by link.
-use Rattle.std.proofs.Common.{◌≡◌, ℕ, zero, suc, ◌-◌, ◌+◌, ◌≤◌, ◌<◌, List, [], ◌∷◌, ◌++◌, length, take, drop, get_or, Option, Some, None, Ok, Err, refl, sym, ap, subst, ◌∙◌, arith, inl, inr}
+use Rattle.std.proofs.Common.{◌≡◌, ℕ, zero, suc, ◌-◌, ◌+◌, ◌≤◌, List, [], ◌∷◌, ◌++◌, length, take, drop, get_or, Option, Some, None, Ok, Err, refl, sym, ap, subst, ◌∙◌, arith, inl, inr}
 use Rattle.std.specs.Prelude.{MatchOption}
 use Rattle.std.specs.List.{slice_get, AllByRecursion}
 use Rattle.std.proofs.lemmas.Option.{same_Some}
@@ -7,7 +7,7 @@ use Rattle.link_format.specs.Grammar.{Link, Reading}
 use Rattle.link_format.specs.Limits.{IsAnswer, FewParams, ShortTargets}
 use Rattle.link_format.specs.Reader.{reading_left, with_left, IsSamePlace, IsWithin, StandBefore, IsReadTo}
 use Rattle.link_format.specs.Scan.{reading_of}
-use Rattle.link_format.specs.Walk.{in_list, left_by, place_of}
+use Rattle.link_format.specs.Walk.{in_list, left_by}
 use Rattle.link_format.specs.declared.fault.LinkFault.TheVariants.{NotLinkFormat}
 use Rattle.link_format.proofs.Answer.{stopped}
 use Rattle.link_format.proofs.Complete.{reading_complete}
@@ -19,7 +19,7 @@ use Rattle.link_format.proofs.Steps.{option_cases}
 head_of : (x y : Link) (xs ys : List Link) → x ∷ xs ≡ y ∷ ys → (x ≡ y) × (xs ≡ ys)
 head_of x y xs ys e = (ap (λ (l : List Link). get_or l 0 x) e, ap (λ (l : List Link). drop 1 l) e)
 
--- the element behind so many others
+-- the element behind this many others
 behind : (k : ℕ) (all more : List Link) (link : Link) → drop k all ≡ link ∷ more
     → (slice_get all k ≡ Some link) × (drop (k + 1) all ≡ more) × (k + 1 ≤ length all) × (take (k + 1) all ≡ take k all ++ link ∷ [])
 behind zero [] more link e = absurd cc

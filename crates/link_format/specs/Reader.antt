@@ -24,18 +24,18 @@ abbrev pub IsSamePlace : List ℕ → Option (List ℕ) → Type 0
 IsSamePlace text None = Unit {0}
 IsSamePlace text (Some rest) = left_by in_list rest ≡ left_by in_list text
 
--- a link that stands behind so many others passes no limit
+-- a link that stands behind this many others passes no limit
 abbrev pub IsWithin : ℕ → Link → Type 0
 IsWithin others link = (others < 200000) × (length link.params ≤ 32) × (length link.target ≤ 8192)
 
--- of the links of a text as many stand before the rest, and none of these passes a limit
+-- of the links of a text this many stand before the rest, and none of these passes a limit
 pub record StandBefore (rest : Option (List ℕ)) (count : ℕ) (links : List Link) : Type 0 where
   pub left : reading_left rest ≡ Some (drop count links)
   pub within : count ≤ length links
   pub params : FewParams (take count links)
   pub targets : ShortTargets (take count links)
 
--- as many links of a text are read, up to the rest
+-- this many links of a text are read, up to the rest
 pub record IsReadTo (text : List ℕ) (rest : Option (List ℕ)) (count : ℕ) : Type 0 where
   pub links : MatchOption (reading_of text) (reading_left rest ≡ None) (StandBefore rest count)
   pub place : IsSamePlace text rest

@@ -36,7 +36,7 @@ fn next_span(text: &[u8]) -> Result<Option<(LinkSpan<'_>, Option<&[u8]>)>, usize
     }
 }
 
-/// Whether a link that stands behind so many others passes no limit.
+/// Whether a link that stands behind this many others passes no limit.
 fn is_within(others: usize, link: LinkSpan<'_>) -> bool
     ensures { IsTrue result ↔ IsWithin others (link_of link.entry) }
 {

@@ -1,8 +1,7 @@
-use Rattle.std.proofs.Common.{◌≡◌, true, false, List, length, Some, None, sym, ap, ◌∙◌}
+use Rattle.std.proofs.Common.{◌≡◌, false, length, Some, sym, ap, ◌∙◌}
 use Rattle.std.proofs.lemmas.Result.{err_from_is_err_and}
 use Rattle.std.specs.Prelude.{◌==◌}
 use Rattle.link_format.specs.Bytes.{is_blank}
-use Rattle.link_format.specs.Grammar.{Link}
 use Rattle.link_format.specs.Scan.{past, element_at}
 use Rattle.link_format.specs.Spans.{links_from}
 use Rattle.link_format.specs.Walk.{in_list, left_by}
