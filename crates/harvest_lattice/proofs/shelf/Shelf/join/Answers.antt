@@ -34,7 +34,7 @@ returns-clause-after c =
     let read : map.get x o ≡ tree.get text_cmp m o = ap (λ (s : Shelved). map.get s o) (sym c.self.view_is) ∙ get-shelved m.entries o in
     let joined = join_values join_kept (map.get x o) (Some c.args.entry) in
     let put : (v : Kept) → n ≡ map_with_value c.in_ok-standing.field-0 v → Some v ≡ joined → (p : List ℕ) → map.get (map.from_entries {R = text_cmp} n.entries) p ≡ cond (eq_by_cmp text_cmp p o) joined (map.get x p) =
-        λ v last is p. shelved_put m.entries n.entries o (Some v) x c.self.view_is (λ q. ap (λ s. tree.get text_cmp s q) last ∙ (c.in_ok-standing.ensures.update.0 v).0 q) p ∙ ap (λ k. cond (eq_by_cmp text_cmp p o) k (map.get x p)) is in
+    λ v last is p. shelved_put m.entries n.entries o (Some v) x c.self.view_is (λ q. ap (λ s. tree.get text_cmp s q) last ∙ (c.in_ok-standing.ensures.update.0 v).0 q) p ∙ ap (λ k. cond (eq_by_cmp text_cmp p o) k (map.get x p)) is in
     elim c.match-branch-2.branch [
       | in-Occupied+in_ok-join-in-Occupied w ↦
           let there : tree.get text_cmp m o ≡ Some w.into_mut.result.now = sym c.in_ok-standing.ensures.value ∙ (ap entry_value w.in-Occupied.is ∙ w.into_mut.ensures.value) in
