@@ -1,17 +1,17 @@
 //! Does one layer's job by itself and many times, so that `bench/run` can measure it beside a plain Rust program.
 //!
-//! - `measure links COUNT < PAGE`: reads the links of a page COUNT times.
-//! - `measure pages COUNT < PAGE`: reads what the page says COUNT times.
-//! - `measure keys COUNT`: merges one memento for each of COUNT originals into a state, one by one.
-//! - `measure states COUNT < TEXT`: reads the text of a state and writes it again, COUNT times.
-//! - `measure hostile COUNT < TEXT`: reads the text of a state and absorbs it in an index of nothing, COUNT times.
-//! - `measure memory COUNT`: fills an index with COUNT mementos, ten of each original.
-//! - `measure stamped COUNT`: takes these mementos with a replica that stamps its entries.
-//! - `measure last COUNT`, `measure all COUNT`: takes them too, and writes ten times the delta with the last merge, or
+//! - `layer_bench links COUNT < PAGE`: reads the links of a page COUNT times.
+//! - `layer_bench pages COUNT < PAGE`: reads what the page says COUNT times.
+//! - `layer_bench keys COUNT`: merges one memento for each of COUNT originals into a state, one by one.
+//! - `layer_bench states COUNT < TEXT`: reads the text of a state and writes it again, COUNT times.
+//! - `layer_bench hostile COUNT < TEXT`: reads the text of a state and absorbs it in an index of nothing, COUNT times.
+//! - `layer_bench memory COUNT`: fills an index with COUNT mementos, ten of each original.
+//! - `layer_bench stamped COUNT`: takes these mementos with a replica that stamps its entries.
+//! - `layer_bench last COUNT`, `layer_bench all COUNT`: takes them too, and writes ten times the delta with the last merge, or
 //!   with all merges.
-//! - `measure walk COUNT`: walks over 64 pages of 1,500 mementos each, COUNT times.
-//! - `measure read COUNT`: fetches and reads these pages COUNT times, and does no more with them.
-//! - `measure round WORKERS`: a round of 1,000 jobs, each of a page that takes a millisecond.
+//! - `layer_bench walk COUNT`: walks over 64 pages of 1,500 mementos each, COUNT times.
+//! - `layer_bench read COUNT`: fetches and reads these pages COUNT times, and does no more with them.
+//! - `layer_bench round WORKERS`: a round of 1,000 jobs, each of a page that takes a millisecond.
 //!
 //! Each time it prints some counts, which must be those of the plain program. With no words it does nothing.
 #![tactic(auto)]
