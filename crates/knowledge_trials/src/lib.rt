@@ -9,6 +9,8 @@ mod captures;
 #[cfg(test)]
 mod exchange;
 #[cfg(test)]
+mod gate;
+#[cfg(test)]
 mod index;
 #[cfg(test)]
 mod lattice;
