@@ -14,13 +14,9 @@ mod listing;
 mod lists;
 mod merge;
 mod nearest;
-#[cfg(test)]
-mod plain;
 mod probed;
 mod steps;
 mod tally;
-#[cfg(test)]
-mod tests;
 
 pub use index::Index;
 pub use laws::{distances_are_between, one_is_last, one_is_nearest};

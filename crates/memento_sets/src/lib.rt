@@ -9,8 +9,6 @@
 
 mod laws;
 mod mementos;
-#[cfg(test)]
-mod tests;
 
 pub use laws::one_list_of_a_set;
 pub use mementos::Mementos;

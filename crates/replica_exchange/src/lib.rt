@@ -31,16 +31,12 @@
 
 mod cursor;
 mod delta;
-#[cfg(test)]
-mod delta_tests;
 mod fault;
 mod fields;
 mod laws;
 mod reading;
 mod stamped;
 mod stamps;
-#[cfg(test)]
-mod tests;
 mod writing;
 
 pub use cursor::{Cursor, Cursors, TakeFault};

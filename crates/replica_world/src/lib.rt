@@ -10,8 +10,6 @@ mod message;
 mod read_back;
 mod replaying;
 mod replica;
-#[cfg(test)]
-mod tests;
 mod world;
 
 pub use asked::{Asked, asked_after};

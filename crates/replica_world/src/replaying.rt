@@ -10,7 +10,5 @@ mod output;
 mod perform;
 pub mod run;
 mod start;
-#[cfg(test)]
-mod tests;
 mod texts;
 pub mod watched;

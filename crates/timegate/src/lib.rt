@@ -7,8 +7,6 @@ mod laws;
 mod reply;
 mod request;
 mod route;
-#[cfg(test)]
-mod tests;
 
 pub use answering::answer;
 pub use laws::{

@@ -1,6 +1,6 @@
 //! The plain index, for tests alone: a state, which makes each list when it is asked for.
-use crate::merge::Merge;
 use harvest_lattice::State;
+use memento_index::Merge;
 use memento_time::{Memento, NoMemory, Original};
 use std::alloc::Global;
 

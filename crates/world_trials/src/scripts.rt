@@ -1,0 +1,191 @@
+//! Tests of scripts: what a replay writes, which lines are bad, and readers and writers that fail.
+use anyhow::Result;
+use replica_world::{ReplayFault, Watched, replay};
+use std::alloc::Global;
+use std::io;
+use std::io::{Error, ErrorKind, Read, Write};
+use std::test::*;
+
+// Lines that are empty stand between commands, and nothing ends the last one.
+const SCRIPT: &[u8] = b"
+replicas 2 http://agg.example
+
+send 1
+deliver 2 1
+sendfrom 1 0
+receive 2 30
+memento-state 1
+entries 0
+end
+
+take 2 a1 1 http://m.example/ 0 http://a.example/
+
+map 2 http://a.example/
+gate 2 http://a.example/
+ask 1 GET 0 /delta/1/0
+restart 1
+restart 3";
+
+const SAYS: &[u8] = b"sent 1
+joined
+sent 2
+received
+taken 0 0 0
+reply 404
+Content-Type: text/plain
+body 11
+no memento
+reply 404
+Vary: accept-datetime
+Content-Type: text/plain
+body 11
+no memento
+reply 200
+Content-Type: text/plain
+body 41
+memento-delta 1
+from 1 0 0
+entries 0
+end
+restarted
+refused no replica
+";
+
+/// A reader that gives a byte at a time, and fails after `reads` of them.
+#[derive(Drop)]
+struct FailingReader<'a> {
+    rest: &'a [u8],
+    reads: usize,
+}
+
+impl Read for FailingReader<'_> {
+    fn read(&mut self, buf: &mut [u8]) -> io::Result<usize> {
+        if self.reads == 0 {
+            return Err(Error::from(ErrorKind::Other));
+        }
+        self.reads -= 1;
+        let most = buf.len().min(1);
+        let mut one = &self.rest[..self.rest.len().min(1)];
+        let count = one.read(&mut buf[..most])?;
+        self.rest = &self.rest[count.min(self.rest.len())..];
+        Ok(count.min(buf.len()))
+    }
+}
+
+/// A writer that takes a byte at a time, and fails after `writes` of them.
+#[derive(Drop)]
+struct FailingWriter<'a> {
+    bytes: &'a mut Vec<u8>,
+    writes: usize,
+}
+
+impl Write for FailingWriter<'_> {
+    fn write(&mut self, buf: &[u8]) -> io::Result<usize> {
+        if self.writes == 0 || buf.is_empty() {
+            return Err(Error::from(ErrorKind::Other));
+        }
+        self.writes -= 1;
+        self.bytes.write(&buf[..1])
+    }
+
+    fn flush(&mut self) -> io::Result<()> {
+        Ok(())
+    }
+}
+
+// How the replay of a script ends, where just this is written.
+fn ended(alloc: Global, script: &[u8], wanted: &[u8]) -> Option<Result<(), ReplayFault>> {
+    let mut reader = Watched::new(script);
+    let mut writer = Watched::new(Vec::new(alloc));
+    let result = replay(alloc, &mut reader, &mut writer);
+    if writer.device.as_slice() == wanted {
+        Some(result)
+    } else {
+        None
+    }
+}
+
+#[test]
+fn scripts(rt: HostRuntime) {
+    let alloc = rt.alloc();
+    assert_eq!(rt; ended(alloc, b"", b""), Some(Ok(())));
+    assert_eq!(rt; ended(alloc, SCRIPT, SAYS), Some(Ok(())));
+}
+
+// What is written before the bad line, and its number.
+#[test]
+fn bad_lines(rt: HostRuntime) {
+    let cases: [(&[u8], &[u8], u64); 6] = [
+        (
+            b"replicas 1 http://agg.example\nrestart 1\nbogus\n",
+            b"restarted\n",
+            3,
+        ),
+        (b"replicas 17 http://agg.example\n", b"", 1),
+        (b"\nreplicas 1 http://agg.example/x\n", b"", 2),
+        (b"replicas 1 http://agg.example\nsendfrom 1\n", b"", 2),
+        (
+            b"replicas 1 http://agg.example\nreceive 1 3\n\n\nend\n",
+            b"",
+            2,
+        ),
+        (b"replicas 1 http://agg.example\nask 1 GET 2 /x\n\n", b"", 2),
+    ];
+    for (script, written, number) in cases {
+        assert_eq!(rt;
+            ended(rt.alloc(), script, written),
+            Some(Err(ReplayFault::BadLine { number }))
+        );
+    }
+}
+
+// What a replay gives of a script that is read a byte at a time, with at most so many reads, and how much it writes.
+fn replay_by_bytes(alloc: Global, rest: &[u8], reads: usize) -> (Result<(), ReplayFault>, usize) {
+    let mut reader = Watched::new(FailingReader { rest, reads });
+    let mut writer = Watched::new(Vec::new(alloc));
+    let result = replay(alloc, &mut reader, &mut writer);
+    (result, writer.device.len())
+}
+
+// A reader may give a byte at a time for as long as it likes, below the limit of a thousand million reads.
+#[test]
+fn many_reads(rt: HostRuntime) -> Result<()> {
+    let lines = vec![in rt.alloc(); b'\n'; 1_000_001]?;
+    assert_eq!(rt; replay_by_bytes(rt.alloc(), &lines, 1_000_002), (Ok(()), 0));
+    Ok(())
+}
+
+#[test]
+fn failing_readers(rt: HostRuntime) {
+    for reads in 0..=SCRIPT.len() {
+        assert_eq!(rt;
+            replay_by_bytes(rt.alloc(), SCRIPT, reads),
+            (Err(ReplayFault::Read), 0)
+        );
+    }
+}
+
+// Whether a replay to a writer that fails after so many bytes has written just these, and says whether that were all.
+fn is_cut_at(alloc: Global, script: &[u8], wanted: &[u8], writes: usize) -> bool {
+    let mut reader = Watched::new(script);
+    let mut output = Vec::new(alloc);
+    let bytes = &mut output;
+    let mut writer = Watched::new(FailingWriter { bytes, writes });
+    let result = replay(alloc, &mut reader, &mut writer);
+    let said = if writes == wanted.len() {
+        Ok(())
+    } else {
+        Err(ReplayFault::Write)
+    };
+    result == said && output.len() == writes && wanted.starts_with(&output)
+}
+
+#[test]
+fn failing_writers(rt: HostRuntime) {
+    for writes in 0..=SAYS.len() {
+        assert!(rt;
+            is_cut_at(rt.alloc(), SCRIPT, SAYS, writes),
+            "after {writes} bytes"
+        );
+    }
+}
