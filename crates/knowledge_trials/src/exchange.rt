@@ -1,0 +1,373 @@
+//! Tests of `replica_exchange`: the texts of states and of deltas, the numbers of merges, and cursors.
+use crate::captures::{Capture, FIRST, ROOT, SECOND, root};
+use crate::makers::{harvest, merge};
+use anyhow::Result;
+use harvest_lattice::State;
+use memento_index::Merge;
+use replica_exchange::{
+    Cursor, Cursors, Stamped, StateFault, TakeFault, read_delta, read_state, write_delta,
+    write_state,
+};
+use std::alloc::Global;
+use std::test::*;
+use text_trials::makers::{archive, mementos};
+
+// What a replica holds after one harvest of one page.
+const ONE_PAGE: &[u8] =
+    b"memento-state 1\nentries 1\nentry arc.example 7 1 http://a.example/\n946684800 http://arc.example/web/20000101000000/http://a.example/\nend\n";
+
+// Two archives whose names begin as a third's, each with originals of their own. By original first the order would be
+// another, and so would it be by the digits of seconds.
+const WORKED: &[u8] = b"memento-state 1
+entries 5
+entry a1 0 0 http://b.example/
+entry a1 18446744073709551615 3 http://c.example/
+0 http://m.example/1
+253402300799 http://m.example/2
+253402300799 http://m.example/3
+entry a1-b 7 1 http://a.example/
+946684800 http://m.example/4
+entry a1.b 3 2 http://a.example/
+9 http://m.example/6
+10 http://m.example/5
+entry a1.b 3 1 http://b.example/
+946684800 http://m.example/4
+end
+";
+
+const EMPTY: &[u8] = b"memento-state 1\nentries 0\nend\n";
+
+fn take(
+    alloc: Global,
+    state: &mut State,
+    archive: &[u8],
+    original: &[u8],
+    revision: u64,
+    captures: &[Capture],
+) -> Result<()> {
+    let harvest = harvest(
+        alloc,
+        archive,
+        original,
+        revision,
+        mementos(alloc, captures)?,
+    )?;
+    state.merge(&harvest)?;
+    Ok(())
+}
+
+fn take_worked(alloc: Global, state: &mut State) -> Result<()> {
+    let b: &[u8] = b"http://b.example/";
+    let c: &[u8] = b"http://c.example/";
+    let fourth: Capture = (946_684_800, b"http://m.example/4");
+    take(alloc, state, b"a1.b", b, 3, &[fourth])?;
+    let early: [Capture; 2] = [(10, b"http://m.example/5"), (9, b"http://m.example/6")];
+    take(alloc, state, b"a1.b", ROOT, 3, &early)?;
+    take(alloc, state, b"a1-b", ROOT, 7, &[fourth])?;
+    let ends: [Capture; 3] = [
+        (253_402_300_799, b"http://m.example/3"),
+        (253_402_300_799, b"http://m.example/2"),
+        (0, b"http://m.example/1"),
+    ];
+    take(alloc, state, b"a1", c, u64::MAX, &ends)?;
+    take(alloc, state, b"a1", b, 0, &[])
+}
+
+fn take_page(alloc: Global, state: &mut State) -> Result<()> {
+    let uri: &[u8] = b"http://arc.example/web/20000101000000/http://a.example/";
+    take(alloc, state, b"arc.example", ROOT, 7, &[(FIRST.0, uri)])
+}
+
+fn is_written_as(alloc: Global, state: &State, text: &[u8]) -> Result<bool> {
+    Ok(write_state(alloc, state)?.as_slice() == text)
+}
+
+// Whether this is the state's text, and is read as a state of so many entries with the same text.
+fn goes_both_ways(alloc: Global, state: &State, text: &[u8], entries: usize) -> Result<bool> {
+    let read = read_state(alloc, text)?;
+    Ok(
+        read.len() == entries
+            && state.le(&read)
+            && read.le(state)
+            && is_written_as(alloc, state, text)?
+            && is_written_as(alloc, &read, text)?,
+    )
+}
+
+#[test]
+fn states_both_ways(rt: HostRuntime) -> Result<()> {
+    let alloc = rt.alloc();
+    assert_eq!(rt; EMPTY.len(), 30);
+    let mut state = State::new(alloc);
+    assert!(rt; goes_both_ways(alloc, &state, EMPTY, 0)?);
+    take_page(alloc, &mut state)?;
+    assert!(rt; goes_both_ways(alloc, &state, ONE_PAGE, 1)?);
+    let mut state = State::new(alloc);
+    take_worked(alloc, &mut state)?;
+    assert!(rt; goes_both_ways(alloc, &state, WORKED, 5)?);
+    Ok(())
+}
+
+fn is_no_state(alloc: Global, text: &[u8]) -> bool {
+    matches!(read_state(alloc, text), Err(StateFault::NotState))
+}
+
+#[test]
+fn other_texts_are_no_states(rt: HostRuntime) {
+    let alloc = rt.alloc();
+    for end in 0..ONE_PAGE.len() {
+        assert!(rt; is_no_state(alloc, &ONE_PAGE[..end]), "cut at {end}");
+    }
+    let others: [&[u8]; 16] = [
+        b"memento-state 1\nentries 1\nentry arc.example 07 1 http://a.example/\n946684800 http://arc.example/web/20000101000000/http://a.example/\nend\n",
+        b"memento-state 1\nentries 1\nentry arc.example 7 1 http://a.example/\n946684800 http://arc.example/web/20000101000000/http://a.example/\n",
+        b"memento-state 1\nentries 1\nentry arc.example 7 1 http://a.example/\n946684800 http://arc.example/web/20000101000000/http://a.example/\nend\n\n",
+        b"memento-state 1\nentries 2\nentry b1 1 0 http://a.example/\nentry a1 1 0 http://a.example/\nend\n",
+        b"memento-state 1\nentries 2\nentry a1 1 0 http://a.example/\nentry a1 1 0 http://a.example/\nend\n",
+        b"memento-state 1\nentries 1\nentry a1 1 2 http://a.example/\n10 http://m.example/1\n9 http://m.example/1\nend\n",
+        b"memento-state 1\nentries 1\nentry a1 1 2 http://a.example/\n9 http://m.example/1\n9 http://m.example/1\nend\n",
+        b"memento-state 1\nentries 1\nentry a1 1 1 http://a.example/\n9 http://m.example/1\n9 http://m.example/2\nend\n",
+        b"memento-state 1\nentries 1\nentry a1 1 2 http://a.example/\n9 http://m.example/1\nend\n",
+        b"memento-state 1\nentries 1\nentry a1 1 1 http://a.example/\n253402300800 http://m.example/1\nend\n",
+        b"memento-state 1\nentries 1\nentry a1 18446744073709551616 0 http://a.example/\nend\n",
+        b"memento-state 1\nentries 00\nend\n",
+        b"memento-state 1\r\nentries 0\r\nend\r\n",
+        b"memento-state 1\nentries  0\nend\n",
+        b"memento-state 1\nentries 18446744073709551615\n",
+        b"memento-state 1\nentries 1\nentry a1 1 18446744073709551615 http://a.example/\n",
+    ];
+    for text in others {
+        assert!(rt; is_no_state(alloc, text));
+    }
+}
+
+// What follows on the first two merges of `replica`.
+const THIRD_MERGE: &[u8] =
+    b"memento-delta 1\nfrom 1 2 3\nentries 1\nentry a1 3 0 http://a.example/\nend\n";
+
+fn absorb(
+    alloc: Global,
+    stamped: &mut Stamped,
+    name: &[u8],
+    revision: u64,
+    captures: &[Capture],
+) -> Result<()> {
+    stamped.absorb(&merge(alloc, name, ROOT, revision, captures)?)?;
+    Ok(())
+}
+
+// Takes one memento, and then another at the next revision.
+fn take_two(alloc: Global, stamped: &mut Stamped) -> Result<()> {
+    absorb(alloc, stamped, b"a1", 1, &[FIRST])?;
+    absorb(alloc, stamped, b"a1", 2, &[SECOND])
+}
+
+// A replica of incarnation 1 that has taken these two.
+fn replica(alloc: Global) -> Result<Stamped> {
+    let mut stamped = Stamped::new(alloc, 1);
+    take_two(alloc, &mut stamped)?;
+    Ok(stamped)
+}
+
+fn at(incarnation: u64, number: u64) -> Option<Cursor> {
+    Some(Cursor {
+        incarnation,
+        number,
+    })
+}
+
+// The length of the delta from a cursor.
+fn len_from(alloc: Global, stamped: &Stamped, cursor: Option<Cursor>) -> Result<usize> {
+    let text = write_delta(alloc, stamped, cursor)?;
+    Ok(text.len())
+}
+
+// Whether the delta from a cursor begins with this.
+fn begins(alloc: Global, stamped: &Stamped, cursor: Option<Cursor>, text: &[u8]) -> Result<bool> {
+    Ok(write_delta(alloc, stamped, cursor)?.starts_with(text))
+}
+
+// The lengths of the deltas from no cursor, from the present, from a number to come, and from another incarnation.
+fn lens(alloc: Global, stamped: &Stamped) -> Result<[usize; 4]> {
+    Ok([
+        len_from(alloc, stamped, None)?,
+        len_from(alloc, stamped, at(1, 1))?,
+        len_from(alloc, stamped, at(1, 9))?,
+        len_from(alloc, stamped, at(5, 1))?,
+    ])
+}
+
+#[test]
+fn deltas_of_one_harvest(rt: HostRuntime) -> Result<()> {
+    let alloc = rt.alloc();
+    let mut stamped = Stamped::new(alloc, 1);
+    let uri: &[u8] = b"http://arc.example/web/20000101000000/http://a.example/";
+    absorb(alloc, &mut stamped, b"arc.example", 7, &[(FIRST.0, uri)])?;
+    assert!(rt; begins(alloc, &stamped, None, b"memento-delta 1\nfrom 1 0 1\n")?);
+    let none: &[u8] = b"memento-delta 1\nfrom 1 1 1\nentries 0\nend\n";
+    assert!(rt; begins(alloc, &stamped, at(1, 1), none)?);
+    assert_eq!(rt; lens(alloc, &stamped)?, [147, 41, 147, 147]);
+    Ok(())
+}
+
+// How many merges there were, and the stamps of two archives.
+fn stamps(alloc: Global, stamped: &Stamped) -> Result<(u64, Option<u64>, Option<u64>)> {
+    let root = root(alloc)?;
+    let first = stamped.stamp(archive(b"a1")?, &root);
+    let second = stamped.stamp(archive(b"b1")?, &root);
+    Ok((stamped.number(), first, second))
+}
+
+fn absorb_itself(stamped: &mut Stamped) -> Result<()> {
+    let same = stamped.index().state().try_clone()?;
+    stamped.absorb(&Merge::State(same))?;
+    Ok(())
+}
+
+#[test]
+fn stamps_follow_changes(rt: HostRuntime) -> Result<()> {
+    let alloc = rt.alloc();
+    let mut stamped = replica(alloc)?;
+    assert_eq!(rt; stamps(alloc, &stamped)?, (2, Some(2), None));
+    // An older revision changes nothing, and an archive that is new only its own entry.
+    absorb(alloc, &mut stamped, b"a1", 1, &[])?;
+    absorb(alloc, &mut stamped, b"b1", 1, &[])?;
+    assert_eq!(rt; stamps(alloc, &stamped)?, (4, Some(2), Some(4)));
+    // A state that is known changes nothing either.
+    absorb_itself(&mut stamped)?;
+    assert_eq!(rt; stamps(alloc, &stamped)?, (5, Some(2), Some(4)));
+    Ok(())
+}
+
+// Takes the whole of what a replica knows.
+fn take_whole(alloc: Global, cursors: &mut Cursors, peer: u64, sender: &Stamped) -> Result<()> {
+    let text = write_delta(alloc, sender, None)?;
+    let delta = read_delta(alloc, &text)?;
+    cursors.take(peer, &delta)?;
+    Ok(())
+}
+
+fn take_third(alloc: Global, cursors: &mut Cursors, peer: u64) -> Result<()> {
+    let delta = read_delta(alloc, THIRD_MERGE)?;
+    cursors.take(peer, &delta)?;
+    Ok(())
+}
+
+// Whether what follows on two merges is refused as a gap, beside this cursor.
+fn is_gap(alloc: Global, cursors: &mut Cursors, peer: u64, cursor: Option<Cursor>) -> Result<bool> {
+    let delta = read_delta(alloc, THIRD_MERGE)?;
+    let fits = cursors.fits(peer, &delta);
+    let told = match cursors.take(peer, &delta) {
+        Err(TakeFault::Gap { held }) => held == cursor,
+        _ => false,
+    };
+    Ok(!fits && told && cursors.held(peer) == cursor)
+}
+
+// Where a copy of the cursors leads once what follows is taken.
+fn copy_after_third(alloc: Global, cursors: &Cursors, peer: u64) -> Result<Option<Cursor>> {
+    let mut copy = cursors.try_clone()?;
+    take_third(alloc, &mut copy, peer)?;
+    Ok(copy.held(peer))
+}
+
+#[test]
+fn deltas_follow_on_cursors(rt: HostRuntime) -> Result<()> {
+    let alloc = rt.alloc();
+    let mut cursors = Cursors::new(alloc);
+    assert!(rt; is_gap(alloc, &mut cursors, 1, None)?);
+    take_whole(alloc, &mut cursors, 1, &replica(alloc)?)?;
+    assert_eq!(rt; (cursors.held(1), cursors.held(2)), (at(1, 2), None));
+    // It fits on a copy of the cursors too, and moves only the copy's.
+    assert_eq!(rt; copy_after_third(alloc, &cursors, 1)?, at(1, 3));
+    assert_eq!(rt; cursors.held(1), at(1, 2));
+    take_third(alloc, &mut cursors, 1)?;
+    assert_eq!(rt; cursors.held(1), at(1, 3));
+    Ok(())
+}
+
+#[test]
+fn what_follows_is_written(rt: HostRuntime) -> Result<()> {
+    let alloc = rt.alloc();
+    let mut sender = replica(alloc)?;
+    absorb(alloc, &mut sender, b"a1", 3, &[])?;
+    assert!(rt; begins(alloc, &sender, at(1, 2), THIRD_MERGE)?);
+    assert_eq!(rt; len_from(alloc, &sender, at(1, 2))?, THIRD_MERGE.len());
+    Ok(())
+}
+
+fn receive(alloc: Global, receiver: &mut Stamped, text: &[u8]) -> Result<()> {
+    let delta = read_delta(alloc, text)?;
+    receiver.absorb(&Merge::State(delta.state))?;
+    Ok(())
+}
+
+fn receive_whole(alloc: Global, receiver: &mut Stamped, sender: &Stamped) -> Result<()> {
+    let text = write_delta(alloc, sender, None)?;
+    receive(alloc, receiver, &text)
+}
+
+// How many mementos of the root are listed.
+fn count_listed(alloc: Global, stamped: &Stamped) -> Result<usize> {
+    let root = root(alloc)?;
+    Ok(stamped.index().list(&root).len())
+}
+
+#[test]
+fn deltas_are_taken_in(rt: HostRuntime) -> Result<()> {
+    let alloc = rt.alloc();
+    let mut receiver = Stamped::new(alloc, 3);
+    receive_whole(alloc, &mut receiver, &replica(alloc)?)?;
+    assert_eq!(rt; count_listed(alloc, &receiver)?, 1);
+    receive(alloc, &mut receiver, THIRD_MERGE)?;
+    assert_eq!(rt; count_listed(alloc, &receiver)?, 0);
+    Ok(())
+}
+
+// Takes what a replica knows after three merges, and then what it knew after two.
+fn take_long_and_short(alloc: Global, cursors: &mut Cursors) -> Result<()> {
+    let short = replica(alloc)?;
+    let mut long = replica(alloc)?;
+    absorb(alloc, &mut long, b"a1", 3, &[])?;
+    take_whole(alloc, cursors, 7, &long)?;
+    take_whole(alloc, cursors, 7, &short)
+}
+
+#[test]
+fn cursors_go_forward(rt: HostRuntime) -> Result<()> {
+    let alloc = rt.alloc();
+    let mut cursors = Cursors::new(alloc);
+    take_long_and_short(alloc, &mut cursors)?;
+    assert_eq!(rt; cursors.held(7), at(1, 3));
+    // What another incarnation sends moves the cursor to it.
+    take_whole(alloc, &mut cursors, 7, &Stamped::new(alloc, 2))?;
+    assert!(rt; is_gap(alloc, &mut cursors, 7, at(2, 0))?);
+    Ok(())
+}
+
+fn is_no_delta(alloc: Global, text: &[u8]) -> bool {
+    matches!(read_delta(alloc, text), Err(StateFault::NotState))
+}
+
+#[test]
+fn other_texts_are_no_deltas(rt: HostRuntime) {
+    let alloc = rt.alloc();
+    for end in 0..THIRD_MERGE.len() {
+        assert!(rt; is_no_delta(alloc, &THIRD_MERGE[..end]), "cut at {end}");
+    }
+    let others: [&[u8]; 10] = [
+        b"memento-delta 1\nfrom 1 3 2\nentries 0\nend\n",
+        b"memento-delta 1\nfrom 1 18446744073709551616 18446744073709551616\nentries 0\nend\n",
+        b"memento-delta 1\nfrom 18446744073709551616 0 0\nentries 0\nend\n",
+        b"memento-delta 1\nfrom 1 0 1\nentries 2\nentry b1 1 0 http://a.example/\nentry a1 1 0 http://a.example/\nend\n",
+        b"memento-delta 1\nfrom 1 0 1\nentries 18446744073709551615\n",
+        b"memento-delta 1\nfrom 01 0 1\nentries 0\nend\n",
+        b"memento-delta 1\nfrom 1 0\nentries 0\nend\n",
+        b"memento-delta 1\nentries 0\nend\n",
+        b"memento-delta 1\nfrom 1 0 1\nentries 0\nend\n\n",
+        b"memento-state 1\nentries 0\nend\n",
+    ];
+    for text in others {
+        assert!(rt; is_no_delta(alloc, text));
+    }
+}

@@ -1,0 +1,429 @@
+//! Tests of `memento_index`.
+ghost use Rattle.std.specs.Prelude.{◌≡◌, ◌<◌};
+ghost use Rattle.std.specs.List.Sorted.{IsStrictlySortedBy};
+ghost use Rattle.memento_time.specs.Mementos.{memento_cmp};
+
+use crate::captures::{Capture, FIRST, ROOT, SECOND, THIRD, are, root};
+use crate::lattice::shows;
+use crate::makers::{harvest, merge};
+use crate::plain::Plain;
+use anyhow::{Context, Result};
+use harvest_lattice::{Harvest, State};
+use memento_index::{Index, Merge, Probed, nearest_in};
+use memento_time::{Memento, Original};
+use std::alloc::Global;
+use std::test::*;
+use text_trials::makers::{archive, memento, mementos, moment, original};
+
+fn absorb(index: &mut Index, merge: &Merge) -> Result<()> {
+    index.absorb(merge)?;
+    Ok(())
+}
+
+// Takes what an archive had of the root.
+fn take(
+    alloc: Global,
+    index: &mut Index,
+    name: &[u8],
+    revision: u64,
+    captures: &[Capture],
+) -> Result<()> {
+    let merge = merge(alloc, name, ROOT, revision, captures)?;
+    absorb(index, &merge)
+}
+
+fn take_all(alloc: Global, index: &mut Index, harvests: &[(&[u8], u64, &[Capture])]) -> Result<()> {
+    for (name, revision, captures) in harvests {
+        take(alloc, index, *name, *revision, *captures)?;
+    }
+    Ok(())
+}
+
+// An index of these harvests.
+fn indexed(alloc: Global, harvests: &[(&[u8], u64, &[Capture])]) -> Result<Index> {
+    let mut index = Index::new(alloc);
+    take_all(alloc, &mut index, harvests)?;
+    Ok(index)
+}
+
+// Whether the index lists these of the root.
+fn lists(alloc: Global, index: &Index, captures: &[Capture]) -> Result<bool> {
+    let root = root(alloc)?;
+    are(alloc, index.list(&root), captures)
+}
+
+fn is_found(alloc: Global, found: Option<&Memento>, wanted: Option<Capture>) -> Result<bool> {
+    match wanted {
+        Some((second, uri)) => Ok(found == Some(&memento(alloc, second, uri)?)),
+        None => Ok(found.is_none()),
+    }
+}
+
+// Whether this is the memento of the root that is nearest to a second.
+fn is_nearest(alloc: Global, index: &Index, second: u64, wanted: Option<Capture>) -> Result<bool> {
+    let root = root(alloc)?;
+    is_found(alloc, index.nearest(&root, moment(second)?), wanted)
+}
+
+fn is_latest(alloc: Global, index: &Index, wanted: Option<Capture>) -> Result<bool> {
+    let root = root(alloc)?;
+    is_found(alloc, index.latest(&root), wanted)
+}
+
+// The second in the middle of the first memento and the second.
+const MIDDLE: u64 = 946_771_200;
+
+// The last second of the year 9999.
+const LAST: u64 = 253_402_300_799;
+
+#[test]
+fn only_the_greatest_revision_counts(rt: HostRuntime) -> Result<()> {
+    let alloc = rt.alloc();
+    let mut index = indexed(alloc, &[(b"a1", 7, &[FIRST]), (b"a1", 3, &[SECOND])])?;
+    assert!(rt; lists(alloc, &index, &[FIRST])?);
+    assert!(rt; is_nearest(alloc, &index, MIDDLE, Some(FIRST))?);
+    take(alloc, &mut index, b"a1", 8, &[])?;
+    assert!(rt; lists(alloc, &index, &[])?);
+    assert!(rt; is_nearest(alloc, &index, MIDDLE, None)?);
+    assert!(rt; is_latest(alloc, &index, None)?);
+    Ok(())
+}
+
+#[test]
+fn harvests_of_one_revision_are_united(rt: HostRuntime) -> Result<()> {
+    let alloc = rt.alloc();
+    let one = indexed(alloc, &[(b"a1", 1, &[FIRST]), (b"a1", 1, &[THIRD, SECOND])])?;
+    assert!(rt; lists(alloc, &one, &[FIRST, SECOND, THIRD])?);
+    let other = indexed(alloc, &[(b"a1", 1, &[THIRD, SECOND]), (b"a1", 1, &[FIRST])])?;
+    assert!(rt; lists(alloc, &other, &[FIRST, SECOND, THIRD])?);
+    Ok(())
+}
+
+fn copy_shows(alloc: Global, state: &State, captures: &[Capture]) -> Result<bool> {
+    let copy = state.try_clone()?;
+    shows(alloc, &copy, captures)
+}
+
+#[test]
+fn another_archive_still_shows_it(rt: HostRuntime) -> Result<()> {
+    let alloc = rt.alloc();
+    let mut index = indexed(
+        alloc,
+        &[(b"a1", 1, &[FIRST]), (b"b1", 1, &[FIRST]), (b"a1", 2, &[])],
+    )?;
+    assert!(rt; lists(alloc, &index, &[FIRST])?);
+    assert!(rt; copy_shows(alloc, index.state(), &[FIRST])?);
+    take(alloc, &mut index, b"b1", 2, &[])?;
+    assert!(rt; lists(alloc, &index, &[])?);
+    Ok(())
+}
+
+#[test]
+fn archives_are_listed_as_one(rt: HostRuntime) -> Result<()> {
+    let alloc = rt.alloc();
+    let index = indexed(
+        alloc,
+        &[(b"b1", 1, &[FIRST, SECOND]), (b"a1", 1, &[FIRST, THIRD])],
+    )?;
+    assert!(rt; lists(alloc, &index, &[FIRST, SECOND, THIRD])?);
+    Ok(())
+}
+
+#[test]
+fn a_list_of_one_archive_changes_with_the_next(rt: HostRuntime) -> Result<()> {
+    let alloc = rt.alloc();
+    let mut index = indexed(
+        alloc,
+        &[(b"a1", 1, &[FIRST, SECOND]), (b"b1", 1, &[SECOND, THIRD])],
+    )?;
+    assert!(rt; lists(alloc, &index, &[FIRST, SECOND, THIRD])?);
+    take(alloc, &mut index, b"a1", 2, &[])?;
+    assert!(rt; lists(alloc, &index, &[SECOND, THIRD])?);
+    assert!(rt; copy_shows(alloc, index.state(), &[SECOND, THIRD])?);
+    Ok(())
+}
+
+#[test]
+fn nearest_and_latest(rt: HostRuntime) -> Result<()> {
+    let alloc = rt.alloc();
+    let index = indexed(alloc, &[(b"a1", 1, &[FIRST, SECOND, THIRD])])?;
+    for (second, wanted) in [(0, FIRST), (MIDDLE, FIRST), (LAST, SECOND)] {
+        assert!(rt;
+            is_nearest(alloc, &index, second, Some(wanted))?,
+            "at {second}"
+        );
+    }
+    assert!(rt; is_latest(alloc, &index, Some(SECOND))?);
+    Ok(())
+}
+
+#[test]
+fn the_ends_of_revisions_and_seconds(rt: HostRuntime) -> Result<()> {
+    let alloc = rt.alloc();
+    let ends: [Capture; 2] = [(0, FIRST.1), (LAST, SECOND.1)];
+    let index = indexed(
+        alloc,
+        &[(b"a1", u64::MAX, &ends), (b"a1", u64::MAX - 1, &[FIRST])],
+    )?;
+    assert!(rt; lists(alloc, &index, &ends)?);
+    assert!(rt; is_nearest(alloc, &index, 126_701_150_399, Some(ends[0]))?);
+    Ok(())
+}
+
+// An index of a copy of a merge.
+fn indexed_copy(alloc: Global, merge: &Merge) -> Result<Index> {
+    let copy = merge.try_clone()?;
+    let mut index = Index::new(alloc);
+    absorb(&mut index, &copy)?;
+    Ok(index)
+}
+
+fn state_of_two(alloc: Global, one: &Harvest, other: &Harvest) -> Result<State> {
+    let mut state = State::new(alloc);
+    state.merge(one)?;
+    state.merge(other)?;
+    Ok(state)
+}
+
+fn merge_of_two_archives(alloc: Global) -> Result<Merge> {
+    let second = harvest(alloc, b"b1", ROOT, 1, mementos(alloc, &[SECOND])?)?;
+    let first = harvest(alloc, b"a1", ROOT, 1, mementos(alloc, &[FIRST])?)?;
+    Ok(Merge::State(state_of_two(alloc, &second, &first)?))
+}
+
+#[test]
+fn merges_are_copied(rt: HostRuntime) -> Result<()> {
+    let alloc = rt.alloc();
+    let of_harvest = indexed_copy(alloc, &merge(alloc, b"a1", ROOT, 7, &[FIRST])?)?;
+    assert!(rt; lists(alloc, &of_harvest, &[FIRST])?);
+    let of_state = indexed_copy(alloc, &merge_of_two_archives(alloc)?)?;
+    assert!(rt; lists(alloc, &of_state, &[FIRST, SECOND])?);
+    assert!(rt; of_state.state().len() == 2);
+    Ok(())
+}
+
+// Whether the state has an entry of the root of this archive.
+fn knows(alloc: Global, state: &State, name: &[u8]) -> Result<bool> {
+    let archive = archive(name)?;
+    let root = root(alloc)?;
+    Ok(state.entry(archive, &root).is_some())
+}
+
+// Takes what another archive had of the root, and tells whether memory for the merge was given.
+fn is_taken(alloc: Global, index: &mut Index) -> Result<bool> {
+    let merge = merge(alloc, b"b1", ROOT, 2, &[SECOND])?;
+    Ok(index.absorb(&merge).is_ok())
+}
+
+// To be run with each allocation of the merge refused in turn.
+#[test]
+fn a_refused_merge_changes_nothing(rt: HostRuntime) -> Result<()> {
+    let alloc = rt.alloc();
+    let mut index = indexed(alloc, &[(b"a1", 1, &[FIRST])])?;
+    if is_taken(alloc, &mut index)? {
+        assert!(rt; lists(alloc, &index, &[FIRST, SECOND])?);
+        assert!(rt; index.state().len() == 2);
+    } else {
+        assert!(rt; lists(alloc, &index, &[FIRST])?);
+        assert!(rt; index.state().len() == 1);
+        assert!(rt; !knows(alloc, index.state(), b"b1")?);
+    }
+    Ok(())
+}
+
+// The list of an original, of which nothing was seen yet.
+fn unseen<'a>(index: &'a Index, original: &Original) -> Probed<'a>
+    ensures in_order { IsStrictlySortedBy memento_cmp result.list }
+    ensures unseen { result.probes ≡ 0 }
+{
+    Probed::new(index.list(original))
+}
+
+// The place in the list of the root that is nearest to a second, and how many datetimes were asked for.
+fn probe(alloc: Global, index: &Index, second: u64) -> Result<(Option<usize>, u64)> {
+    let asked = moment(second)?;
+    let root = root(alloc)?;
+    let mut probed = unseen(index, &root);
+    let place = nearest_in(&mut probed, asked);
+    Ok((place, probed.probes()))
+}
+
+#[test]
+fn nearest_in_asks_few_datetimes(rt: HostRuntime) -> Result<()> {
+    let alloc = rt.alloc();
+    let (place, probes) = probe(alloc, &Index::new(alloc), MIDDLE)?;
+    assert!(rt; place.is_none() && probes <= 2);
+    let index = indexed(alloc, &[(b"a1", 1, &[FIRST, SECOND, THIRD])])?;
+    for (second, named) in [(SECOND.0, 1), (MIDDLE, 0)] {
+        let (place, probes) = probe(alloc, &index, second)?;
+        assert!(rt; place == Some(named) && probes <= 6, "at {second}");
+    }
+    Ok(())
+}
+
+// How many datetimes were asked for once a list of two was asked for its first memento, and then for its second.
+fn probes_of_two(alloc: Global, list: &Index) -> Result<Option<(u64, u64)>> {
+    let first = moment(FIRST.0)?;
+    let second = moment(SECOND.0)?;
+    let root = root(alloc)?;
+    let mut probed = unseen(list, &root);
+    let found = nearest_in(&mut probed, first);
+    let probes = probed.probes();
+    if found != Some(0) || probes > 6 {
+        return Ok(None);
+    }
+    let found = nearest_in(&mut probed, second);
+    if found != Some(1) || probed.len() != 2 {
+        return Ok(None);
+    }
+    Ok(Some((probes, probed.probes())))
+}
+
+#[test]
+fn probes_are_added_up(rt: HostRuntime) -> Result<()> {
+    let alloc = rt.alloc();
+    let index = indexed(alloc, &[(b"a1", 1, &[FIRST, SECOND])])?;
+    let (first, both) = probes_of_two(alloc, &index)?.context("the wrong place")?;
+    assert!(rt; 0 < first && first < both && both <= 12);
+    Ok(())
+}
+
+// So many mementos, at the even seconds from the start of 1970 on.
+fn at_even_seconds(alloc: Global, count: u64) -> Result<Index> {
+    let mut list = Vec::new(alloc);
+    for place in 0..count {
+        list.push(memento(alloc, place.saturating_mul(2), FIRST.1)?)?;
+    }
+    let merge = Merge::Harvest(harvest(alloc, b"a1", ROOT, 1, list)?);
+    let mut index = Index::new(alloc);
+    absorb(&mut index, &merge)?;
+    Ok(index)
+}
+
+// An odd second lies in the middle of two mementos, of which the earlier counts.
+#[test]
+fn nearest_in_asks_few_datetimes_of_a_long_list(rt: HostRuntime) -> Result<()> {
+    let alloc = rt.alloc();
+    let index = at_even_seconds(alloc, 1_000)?;
+    for second in 0..2_000 {
+        let (place, probes) = probe(alloc, &index, second)?;
+        assert!(rt;
+            place == Some(second as usize / 2) && probes <= 22,
+            "at {second}"
+        );
+    }
+    Ok(())
+}
+
+// Numbers that are the same in each run.
+#[derive(Drop)]
+struct Generator {
+    seed: u64,
+}
+
+impl Generator {
+    // One below a bound.
+    fn below(&mut self, bound: u64) -> u64
+        requires { 0 < bound }
+        ensures { result < bound }
+    {
+        self.seed = self
+            .seed
+            .wrapping_mul(6_364_136_223_846_793_005)
+            .wrapping_add(1_442_695_040_888_963_407);
+        (self.seed >> 33) % bound
+    }
+}
+
+const ARCHIVES: [&[u8]; 3] = [b"a1", b"b1", b"c1"];
+
+const ORIGINALS: [&[u8]; 2] = [ROOT, b"http://b.example/"];
+
+fn some_mementos(alloc: Global, generator: &mut Generator) -> Result<Vec<Memento>> {
+    let mut list = Vec::new(alloc);
+    for (second, uri) in [FIRST, SECOND, THIRD, (946_900_000, FIRST.1)] {
+        if generator.below(2) == 0 {
+            list.push(memento(alloc, second, uri)?)?;
+        }
+    }
+    Ok(list)
+}
+
+// What one of three archives had of one of two originals at a revision from 0 to 9: some of four mementos.
+fn some_harvest(alloc: Global, generator: &mut Generator) -> Result<Harvest> {
+    let name = ARCHIVES[generator.below(3) as usize];
+    let original = ORIGINALS[generator.below(2) as usize];
+    let revision = generator.below(10);
+    let list = some_mementos(alloc, generator)?;
+    harvest(alloc, name, original, revision, list)
+}
+
+// A harvest, or a state of two.
+fn some_merge(alloc: Global, generator: &mut Generator) -> Result<Merge> {
+    let one = some_harvest(alloc, generator)?;
+    if generator.below(3) > 0 {
+        return Ok(Merge::Harvest(one));
+    }
+    let other = some_harvest(alloc, generator)?;
+    Ok(Merge::State(state_of_two(alloc, &one, &other)?))
+}
+
+fn absorb_in_both(index: &mut Index, plain: &mut Plain, merge: &Merge) -> Result<()> {
+    index.absorb(merge)?;
+    plain.absorb(merge)?;
+    Ok(())
+}
+
+fn list_the_same(alloc: Global, index: &Index, plain: &Plain) -> Result<bool> {
+    for name in ORIGINALS {
+        let original = original(alloc, name)?;
+        if index.list(&original) != plain.list(&original)?.as_slice() {
+            return Ok(false);
+        }
+    }
+    Ok(true)
+}
+
+// Whether both list the same of each original after each of so many merges.
+fn list_the_same_after_merges(
+    alloc: Global,
+    generator: &mut Generator,
+    index: &mut Index,
+    plain: &mut Plain,
+    merges: u64,
+) -> Result<bool> {
+    let mut same = true;
+    for _ in 0..merges {
+        let merge = some_merge(alloc, generator)?;
+        absorb_in_both(index, plain, &merge)?;
+        same = same && list_the_same(alloc, index, plain)?;
+    }
+    Ok(same)
+}
+
+// Whether a new index and a new plain one become the same by so many merges.
+fn become_the_same(alloc: Global, generator: &mut Generator, merges: u64) -> Result<bool> {
+    let mut index = Index::new(alloc);
+    let mut plain = Plain::new(alloc);
+    Ok(
+        list_the_same_after_merges(alloc, generator, &mut index, &mut plain, merges)?
+            && index.state().le(plain.state())
+            && plain.state().le(index.state()),
+    )
+}
+
+// One index takes a thousand merges. Forty new ones take 25 each, since at the greatest revision little changes.
+#[test]
+fn a_thousand_merges_make_the_lists_of_the_plain_index(rt: HostRuntime) -> Result<()> {
+    let alloc = rt.alloc();
+    let mut generator = Generator { seed: 7 };
+    for (indexes, merges) in [(1, 1_000), (40, 25)] {
+        for _ in 0..indexes {
+            assert!(rt;
+                become_the_same(alloc, &mut generator, merges)?,
+                "after {merges} merges"
+            );
+        }
+    }
+    Ok(())
+}
