@@ -3,12 +3,11 @@ use Rattle.std.specs.Prelude.{ℕ, List, ◌++◌, codes}
 use Rattle.std.specs.Fmt.{decimal}
 use Rattle.replica_world.specs.declared.replaying.fault.ReplayFault.{ReplayFault}
 use Rattle.replica_world.specs.declared.replaying.fault.ReplayFault.TheVariants as fault
-use Rattle.aggregator.specs.declared.settings.fault.Key.{Key}
-use Rattle.aggregator.specs.declared.settings.fault.Key.TheVariants as key
-use Rattle.aggregator.specs.declared.settings.fault.SettingsFault.{SettingsFault}
-use Rattle.aggregator.specs.declared.settings.fault.SettingsFault.TheVariants as settings
-use Rattle.aggregator.specs.declared.serve.ServeFault.{ServeFault}
-use Rattle.aggregator.specs.declared.serve.ServeFault.TheVariants as serve
+use Rattle.aggregator_service.specs.Keys.{name_of}
+use Rattle.aggregator_service.specs.declared.settings.fault.SettingsFault.{SettingsFault}
+use Rattle.aggregator_service.specs.declared.settings.fault.SettingsFault.TheVariants as settings
+use Rattle.aggregator_service.specs.declared.serving.ServeFault.{ServeFault}
+use Rattle.aggregator_service.specs.declared.serving.ServeFault.TheVariants as serve
 use Rattle.aggregator.specs.declared.failure.Failure.{Failure}
 use Rattle.aggregator.specs.declared.failure.Failure.TheVariants.{Usage, BadLine, BadText, BadKey, NoGate, Device}
 use Rattle.aggregator.specs.declared.failure.Failure.TheVariants.{NoMemory}
@@ -31,18 +30,6 @@ abbrev pub failure_of_serving : ServeFault → Failure
 failure_of_serving serve.NoGate = NoGate
 failure_of_serving serve.Device = Device
 failure_of_serving serve.NoMemory = NoMemory
-
--- a key of the settings as it is written
-abbrev pub name_of : Key → List ℕ
-name_of key.Base = codes "base"
-name_of key.Gates = codes "gates"
-name_of key.Connections = codes "connections"
-name_of key.Rounds = codes "rounds"
-name_of key.Pause = codes "pause"
-name_of key.Workers = codes "workers"
-name_of key.Originals = codes "originals"
-name_of key.Peers = codes "peers"
-name_of key.Archives = codes "archives"
 
 -- the line on standard error
 abbrev pub message_of : Failure → List ℕ

@@ -1,4 +1,2 @@
 pub mod Ending
-pub mod Lines
-pub mod Pulls
 pub mod Words

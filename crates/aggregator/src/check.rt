@@ -1,6 +1,6 @@
 //! `check FILE`: reads settings, and says what they hold.
 use crate::failure::Failure;
-use crate::settings::{MAX_TEXT, Settings, SettingsFault, read_settings};
+use aggregator_service::{MAX_TEXT, Settings, read_settings};
 use std::alloc::Global;
 use std::io::{self, Read, Write};
 use std::rt::Files;

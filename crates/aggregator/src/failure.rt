@@ -3,8 +3,7 @@ ghost use Rattle.std.specs.Prelude.{◌≡◌, Some};
 ghost use Rattle.std.specs.Process.{exit_status};
 ghost use Rattle.aggregator.specs.Ending.{failure_of, failure_of_serving, failure_of_settings, message_of, status_of};
 
-use crate::serve::ServeFault;
-use crate::settings::{Key, SettingsFault};
+use aggregator_service::{Key, ServeFault, SettingsFault};
 use replica_world::ReplayFault;
 use std::process::ExitCode;
 use std::{fmt, io};

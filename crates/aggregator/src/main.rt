@@ -4,13 +4,8 @@
 #![tactic(auto)]
 
 mod check;
-mod clocks;
 mod failure;
-mod gates;
-mod rounds;
-mod runtimes;
 mod serve;
-mod settings;
 mod words;
 
 use crate::check::check;
@@ -37,24 +32,19 @@ fn command_of(rt: &(impl Env + AllocGlobal)) -> Result<Command, Failure> {
     command_named(word.as_str(), file)
 }
 
-// Does what needs no thread.
-fn run(rt: &HostRuntime, command: &Command) -> Result<(), Failure> {
-    match command {
-        Command::Replay => {
-            let mut input = Watched::new(rt.stdin());
-            let mut output = Watched::new(rt.stdout());
-            replay(rt.alloc(), &mut input, &mut output)?;
-            Ok(())
-        }
-        Command::Check(file) => check(rt, file.as_str(), &mut rt.stdout()),
-        Command::Serve(_) => Err(Failure::Usage),
-    }
+// Replays the script on standard input.
+fn replay_input(rt: &HostRuntime) -> Result<(), Failure> {
+    let mut input = Watched::new(rt.stdin());
+    let mut output = Watched::new(rt.stdout());
+    replay(rt.alloc(), &mut input, &mut output)?;
+    Ok(())
 }
 
 fn main(rt: HostRuntime) -> ExitCode {
     let ended = match command_of(&rt) {
+        Ok(Command::Replay) => replay_input(&rt),
+        Ok(Command::Check(file)) => check(&rt, file.as_str(), &mut rt.stdout()),
         Ok(Command::Serve(file)) => serve_file(&rt, file.as_str(), rt.stdout()),
-        Ok(command) => run(&rt, &command),
         Err(failure) => Err(failure),
     };
     match ended {

@@ -1,82 +1,18 @@
-//! `serve FILE`: gates in threads of their own, and rounds in this one.
-#[cfg(test)]
-mod tests;
-
-ghost use Rattle.std.specs.Prelude.{OnOk};
-ghost use Rattle.std.specs.Io.KnownBytes.{Appends};
-ghost use Rattle.aggregator.specs.Lines.{round_line};
-
+//! `serve FILE`: reads settings, and serves by them.
 use crate::check::settings_in;
-use crate::clocks::incarnation_now;
 use crate::failure::Failure;
-use crate::gates::{Doors, open_doors};
-use crate::rounds::{Round, sleep_between};
-use crate::runtimes::SocketRuntime;
-use crate::settings::Settings;
-use hyper_edge::EdgeFault;
-use published_index::{Gate, Merger, OpenFault, open};
-use std::alloc::{AllocError, AllocFailed, AllocGlobal};
-use std::io::{self, Write};
-use std::net::{Net, SocketAddr, TcpListener, TcpStream};
+use aggregator_service::serve_settings;
+use std::alloc::AllocGlobal;
+use std::io::Write;
+use std::net::{Net, TcpListener, TcpStream};
 use std::random::RandomSource;
 use std::rt::Files;
 use std::sync::Wait;
 use std::thread::Threads;
 use std::time::Clock;
 
-/// Why serving ended before its last round and connection, or why it never began.
-#[derive(Clone, Copy, Debug, PartialEq, Eq)]
-pub(crate) enum ServeFault {
-    /// A gate can't be bound, opened, or given a thread.
-    NoGate,
-    /// Writing what is said, or accepting a connection, failed.
-    Device,
-    /// The allocator refused a growth.
-    NoMemory,
-}
-
-// A write that failed, for whatever reason.
-impl From<io::Error> for ServeFault {
-    fn from(_failed: io::Error) -> ServeFault {
-        ServeFault::Device
-    }
-}
-
-impl From<AllocError> for ServeFault {
-    fn from(_refused: AllocError) -> ServeFault {
-        ServeFault::NoMemory
-    }
-}
-
-impl<T: Drop> From<AllocFailed<T>> for ServeFault {
-    fn from(_refused: AllocFailed<T>) -> ServeFault {
-        ServeFault::NoMemory
-    }
-}
-
-impl From<EdgeFault> for ServeFault {
-    fn from(fault: EdgeFault) -> ServeFault {
-        match fault {
-            EdgeFault::Bind => ServeFault::NoGate,
-            EdgeFault::Accept => ServeFault::Device,
-            EdgeFault::NoMemory => ServeFault::NoMemory,
-        }
-    }
-}
-
-impl From<OpenFault> for ServeFault {
-    fn from(fault: OpenFault) -> ServeFault {
-        match fault {
-            OpenFault::NoMemory => ServeFault::NoMemory,
-            OpenFault::NoPlace => ServeFault::NoGate,
-        }
-    }
-}
-
-/// Serves by the settings of a file.
-///
-/// Its bounds are written out, since `main` calls it: what `main` calls by a bound on `SocketRuntime` isn't covered by
-/// the borrow checker.
+/// Serves by the settings of a file until the last round and the last connection, and writes what it does, line by
+/// line.
 pub(crate) fn serve_file<R, W>(rt: &R, file: &str, out: W) -> Result<(), Failure>
 where
     R: Threads
@@ -95,96 +31,5 @@ where
 {
     let settings = settings_in(rt, file)?;
     serve_settings(rt, &settings, out)?;
-    Ok(())
-}
-
-/// Serves by these settings until the last round and the last connection, and writes what it does, line by line.
-///
-/// `NoMemory` only before the first round, or where a gate that has ended ran out of it. After a failed write no
-/// further round is made, and Device is answered once the gates have ended.
-pub(crate) fn serve_settings<R, W>(
-    rt: &R,
-    settings: &Settings,
-    mut out: W,
-) -> Result<(), ServeFault>
-where
-    R: SocketRuntime + Threads + Sync + Send + Clone + Drop + 'static,
-    W: Write + Drop,
-{
-    let service = match settings.base.try_clone() {
-        Ok(service) => service,
-        Err(_) => return Err(ServeFault::NoMemory),
-    };
-    let incarnation = incarnation_now(rt);
-    let (mut merger, gates) = open(rt, rt.alloc(), service, settings.gates.len(), incarnation)?;
-    let served = serve_gates(rt, settings, gates, &mut merger, &mut out);
-    merger.close(rt);
-    served?;
-    writeln!(out, "done")?;
-    out.flush()?;
-    Ok(())
-}
-
-// Opens the gates' doors, makes the rounds, and waits for the gates to end.
-fn serve_gates<R, W>(
-    rt: &R,
-    settings: &Settings,
-    gates: Vec<Gate>,
-    merger: &mut Merger,
-    out: &mut W,
-) -> Result<(), ServeFault>
-where
-    R: SocketRuntime + Threads + Sync + Send + Clone + Drop + 'static,
-    W: Write,
-{
-    let doors = open_doors(rt, settings, gates)?;
-    let said = say_ports(&doors, settings, out);
-    let made = match said {
-        Ok(()) => make_rounds(rt, settings, merger, out),
-        Err(fault) => Err(fault),
-    };
-    let ended = doors.wait(rt);
-    made?;
-    ended
-}
-
-// A line for each gate, in the order of the settings.
-fn say_ports<W: Write>(doors: &Doors, settings: &Settings, out: &mut W) -> Result<(), ServeFault> {
-    for (address, port) in settings.gates.iter().zip(doors.ports()) {
-        if let Ok(mut address) = address.parse::<SocketAddr>() {
-            address.set_port(*port);
-            writeln!(out, "gate {address}")?;
-        }
-    }
-    out.flush()?;
-    Ok(())
-}
-
-// The rounds, each with a line of its own.
-fn make_rounds<R, W>(
-    rt: &R,
-    settings: &Settings,
-    merger: &mut Merger,
-    out: &mut W,
-) -> Result<(), ServeFault>
-where
-    R: SocketRuntime + Threads + Sync,
-    W: Write,
-{
-    for number in 1..=settings.rounds {
-        if number > 1 {
-            sleep_between(rt, settings);
-        }
-        let round = Round::make(rt, settings, merger);
-        say_round(number, round, out)?;
-    }
-    Ok(())
-}
-
-fn say_round<W: Write>(number: u64, round: Round, out: &mut W) -> Result<(), ServeFault>
-    ensures { OnOk result (Appends (W.contents out.old) (W.contents out.new) (round_line number round)) }
-{
-    writeln!(out, "round {number} {round}")?;
-    out.flush()?;
     Ok(())
 }

@@ -9,23 +9,19 @@ mod binding;
 mod exchanges;
 mod faults;
 mod fetching;
-#[cfg(test)]
-mod pull_tests;
 mod pulls;
 mod requests;
 mod responses;
 mod services;
 mod serving;
 mod targets;
-#[cfg(test)]
-mod tests;
 mod timers;
 
 pub use answers::Answers;
 pub use binding::{Bound, bind};
 pub use faults::{EdgeFault, FormFault, PullFault, RespondFault};
 pub use fetching::HyperFetch;
-pub use pulls::pull_delta;
+pub use pulls::pull_state;
 pub use requests::request_of;
 pub use responses::form;
 pub use services::GateService;

@@ -18,7 +18,7 @@ const MAX_DELTA: usize = 268_435_456;
 
 /// The delta of a peer from a cursor, or from none: what it answers for `/delta/I/N` or `/delta` under its base, which
 /// is kept without the last `/`. Where it starts is the peer's word: whoever takes it looks whether it fits.
-pub fn pull_delta<R>(rt: &R, peer: &Clean, cursor: Option<Cursor>) -> Result<Delta, PullFault>
+pub fn pull_state<R>(rt: &R, peer: &Clean, cursor: Option<Cursor>) -> Result<Delta, PullFault>
 where
     R: Wait + Clock + Net<Listener = TcpListener, Stream = TcpStream> + RandomSource + AllocGlobal,
     ensures delta { IfOk result IsDelta }

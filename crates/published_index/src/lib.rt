@@ -15,8 +15,6 @@ mod openings;
 mod pairs;
 mod receipts;
 mod rules;
-#[cfg(test)]
-mod tests;
 mod views;
 mod writing;
 

@@ -1,0 +1,16 @@
+-- The keys of settings.
+use Rattle.std.specs.Prelude.{ℕ, List, codes}
+use Rattle.aggregator_service.specs.declared.settings.fault.Key.{Key}
+use Rattle.aggregator_service.specs.declared.settings.fault.Key.TheVariants as key
+
+-- a key of the settings as it is written
+abbrev pub name_of : Key → List ℕ
+name_of key.Base = codes "base"
+name_of key.Gates = codes "gates"
+name_of key.Connections = codes "connections"
+name_of key.Rounds = codes "rounds"
+name_of key.Pause = codes "pause"
+name_of key.Workers = codes "workers"
+name_of key.Originals = codes "originals"
+name_of key.Peers = codes "peers"
+name_of key.Archives = codes "archives"

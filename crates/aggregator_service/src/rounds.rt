@@ -1,0 +1,182 @@
+//! One round: each archive is walked for each original, each peer is pulled, and what came is published.
+ghost use Rattle.std.specs.Prelude.{◌≡◌, ◌≤◌, ◌⊎◌, ◌++◌, All, IfSome, Some};
+ghost use Rattle.harvester.specs.Answers.{HasFirstUrl};
+ghost use Rattle.aggregator_service.specs.Lines.{round_words};
+ghost use Rattle.aggregator_service.specs.Pulls.{Pulls, PullsNothing};
+
+use crate::clocks::revision_now;
+use crate::runtimes::SocketRuntime;
+use crate::settings::Settings;
+use harvester::{Job, Outcome, have_first_urls, run_round};
+use hyper_edge::{HyperFetch, pull_state};
+use memento_index::Merge;
+use memento_time::{ArchiveName, Clean, Original};
+use published_index::Merger;
+use std::alloc::Global;
+use std::fmt;
+use std::thread::{self, Threads};
+use std::time::{Clock, Duration};
+
+/// How many jobs of a batch each worker gets: the records of a batch's walks stand in memory together.
+const JOBS_EACH: usize = 8;
+
+/// What a round came to.
+#[derive(Clone, Copy, Debug, PartialEq, Eq)]
+pub(crate) struct Round {
+    jobs: u64,
+    /// Harvests that were appended.
+    harvests: u64,
+    /// Deltas of peers that were appended.
+    pulls: u64,
+    /// Whether what was appended is published; else it stays pending.
+    published: bool,
+}
+
+impl fmt::Display for Round {
+    ghost output = { λ round. Some (round_words round) };
+
+    fn fmt<W: fmt::Write>(&self, f: &mut fmt::Formatter<W>) -> fmt::Result {
+        let end = if self.published { "published" } else { "kept" };
+        write!(
+            f,
+            "jobs {} harvests {} pulls {} {end}",
+            self.jobs, self.harvests, self.pulls
+        )
+    }
+}
+
+impl Round {
+    /// Makes a round. What is refused for memory isn't appended and isn't counted.
+    pub(crate) fn make<R>(rt: &R, settings: &Settings, merger: &mut Merger) -> Round
+    where
+        R: SocketRuntime + Threads + Sync,
+    {
+        let mut round = Round {
+            jobs: 0,
+            harvests: 0,
+            pulls: 0,
+            published: false,
+        };
+        let revision = revision_now(rt);
+        for (archive, timemap) in &settings.archives {
+            round.harvest(rt, settings, merger, *archive, timemap, revision);
+        }
+        for (number, peer) in (1..).zip(&settings.peers) {
+            round.pull(rt, merger, number, peer);
+        }
+        round.published = merger.publish(rt).is_ok();
+        round
+    }
+
+    // Walks an archive for each original, a batch at a time.
+    fn harvest<R>(
+        &mut self,
+        rt: &R,
+        settings: &Settings,
+        merger: &mut Merger,
+        archive: ArchiveName,
+        timemap: &Clean,
+        revision: u64,
+    )
+    where
+        R: SocketRuntime + Threads + Sync,
+    {
+        for originals in settings.originals.chunks(settings.workers * JOBS_EACH) {
+            self.jobs = self.jobs.saturating_add(originals.len() as u64);
+            let jobs = jobs_of(rt.alloc(), archive, timemap, revision, originals);
+            if have_first_urls(&jobs) {
+                self.append_harvests(rt, merger, &jobs, settings.workers);
+            }
+        }
+    }
+
+    // Walks the jobs, and appends their harvests.
+    fn append_harvests<R>(&mut self, rt: &R, merger: &mut Merger, jobs: &[Job], workers: usize)
+    where
+        R: SocketRuntime + Threads + Sync,
+        requires workers { 1 ≤ workers × workers ≤ 64 }
+        requires first_urls { All HasFirstUrl jobs.now }
+    {
+        let Ok(outcomes) = run_round(rt, &HyperFetch, jobs, workers) else {
+            return;
+        };
+        for outcome in outcomes {
+            let Outcome {
+                number: _,
+                job: _,
+                fetched: _,
+                result,
+            } = outcome;
+            let Ok(harvest) = result else {
+                continue;
+            };
+            if merger.append(&Merge::Harvest(harvest)).is_ok() {
+                self.harvests = self.harvests.saturating_add(1);
+            }
+        }
+    }
+
+    // Appends what the peer of this number has learnt since it was pulled last, where it answers with a delta that
+    // follows on the held cursor. Else the cursor stays, and the next round asks from it again.
+    fn pull<R>(&mut self, rt: &R, merger: &mut Merger, number: u64, peer: &Clean)
+    where
+        R: SocketRuntime,
+        ensures { Pulls number self.old merger.old self.new merger.new
+            ⊎ PullsNothing self.old merger.old self.new merger.new }
+    {
+        let Ok(delta) = pull_state(rt, peer, merger.cursor(number)) else {
+            return;
+        };
+        if merger.append_delta(number, &delta).is_ok() {
+            self.pulls = self.pulls.saturating_add(1);
+        }
+    }
+}
+
+// The jobs of an archive for these originals, but for those that memory is refused for.
+fn jobs_of(
+    alloc: Global,
+    archive: ArchiveName,
+    timemap: &Clean,
+    revision: u64,
+    originals: &[Original],
+) -> Vec<Job> {
+    let mut jobs = Vec::new(alloc);
+    for original in originals {
+        if let Some(job) = job_of(alloc, archive, timemap, revision, original) {
+            let _ = jobs.push(job);
+        }
+    }
+    jobs
+}
+
+// The job of an archive for an original: its first URL is the archive's `timemap` with the original behind it. None
+// where memory is refused, or the URL is too long.
+fn job_of(
+    alloc: Global,
+    archive: ArchiveName,
+    timemap: &Clean,
+    revision: u64,
+    original: &Original,
+) -> Option<Job>
+    ensures archive { IfSome result (λ job. job.archive ≡ archive) }
+    ensures original { IfSome result (λ job. job.original ≡ original.now) }
+    ensures revision { IfSome result (λ job. job.revision ≡ revision) }
+    ensures first { IfSome result (λ job. job.first ≡ timemap.now ++ original.now) }
+{
+    let mut first = timemap.as_bytes().to_vec(alloc).ok()?;
+    first.extend_from_slice(original.as_bytes()).ok()?;
+    let first = Clean::new(alloc, &first).ok()?;
+    let original = original.try_clone().ok()?;
+    Some(Job {
+        archive,
+        original,
+        revision,
+        first,
+    })
+}
+
+/// Waits as long as the settings say between two rounds.
+pub(crate) fn sleep_between(rt: &impl Clock, settings: &Settings) {
+    let _ = thread::sleep(rt, Duration::from_secs(settings.pause));
+}

@@ -1,0 +1,62 @@
+//! Why a text gives no settings.
+ghost use Rattle.std.specs.Prelude.{◌≡◌};
+ghost use Rattle.aggregator_service.specs.Keys.{name_of};
+
+use memento_time::NoMemory;
+use std::alloc::AllocError;
+
+/// The keys of settings, in the order in which they are looked for.
+#[derive(Clone, Copy, Debug, PartialEq, Eq)]
+pub enum Key {
+    Base,
+    Gates,
+    Connections,
+    Rounds,
+    Pause,
+    Workers,
+    Originals,
+    Peers,
+    Archives,
+}
+
+impl Key {
+    /// The key as it is written.
+    pub fn name(self) -> &'static str
+        ensures { result.now ≡ name_of self }
+    {
+        match self {
+            Key::Base => "base",
+            Key::Gates => "gates",
+            Key::Connections => "connections",
+            Key::Rounds => "rounds",
+            Key::Pause => "pause",
+            Key::Workers => "workers",
+            Key::Originals => "originals",
+            Key::Peers => "peers",
+            Key::Archives => "archives",
+        }
+    }
+}
+
+/// Why a text gives no settings.
+#[derive(Clone, Copy, Debug, PartialEq, Eq)]
+pub enum SettingsFault {
+    /// It is no TOML, or too long.
+    Text,
+    /// The key is missing, or holds what it may not.
+    Key(Key),
+    /// The allocator refused a growth.
+    NoMemory,
+}
+
+impl From<AllocError> for SettingsFault {
+    fn from(_refused: AllocError) -> SettingsFault {
+        SettingsFault::NoMemory
+    }
+}
+
+impl From<NoMemory> for SettingsFault {
+    fn from(_refused: NoMemory) -> SettingsFault {
+        SettingsFault::NoMemory
+    }
+}

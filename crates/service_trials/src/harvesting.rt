@@ -1,0 +1,464 @@
+//! Walks over archives in memory: which pages are fetched and in which order, where a walk ends, and that the workers of
+//! a round run at once.
+use crate::makers::{archive, clean, octets, original};
+use anyhow::{Result, bail};
+use harvest_lattice::Harvest;
+use harvester::{
+    Answer, Fetch, FetchFault, Job, MAX_PAGES, MAX_WORKERS, MemoryFetch, Outcome, WalkFault,
+    have_first_urls, run_round, walk,
+};
+use memento_time::{Clean, Items, Octets};
+use std::alloc::{AllocGlobal, Global};
+use std::net::{Net, TcpListener, TcpStream};
+use std::random::RandomSource;
+use std::sync::Wait;
+use std::sync::atomic::{AtomicU64, Ordering};
+use std::thread::{self, Threads};
+use std::time::{Clock, Duration};
+
+const ALL: &str =
+    "<http://arc.example/i>;rel=timemap,<http://arc.example/p1>;rel=timemap,<http://arc.example/p2>;rel=timemap";
+
+fn answer(alloc: Global, status: u16, coding: &str, body: &str) -> Result<Answer> {
+    let mut encoding = Vec::new(alloc);
+    if !coding.is_empty() {
+        encoding.push(octets(alloc, coding.as_bytes())?)?;
+    }
+    Ok(Answer {
+        status,
+        encoding: Items::of(encoding),
+        body: octets(alloc, body.as_bytes())?,
+    })
+}
+
+fn job(alloc: Global, first: &str) -> Result<Job> {
+    Ok(Job {
+        archive: archive(b"arc.example")?,
+        original: original(alloc, b"http://a.example/")?,
+        revision: 7,
+        first: clean(alloc, first.as_bytes())?,
+    })
+}
+
+fn add(
+    table: &mut MemoryFetch,
+    alloc: Global,
+    url: &str,
+    status: u16,
+    coding: &str,
+    body: &str,
+) -> Result<()> {
+    table.add(
+        clean(alloc, url.as_bytes())?,
+        answer(alloc, status, coding, body)?,
+    )?;
+    Ok(())
+}
+
+/// Adds a page that lists all pages and a memento.
+fn add_page(
+    table: &mut MemoryFetch,
+    alloc: Global,
+    url: &str,
+    status: u16,
+    coding: &str,
+    memento: &str,
+) -> Result<()> {
+    let body = format!(in alloc; "{ALL},{memento}")?;
+    add(table, alloc, url, status, coding, &body)
+}
+
+const PAGES: &str = "<http://arc.example/p1>;rel=timemap,<http://arc.example/p2>;rel=timemap";
+
+const MEMENTO_1: &str =
+    "<http://m.example/1>;rel=memento;datetime=\"Sat, 01 Jan 2000 00:00:00 GMT\"";
+
+const MEMENTO_2: &str =
+    "<http://m.example/2>;rel=memento;datetime=\"Mon, 03 Jan 2000 00:00:00 GMT\"";
+
+fn add_three_pages(
+    table: &mut MemoryFetch,
+    alloc: Global,
+    first: u16,
+    coding: &str,
+    last: u16,
+) -> Result<()> {
+    add(table, alloc, "http://arc.example/i", first, "", PAGES)?;
+    add_page(
+        table,
+        alloc,
+        "http://arc.example/p1",
+        200,
+        coding,
+        MEMENTO_1,
+    )?;
+    add_page(table, alloc, "http://arc.example/p2", last, "", MEMENTO_2)
+}
+
+/// An archive of three pages: the first lists the others, and these list all.
+fn three_pages(alloc: Global, first: u16, coding: &str, last: u16) -> Result<MemoryFetch> {
+    let mut table = MemoryFetch::new(alloc);
+    add_three_pages(&mut table, alloc, first, coding, last)?;
+    Ok(table)
+}
+
+/// Whether these URLs were answered, in this order.
+fn has_fetched(outcome: &Outcome<'_>, urls: &[&str]) -> bool {
+    let record = outcome.fetched.as_slice();
+    record.len() == urls.len()
+        && record
+            .iter()
+            .zip(urls)
+            .all(|(entry, url)| entry.0.as_bytes() == url.as_bytes())
+}
+
+/// Whether the harvest has just these mementos.
+fn has_harvested(outcome: &Outcome<'_>, uris: &[&str]) -> bool {
+    match &outcome.result {
+        Ok(harvest) => {
+            let mementos = harvest.mementos();
+            mementos.len() == uris.len()
+                && mementos
+                    .iter()
+                    .zip(uris)
+                    .all(|(m, uri)| m.uri.as_bytes() == uri.as_bytes())
+        }
+        Err(_) => false,
+    }
+}
+
+fn fault(outcome: &Outcome<'_>) -> Option<WalkFault> {
+    match &outcome.result {
+        Ok(_) => None,
+        Err(fault) => Some(*fault),
+    }
+}
+
+/// How many mementos a walk from this URL harvests, or its fault, and how many pages it has fetched.
+fn walk_counts<
+    R: Wait + Clock + Net<Listener = TcpListener, Stream = TcpStream> + RandomSource + AllocGlobal,
+>(rt: &R, table: &MemoryFetch, first: &str) -> Result<(Result<usize, WalkFault>, usize)> {
+    let job = job(rt.alloc(), first)?;
+    if !job.has_first_url() {
+        bail!("no first URL");
+    }
+    let outcome = walk(rt, table, &job);
+    let count = match &outcome.result {
+        Ok(harvest) => Ok(harvest.mementos().len()),
+        Err(fault) => Err(*fault),
+    };
+    Ok((count, outcome.fetched.as_slice().len()))
+}
+
+/// Whether a walk from this URL fetches just these pages, in this order, and harvests just these mementos.
+fn walk_harvests<
+    R: Wait + Clock + Net<Listener = TcpListener, Stream = TcpStream> + RandomSource + AllocGlobal,
+>(rt: &R, table: &MemoryFetch, first: &str, urls: &[&str], uris: &[&str]) -> Result<bool> {
+    let job = job(rt.alloc(), first)?;
+    if !job.has_first_url() {
+        bail!("no first URL");
+    }
+    let outcome = walk(rt, table, &job);
+    Ok(outcome.number == 0 && has_fetched(&outcome, urls) && has_harvested(&outcome, uris))
+}
+
+const FROM_THE_INDEX: [&str; 3] = [
+    "http://arc.example/i",
+    "http://arc.example/p1",
+    "http://arc.example/p2",
+];
+
+const FROM_THE_LAST_PAGE: [&str; 3] = [
+    "http://arc.example/p2",
+    "http://arc.example/i",
+    "http://arc.example/p1",
+];
+
+const BOTH_MEMENTOS: [&str; 2] = ["http://m.example/1", "http://m.example/2"];
+
+#[test]
+fn pages_in_order(rt: HostRuntime) -> Result<()> {
+    let table = three_pages(rt.alloc(), 200, "Identity", 200)?;
+    let first = "http://arc.example/i#top";
+    assert!(rt; walk_harvests(&rt, &table, first, &FROM_THE_INDEX, &BOTH_MEMENTOS)?);
+    Ok(())
+}
+
+#[test]
+fn a_page_that_is_missing(rt: HostRuntime) -> Result<()> {
+    let table = three_pages(rt.alloc(), 200, "", 404)?;
+    let counts = walk_counts(&rt, &table, "http://arc.example/i")?;
+    assert_eq!(rt; counts, (Err(WalkFault::Status(404)), 3));
+    Ok(())
+}
+
+#[test]
+fn an_archive_without_the_original(rt: HostRuntime) -> Result<()> {
+    let table = three_pages(rt.alloc(), 404, "", 200)?;
+    let first = "http://arc.example/i";
+    assert!(rt; walk_harvests(&rt, &table, first, &[first], &[])?);
+    Ok(())
+}
+
+#[test]
+fn another_coding(rt: HostRuntime) -> Result<()> {
+    let table = three_pages(rt.alloc(), 200, "gzip", 200)?;
+    let counts = walk_counts(&rt, &table, "http://arc.example/i")?;
+    assert_eq!(rt; counts, (Err(WalkFault::Encoded), 2));
+    Ok(())
+}
+
+#[test]
+fn a_url_that_fails(rt: HostRuntime) -> Result<()> {
+    let table = three_pages(rt.alloc(), 200, "", 200)?;
+    let counts = walk_counts(&rt, &table, "http://arc.example/other")?;
+    assert_eq!(rt; counts, (Err(WalkFault::Fetch(FetchFault::Failed)), 0));
+    Ok(())
+}
+
+/// The body of a page that lists the next, or of the last, which lists none.
+fn body_of(alloc: Global, page: u64, pages: u64) -> Result<String> {
+    if page >= pages {
+        return Ok(String::new(alloc));
+    }
+    let next = page.saturating_add(1);
+    Ok(format!(in alloc; "<http://arc.example/{next}>;rel=timemap")?)
+}
+
+fn add_link(table: &mut MemoryFetch, alloc: Global, page: u64, pages: u64) -> Result<()> {
+    let url = format!(in alloc; "http://arc.example/{page}")?;
+    let body = body_of(alloc, page, pages)?;
+    add(table, alloc, &url, 200, "", &body)
+}
+
+/// Each page lists the next, and the last lists none.
+fn chain(alloc: Global, pages: u64) -> Result<MemoryFetch> {
+    let mut table = MemoryFetch::new(alloc);
+    for page in 1..=pages {
+        add_link(&mut table, alloc, page, pages)?;
+    }
+    Ok(table)
+}
+
+#[test]
+fn chains(rt: HostRuntime) -> Result<()> {
+    let first = "http://arc.example/1";
+    let whole = walk_counts(&rt, &chain(rt.alloc(), 64)?, first)?;
+    assert_eq!(rt; whole, (Ok(0), MAX_PAGES));
+    let long = walk_counts(&rt, &chain(rt.alloc(), 65)?, first)?;
+    assert_eq!(rt; long, (Err(WalkFault::TooManyPages), MAX_PAGES));
+    Ok(())
+}
+
+fn push_pages(body: &mut String, alloc: Global, pages: u64) -> Result<()> {
+    for page in 1..=pages {
+        body.push_str(&format!(in alloc; ",<http://arc.example/{page}>;rel=timemap")?)?;
+    }
+    Ok(())
+}
+
+/// A page that lists itself and 64 others.
+fn page_of_many(alloc: Global) -> Result<MemoryFetch> {
+    let mut body = String::from_str(alloc, "<http://arc.example/0>;rel=timemap")?;
+    push_pages(&mut body, alloc, 64)?;
+    let mut table = MemoryFetch::new(alloc);
+    add(&mut table, alloc, "http://arc.example/0", 200, "", &body)?;
+    Ok(table)
+}
+
+#[test]
+fn a_page_of_too_many_pages(rt: HostRuntime) -> Result<()> {
+    let counts = walk_counts(&rt, &page_of_many(rt.alloc())?, "http://arc.example/0")?;
+    assert_eq!(rt; counts, (Err(WalkFault::TooManyPages), 1));
+    Ok(())
+}
+
+fn push_mementos(body: &mut String, alloc: Global, from: u64, to: u64) -> Result<()> {
+    for k in from..to {
+        body.push_str(&format!(in alloc;
+            ",<http://m.example/{k}>;rel=memento;datetime=\"Sat, 01 Jan 2000 00:00:00 GMT\""
+        )?)?;
+    }
+    Ok(())
+}
+
+/// Adds a page of the mementos from one number up to another, with a link to the next page.
+fn add_mementos(
+    table: &mut MemoryFetch,
+    alloc: Global,
+    url: &str,
+    from: u64,
+    to: u64,
+    next: &str,
+) -> Result<()> {
+    let mut body = format!(in alloc; "<{next}>;rel=timemap")?;
+    push_mementos(&mut body, alloc, from, to)?;
+    add(table, alloc, url, 200, "", &body)
+}
+
+fn add_repeating_pages(table: &mut MemoryFetch, alloc: Global, count: u64) -> Result<()> {
+    let first = "http://arc.example/1";
+    let second = "http://arc.example/2";
+    let third = "http://arc.example/3";
+    add_mementos(table, alloc, first, 0, 50_000, second)?;
+    add_mementos(table, alloc, second, 0, 50_000, third)?;
+    add_mementos(table, alloc, third, 50_000, count, first)
+}
+
+/// Three pages, of which the second repeats the first, with this number of distinct mementos.
+fn repeating_pages(alloc: Global, count: u64) -> Result<MemoryFetch> {
+    let mut table = MemoryFetch::new(alloc);
+    add_repeating_pages(&mut table, alloc, count)?;
+    Ok(table)
+}
+
+#[test]
+fn as_many_mementos_as_may_be(rt: HostRuntime) -> Result<()> {
+    let first = "http://arc.example/1";
+    let most = walk_counts(&rt, &repeating_pages(rt.alloc(), 100_000)?, first)?;
+    assert_eq!(rt; most, (Ok(Harvest::MAX_MEMENTOS), 3));
+    let many = walk_counts(&rt, &repeating_pages(rt.alloc(), 100_001)?, first)?;
+    assert_eq!(rt; many, (Err(WalkFault::TooManyMementos), 3));
+    Ok(())
+}
+
+#[test]
+fn printed_faults(rt: HostRuntime) -> Result<()> {
+    let alloc = rt.alloc();
+    assert_eq!(rt;
+        WalkFault::Status(503).to_string(alloc)?.as_str(),
+        "status 503"
+    );
+    assert_eq!(rt;
+        WalkFault::Fetch(FetchFault::Failed)
+            .to_string(alloc)?
+            .as_str(),
+        "no answer"
+    );
+    Ok(())
+}
+
+fn push_jobs(jobs: &mut Vec<Job>, alloc: Global, firsts: &[&str]) -> Result<()> {
+    for first in firsts {
+        jobs.push(job(alloc, first)?)?;
+    }
+    Ok(())
+}
+
+/// A job for each of these first URLs.
+fn jobs(alloc: Global, firsts: &[&str]) -> Result<Vec<Job>> {
+    let mut jobs = Vec::new(alloc);
+    push_jobs(&mut jobs, alloc, firsts)?;
+    Ok(jobs)
+}
+
+/// What a round of these jobs gives.
+fn round<'a, R, F>(rt: &R, fetcher: &F, jobs: &'a [Job], workers: usize) -> Result<Vec<Outcome<'a>>>
+where
+    R: Wait
+        + Clock
+        + Net<Listener = TcpListener, Stream = TcpStream>
+        + RandomSource
+        + AllocGlobal
+        + Threads
+        + Sync,
+    F: Fetch + Sync,
+{
+    if workers == 0 || workers > MAX_WORKERS || !have_first_urls(jobs) {
+        bail!("no round");
+    }
+    Ok(run_round(rt, fetcher, jobs, workers)?)
+}
+
+fn are_numbered(outcomes: &[Outcome<'_>]) -> bool {
+    outcomes
+        .iter()
+        .enumerate()
+        .all(|(k, outcome)| outcome.number == k)
+}
+
+/// Whether these are the outcomes of walks from the index, from the last page and from a URL that fails.
+fn are_of_three_jobs(outcomes: &[Outcome<'_>]) -> bool {
+    match outcomes {
+        [index, last, other] => {
+            has_fetched(index, &FROM_THE_INDEX)
+                && has_harvested(index, &BOTH_MEMENTOS)
+                && has_fetched(last, &FROM_THE_LAST_PAGE)
+                && has_harvested(last, &BOTH_MEMENTOS)
+                && fault(other) == Some(WalkFault::Fetch(FetchFault::Failed))
+        }
+        _ => false,
+    }
+}
+
+#[test]
+fn rounds(rt: HostRuntime) -> Result<()> {
+    let table = three_pages(rt.alloc(), 200, "", 200)?;
+    let firsts = [
+        "http://arc.example/i",
+        "http://arc.example/p2",
+        "http://arc.example/other",
+    ];
+    let jobs = jobs(rt.alloc(), &firsts)?;
+    for workers in [1, 2, 3, 64] {
+        let outcomes = round(&rt, &table, &jobs, workers)?;
+        assert!(rt; are_of_three_jobs(&outcomes) && are_numbered(&outcomes));
+    }
+    Ok(())
+}
+
+/// Answers each fetch once two were asked.
+#[derive(Drop)]
+struct Holding {
+    asked: AtomicU64,
+}
+
+impl Fetch for Holding {
+    ghost use Rattle.std.specs.Prelude.{◌≡◌, ⊤};
+    ghost use Rattle.harvester.specs.declared.faults.FetchFault.TheVariants.{Failed};
+
+    ghost answers = { λ _ _ _. ⊤ };
+
+    ghost faults = { λ _ _ fault. fault ≡ Failed };
+
+    fn fetch<R>(&self, rt: &R, _url: &Clean) -> Result<Answer, FetchFault>
+    where
+        R: Wait
+            + Clock
+            + Net<Listener = TcpListener, Stream = TcpStream>
+            + RandomSource
+            + AllocGlobal,
+    {
+        self.asked.fetch_add(1, Ordering::SeqCst);
+        for _ in 0..10_000 {
+            if self.asked.load(Ordering::SeqCst) >= 2 {
+                return Ok(Answer {
+                    status: 200,
+                    encoding: Items::of(Vec::new(rt.alloc())),
+                    body: Octets::of(Vec::new(rt.alloc())),
+                });
+            }
+            thread::sleep(rt, Duration::from_millis(1));
+        }
+        Err(FetchFault::Failed)
+    }
+}
+
+fn harvest_nothing(outcomes: &[Outcome<'_>]) -> bool {
+    outcomes.iter().all(|outcome| has_harvested(outcome, &[]))
+}
+
+#[test]
+fn workers_run_at_once(rt: HostRuntime) -> Result<()> {
+    let holding = Holding {
+        asked: AtomicU64::new(0),
+    };
+    let jobs = jobs(
+        rt.alloc(),
+        &["http://arc.example/1", "http://arc.example/2"],
+    )?;
+    let outcomes = round(&rt, &holding, &jobs, 2)?;
+    assert_eq!(rt; outcomes.len(), 2);
+    assert!(rt; harvest_nothing(&outcomes));
+    Ok(())
+}
