@@ -8,8 +8,6 @@
 mod decimals;
 mod laws;
 mod parts;
-#[cfg(test)]
-mod tests;
 
 pub use decimals::{read_decimal, write_decimal};
 pub use laws::{decimals_are_read_back, parts_are_read_back};

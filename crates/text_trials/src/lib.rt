@@ -4,4 +4,16 @@
 //! `makers` makes what trials speak of, for those of the crates above too.
 #![tactic(auto)]
 
+#[cfg(test)]
+mod fields;
+#[cfg(test)]
+mod links;
 pub mod makers;
+#[cfg(test)]
+mod moments;
+#[cfg(test)]
+mod pages;
+#[cfg(test)]
+mod timemaps;
+#[cfg(test)]
+mod urls;

@@ -5,8 +5,6 @@
 mod laws;
 mod lines;
 mod service;
-#[cfg(test)]
-mod tests;
 mod timemap;
 
 pub use laws::{bases_are_urls, ends_are_named, timemaps_are_read};
