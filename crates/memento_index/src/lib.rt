@@ -23,6 +23,7 @@ mod tally;
 mod tests;
 
 pub use index::Index;
+pub use last::last_in;
 pub use laws::{distances_are_between, one_is_last, one_is_nearest};
 pub use merge::Merge;
 pub use nearest::nearest_in;
