@@ -1,6 +1,5 @@
 -- The nearest and the last memento of a set: there is one, and only one.
-use Rattle.std.proofs.Common.{◌≡◌, ◌≢◌, ℕ, ◌+◌, ◌<◌, ◌⊎◌, inl, inr, true, false, cond, ◌||◌, ◌++◌, List, [], ◌∷◌, length, get_or, take, Option, Some, None, refl, sym, ap, ◌∙◌, arith}
-use Rattle.std.proofs.lemmas.List.{take_more}
+use Rattle.std.proofs.Common.{◌≡◌, ◌≢◌, ℕ, ◌<◌, ◌≤◌, ◌⊎◌, inl, inr, true, false, cond, ◌||◌, List, [], ◌∷◌, Some, None, refl, sym, ap, ◌∙◌, arith}
 use Rattle.std.specs.declared.cmp.Ordering.{Ordering}
 use Rattle.std.specs.declared.cmp.Ordering.TheVariants.{Less, Equal, Greater}
 use Rattle.std.specs.List.{list_any}
@@ -161,49 +160,33 @@ last_once ms m n a b =
       ]
     ]
 
--- ---- one memento after another
-
-greater_twice : (cmp : Memento → Memento → Ordering) (o : IsTotalOrder cmp) (a b c : Memento) → is_gt (cmp a b) ≡ true → is_gt (cmp b c) ≡ true → is_gt (cmp a c) ≡ true
-greater_twice cmp o a b c ab bc = ap is_gt (o.antisymm a c ∙ ap ordering_reverse (o.trans c b a (below b c bc) (below a b ab)))
+-- where none is later than the moment, the nearest one is the last
+nearest-last : (ms : Mementos) (t : ℕ) (m : Memento) → ((n : Memento) → set.contains ms n ≡ true → n.at ≤ t) → IsNearest ms t m → IsLast ms m
+nearest-last ms t m none_later near = record {
+  held = near.held;
+  last = λ n h.
+      let up_to_m = none_later m near.held in
+      let up_to_n = none_later n h in
+      elim (near.nearest n h) [
+        | inl nearer ↦ inl (omega arith)
+        | inr tie ↦
+            let same : n.at ≡ m.at = omega (arith, tie.0) in
+            inr (same, λ less. tie.1 (ap (λ o. ordering_then o (text_cmp n.uri m.uri)) (at_same n.at m.at same) ∙ less))
+      ];
+}
   where
-    gt : (r : Ordering) → is_gt r ≡ true → r ≡ Greater
-    gt Less h = absurd (true≢false (sym h))
-    gt Equal h = absurd (true≢false (sym h))
-    gt Greater h = refl
+    at_same : (a b : ℕ) → a ≡ b → nat_cmp a b ≡ Equal
+    at_same a b same = ap (nat_cmp a) (sym same) ∙ tied_itself nat_cmp_total a
 
-    below : (x y : Memento) → is_gt (cmp x y) ≡ true → cmp y x ≡ Less
-    below x y h = o.antisymm y x ∙ ap ordering_reverse (gt (cmp x y) h)
-
-module _ (cmp : Memento → Memento → Ordering) (o : IsTotalOrder cmp) where
-  abbrev pick : Memento → Memento → Memento
-  pick a b = cond (is_gt (cmp a b)) b a
-
-  pick_assoc : (a b c : Memento) → pick a (pick b c) ≡ pick (pick a b) c
-  pick_assoc a b c =
-      elim (is_gt (cmp a b)) as (λ t. is_gt (cmp a b) ≡ t → pick a (pick b c) ≡ pick (cond t b a) c) [
-        | true ↦ λ ab. elim (is_gt (cmp b c)) as (λ t. is_gt (cmp b c) ≡ t → pick a (cond t c b) ≡ cond t c b) [
-          | true ↦ λ bc. ap (λ t. cond t c a) (greater_twice cmp o a b c ab bc)
-          | false ↦ λ _. ap (λ t. cond t b a) ab
-        ] refl
-        | false ↦ λ ab. elim (is_gt (cmp b c)) as (λ t. is_gt (cmp b c) ≡ t → pick a (cond t c b) ≡ pick a c) [
-          | true ↦ λ _. refl
-          | false ↦ λ bc. ap (λ t. cond t b a) ab ∙ sym (ap (λ t. cond t c a) (upto o a b c ab bc))
-        ] refl
-      ] refl
-
-  picked : (a : Memento) (r : Option Memento) (c : Memento) → join_values pick (Some a) (join_values pick r (Some c)) ≡ join_values pick (join_values pick (Some a) r) (Some c)
-  picked a None c = refl
-  picked a (Some b) c = ap Some (pick_assoc a b c)
-
-  -- the least of one more
-  pub least_more_is : (xs : List Memento) (m : Memento) → least_by cmp (xs ++ m ∷ []) ≡ join_values pick (least_by cmp xs) (Some m)
-  least_more_is [] m = refl
-  least_more_is (x ∷ xs) m = ap (join_values pick (Some x)) (least_more_is xs m) ∙ picked x (least_by cmp xs) m
-
-  -- as a loop over a list goes
-  pub least_turn : (xs : List Memento) (i : ℕ) (m : Memento) → i < length xs → m ≡ get_or xs i m → least_by cmp (take (i + 1) xs) ≡ join_values pick (least_by cmp (take i xs)) (Some m)
-  least_turn xs i m lt read = ap (least_by cmp) (take_more xs i m lt ∙ ap (λ y. take i xs ++ y ∷ []) (sym read)) ∙ least_more_is (take i xs) m
-
-  -- one more of the rest, after the first
-  pub rest_turn : (first best : Memento) (xs : List Memento) (i : ℕ) (m : Memento) → i < length xs → m ≡ get_or xs i m → join_values pick (Some first) (least_by cmp (take i xs)) ≡ Some best → join_values pick (Some first) (least_by cmp (take (i + 1) xs)) ≡ Some (cond (is_gt (cmp best m)) m best)
-  rest_turn first best xs i m lt read so_far = ap (join_values pick (Some first)) (least_turn xs i m lt read) ∙ (picked first (least_by cmp (take i xs)) m ∙ ap (λ r. join_values pick r (Some m)) so_far)
+pub nearest_is_last : (ms : Mementos) (t : ℕ) → ((n : Memento) → set.contains ms n ≡ true → n.at ≤ t) → nearest ms t ≡ last ms
+nearest_is_last ms t none_later =
+    elim (nearest ms t) as (λ r. MatchOption r (set.items ms ≡ []) (IsNearest ms t) → r ≡ last ms) [
+      | None ↦ λ none. elim (last ms) as (λ r. MatchOption r (set.items ms ≡ []) (IsLast ms) → None ≡ r) [
+        | None ↦ λ _. refl
+        | Some n ↦ λ some. absurd (true≢false (sym (has_contains ms n some.held) ∙ ap (list_any (eq_by_cmp memento_cmp n)) none))
+      ] (last-is ms)
+      | Some m ↦ λ near. elim (last ms) as (λ r. MatchOption r (set.items ms ≡ []) (IsLast ms) → Some m ≡ r) [
+        | None ↦ λ none. absurd (true≢false (sym (has_contains ms m near.held) ∙ ap (list_any (eq_by_cmp memento_cmp m)) none))
+        | Some n ↦ λ some. ap Some (last_once ms m n (nearest-last ms t m none_later near) some)
+      ] (last-is ms)
+    ] (nearest-is ms t)

@@ -1,6 +1,7 @@
 -- The lists of an index.
-use Rattle.std.proofs.Common.{◌≡◌, ℕ, ◌+◌, ◌≤◌, true, false, cond, length, List, [], ◌∷◌, Option, Some, None, is_some, IfSome, ◌⊎◌, inl, inr, refl, sym, ap, subst, ◌∙◌, arith}
+use Rattle.std.proofs.Common.{◌≡◌, ℕ, ◌+◌, ◌≤◌, true, false, ◌||◌, cond, length, List, [], ◌∷◌, Option, Some, None, is_some, IsSome, IfSome, ◌⊎◌, inl, inr, refl, sym, ap, subst, ◌∙◌, arith}
 use Rattle.std.specs.Map.{lookup, keys_of}
+use Rattle.std.specs.Set.{is_member}
 use Rattle.std.specs.List.Sorted.{IsStrictlySortedBy}
 use Rattle.std.specs.Ordering.{eq_by_cmp, is_eq}
 use Rattle.std.specs.Cmp.{eq_by_cmp_equiv, tied_itself}
@@ -26,7 +27,7 @@ use Rattle.memento_index.specs.declared.counted.Steps.TheVariants.{First, Each}
 use Rattle.memento_index.specs.Counts.{IsTally, count_of, beginnings, mementos_of, IsRecounted}
 use Rattle.memento_index.specs.Showing.{showing, showing_by}
 use Rattle.memento_index.specs.Tallies.{Tallied}
-use Rattle.memento_index.specs.Lists.{Lists, StepLists, tally_in, tally_of, steps_in, steps_or_none, steps_of, Grows, IsFirst, AreFirst, CanTake, HasRoom, HaveRoom, CanCount, IsCounted, AreGathered}
+use Rattle.memento_index.specs.Lists.{Lists, StepLists, IsListed, tally_in, tally_of, steps_in, steps_or_none, steps_of, Grows, IsFirst, AreFirst, CanTake, HasRoom, HaveRoom, CanCount, IsCounted, AreGathered}
 use Rattle.memento_index.proofs.Showing.{join_shows, before-le, showing-le, shown_counts, not_shown_counts}
 use Rattle.memento_index.proofs.Tallies.{beginnings-le}
 use Rattle.memento_index.proofs.Listed.{tally_lists}
@@ -125,12 +126,52 @@ all_roomy keys all left lists spare is has o =
       | inl to_come ↦ subst (λ (s : Option Steps). IfSome s (HasRoom keys (tree.get text_cmp lists o) spare)) (ap (lookup (is_at (text_cmp o))) (sym is) ∙ to_come) tt
     ]
 
+-- an original without steps isn't among those to come
+pub none_to_come : (o : List ℕ) (left new : List (List ℕ × Steps)) (e : List ℕ × Steps) → left ≡ e ∷ new → lookup (is_at (text_cmp o)) left ≡ None → (eq_by_cmp text_cmp e.0 o ≡ false) × (lookup (is_at (text_cmp o)) new ≡ None)
+none_to_come o left new e is none =
+    elim (is_at (text_cmp o) e.0) as (λ b. is_at (text_cmp o) e.0 ≡ b → cond b (Some e.1) (lookup (is_at (text_cmp o)) new) ≡ None → (eq_by_cmp text_cmp e.0 o ≡ false) × (lookup (is_at (text_cmp o)) new ≡ None)) [
+      | true ↦ λ _ some. absurd (cc)
+      | false ↦ λ apart rest. ((eq_by_cmp_equiv nat_list_cmp_total).symm e.0 o ∙ apart, rest)
+    ] refl (ap (lookup (is_at (text_cmp o))) (sym is) ∙ none)
+
+-- ---- a walk that drops empty lists
+
+empty_listed : (t : Option Tallied) → (IsListed t → ⊥) → tally_in t ≡ []
+empty_listed None h = absurd (h tt)
+empty_listed (Some t) h = elim t.entries as (λ es. ((es ≡ [] → ⊥) → ⊥) → es ≡ []) [ [] ↦ λ _. refl | e ∷ es ↦ λ g. absurd (g (λ same. cc)) ] h
+
+-- an empty list that is taken out
+pub empty_dropped : (m n : Lists) (a : List ℕ) → ((q : List ℕ) → tree.get text_cmp n q ≡ cond (is_at (text_cmp a) q) None (tree.get text_cmp m q)) → (IsListed (tree.get text_cmp m a) → ⊥) → (o : List ℕ) → (tally_of n o ≡ tally_of m o) × (IsListed (tree.get text_cmp m o) → tree.get text_cmp n o ≡ tree.get text_cmp m o)
+empty_dropped m n a put empty o =
+    elim (is_at (text_cmp a) o) as (λ b. is_at (text_cmp a) o ≡ b → tree.get text_cmp n o ≡ cond b None (tree.get text_cmp m o) → (tally_of n o ≡ tally_of m o) × (IsListed (tree.get text_cmp m o) → tree.get text_cmp n o ≡ tree.get text_cmp m o)) [
+      | true ↦ λ t gone.
+          let here : IsListed (tree.get text_cmp m o) → ⊥ = subst (λ p. IsListed (tree.get text_cmp m p) → ⊥) (same_text a o t) empty in
+          (ap (λ (s : Option Tallied). tally_in s) gone ∙ sym (empty_listed (tree.get text_cmp m o) here), λ listed. absurd (here listed))
+      | false ↦ λ _ same. (ap (λ (s : Option Tallied). tally_in s) same, λ _. same)
+    ] refl (put o)
+
+-- an original is still to come, or its list isn't empty
+abbrev pub IsListedOr : List (List ℕ) → Lists → List ℕ → Type 0
+IsListedOr left lists o = (is_member (eq_by_cmp text_cmp) left o ≡ true) ⊎ IsListed (tree.get text_cmp lists o)
+
+pub one_more_listed : (left new : List (List ℕ)) (a : List ℕ) (was now : Lists) → left ≡ a ∷ new → IsListed (tree.get text_cmp now a) → ((o : List ℕ) → IsListed (tree.get text_cmp was o) → tree.get text_cmp now o ≡ tree.get text_cmp was o) → (o : List ℕ) → IsListedOr left was o → IsListedOr new now o
+one_more_listed left new a was now is gone stay o (inr listed) = inr (subst IsListed (sym (stay o listed)) listed)
+one_more_listed left new a was now is gone stay o (inl to_come) =
+    elim (is_at (text_cmp o) a) as (λ b. is_at (text_cmp o) a ≡ b → (b || is_member (eq_by_cmp text_cmp) new o) ≡ true → IsListedOr new now o) [
+      | true ↦ λ t _. inr (subst (λ p. IsListed (tree.get text_cmp now p)) (sym (same_text o a t)) gone)
+      | false ↦ λ _ rest. inl rest
+    ] refl (ap (λ ks. is_member (eq_by_cmp text_cmp) ks o) (sym is) ∙ to_come)
+
+pub none_left : (left : List (List ℕ)) (lists : Lists) → left ≡ [] → (o : List ℕ) → IsListedOr left lists o → IsListed (tree.get text_cmp lists o)
+none_left left lists is o (inr listed) = listed
+none_left left lists is o (inl to_come) = absurd (true≢false (sym to_come ∙ ap (λ ks. is_member (eq_by_cmp text_cmp) ks o) is))
+
 -- ---- a walk that counts
 
--- an original's steps are still to come and its list is as it was, or they are counted
+-- an original's steps are still to come and its list is as it was, or they are counted, and an empty list dropped
 abbrev pub IsCountedOr : StepLists → List (List ℕ × Steps) → Lists → Lists → List ℕ → Type 0
 IsCountedOr all left was now o =
-    ((lookup (is_at (text_cmp o)) left ≡ tree.get text_cmp all o) × (tree.get text_cmp now o ≡ tree.get text_cmp was o)) ⊎ ((lookup (is_at (text_cmp o)) left ≡ None) × IsRecounted (tally_of was o) (steps_of all o) (tally_of now o))
+    ((lookup (is_at (text_cmp o)) left ≡ tree.get text_cmp all o) × (tree.get text_cmp now o ≡ tree.get text_cmp was o)) ⊎ ((lookup (is_at (text_cmp o)) left ≡ None) × IsRecounted (tally_of was o) (steps_of all o) (tally_of now o) × IsListed (tree.get text_cmp now o))
 
 -- the steps that come next are those of their original
 pub next_is : (all : StepLists) (left new : List (List ℕ × Steps)) (e : List ℕ × Steps) (was now : Lists) → left ≡ e ∷ new → ((o : List ℕ) → IsCountedOr all left was now o) → (tree.get text_cmp all e.0 ≡ Some e.1) × (tree.get text_cmp now e.0 ≡ tree.get text_cmp was e.0)
@@ -162,11 +203,11 @@ next_room all left new e was now is each spare wide le room =
     let here : HasRoom 0 (tree.get text_cmp was e.0) spare e.1 = subst (λ (s : Option Steps). IfSome s (HasRoom 0 (tree.get text_cmp was e.0) spare)) its.0 (room e.0) in
     subst (λ (t : Option Tallied). HasRoom 0 t wide e.1) (sym its.1) (grown_room 0 (tree.get text_cmp was e.0) (tree.get text_cmp was e.0) spare wide e.1 (grows_same (tree.get text_cmp was e.0)) le here)
 
-pub one_more_counted : (all : StepLists) (left new : List (List ℕ × Steps)) (e : List ℕ × Steps) (was now next : Lists) → left ≡ e ∷ new → IsStrictlySortedBy text_cmp (keys_of left) → ((o : List ℕ) → IsCountedOr all left was now o) → IsRecounted (tally_of now e.0) (steps_in e.1) (tally_of next e.0) → ((o : List ℕ) → eq_by_cmp text_cmp e.0 o ≡ false → tree.get text_cmp next o ≡ tree.get text_cmp now o) → (o : List ℕ) → IsCountedOr all new was next o
+pub one_more_counted : (all : StepLists) (left new : List (List ℕ × Steps)) (e : List ℕ × Steps) (was now next : Lists) → left ≡ e ∷ new → IsStrictlySortedBy text_cmp (keys_of left) → ((o : List ℕ) → IsCountedOr all left was now o) → IsRecounted (tally_of now e.0) (steps_in e.1) (tally_of next e.0) → IsListed (tree.get text_cmp next e.0) → ((o : List ℕ) → eq_by_cmp text_cmp e.0 o ≡ false → tree.get text_cmp next o ≡ tree.get text_cmp now o) → (o : List ℕ) → IsCountedOr all new was next o
 unfolding IsStrictlySortedBy
-one_more_counted all left new e was now next is sorted each recounted others o =
+one_more_counted all left new e was now next is sorted each recounted listed others o =
     elim (eq_by_cmp text_cmp e.0 o) as (λ b. eq_by_cmp text_cmp e.0 o ≡ b → IsCountedOr all new was next o) [
-      | true ↦ λ t. subst (IsCountedOr all new was next) (same_text e.0 o t) (inr (gone, here))
+      | true ↦ λ t. subst (IsCountedOr all new was next) (same_text e.0 o t) (inr (gone, here, listed))
       | false ↦ λ f. other f (each o)
     ] refl
   where
@@ -185,7 +226,7 @@ one_more_counted all left new e was now next is sorted each recounted others o =
         let left_is : lookup (is_at (text_cmp o)) left ≡ lookup (is_at (text_cmp o)) new = ap (lookup (is_at (text_cmp o))) is ∙ ap (λ b. cond b (Some e.1) (lookup (is_at (text_cmp o)) new)) apart in
         elim before [
           | inl to_come ↦ inl (sym left_is ∙ to_come.0, others o f ∙ to_come.1)
-          | inr done ↦ inr (sym left_is ∙ done.0, subst (λ (t : Option Tallied). IsRecounted (tally_of was o) (steps_of all o) (tally_in t)) (sym (others o f)) done.1)
+          | inr done ↦ inr (sym left_is ∙ done.0, subst (λ (t : Option Tallied). IsRecounted (tally_of was o) (steps_of all o) (tally_in t)) (sym (others o f)) done.1, subst IsListed (sym (others o f)) done.2)
         ]
 
 -- at the end all are counted
@@ -199,6 +240,14 @@ all_counted all left was now is tally each o =
           (subst (λ (t : Option Tallied). IsRecounted (tally_of was o) [] (tally_in t)) (sym to_come.1) (record { tally = tally o; counts = λ m. refl }))
     ]
 
+-- and none is empty, where none was without steps
+pub all_listed : (all : StepLists) (left : List (List ℕ × Steps)) (was now : Lists) → left ≡ [] → ((o : List ℕ) → tree.get text_cmp all o ≡ None → IsListed (tree.get text_cmp was o)) → ((o : List ℕ) → IsCountedOr all left was now o) → (o : List ℕ) → IsListed (tree.get text_cmp now o)
+all_listed all left was now is listed each o =
+    elim (each o) [
+      | inr done ↦ done.2
+      | inl to_come ↦ subst IsListed (sym to_come.1) (listed o (sym to_come.0 ∙ ap (lookup (is_at (text_cmp o))) is))
+    ]
+
 pub later_sorted : (left new : List (List ℕ × Steps)) (e : List ℕ × Steps) → left ≡ e ∷ new → IsStrictlySortedBy text_cmp (keys_of left) → IsStrictlySortedBy text_cmp (keys_of new)
 unfolding IsStrictlySortedBy
 later_sorted left new e is sorted = let h : IsStrictlySortedBy text_cmp (keys_of (e ∷ new)) = subst (λ (es : List (List ℕ × Steps)). IsStrictlySortedBy text_cmp (keys_of es)) is sorted in h.1
@@ -209,6 +258,7 @@ pub none_counted : (x : Entries) (lists : Lists) → x ≡ fmap.empty → ((o : 
 none_counted x lists is none = record {
   tally = λ o. subst (λ (t : Option Tallied). IsTally (tally_in t)) (sym (none o)) tt;
   counts = λ o m. ap (λ (t : Option Tallied). count_of (tally_in t) m) (none o) ∙ sym (ap (λ (y : Entries). showing y o m) is ∙ ap (λ (es : List (Key × Kept)). showing_by (λ e. Some e.1) es o m) no_entries);
+  listed = λ o. subst IsListed (sym (none o)) tt;
 }
   where
     no_length : (es : List (Key × Kept)) → length es ≡ 0 → es ≡ []
@@ -217,13 +267,6 @@ none_counted x lists is none = record {
 
     no_entries : fmap.entries (fmap.empty {X = Kept} {R = key_cmp}) ≡ []
     no_entries = no_length (fmap.entries (fmap.empty {X = Kept} {R = key_cmp})) (sym (fmap.len-entries (fmap.empty {X = Kept} {R = key_cmp})) ∙ fmap.len-empty key_cmp Kept)
-
--- room made leaves the counts as they are
-pub counted_made : (x : Entries) (lists made : Lists) → IsCounted x lists → ((o : List ℕ) → Grows (tree.get text_cmp lists o) (tree.get text_cmp made o)) → IsCounted x made
-counted_made x lists made counted grow = record {
-  tally = λ o. subst IsTally (sym (grown_same (tree.get text_cmp lists o) (tree.get text_cmp made o) (grow o))) (counted.tally o);
-  counts = λ o m. ap (λ (es : List Counted). count_of es m) (grown_same (tree.get text_cmp lists o) (tree.get text_cmp made o) (grow o)) ∙ counted.counts o m;
-}
 
 -- ---- an index after a merge
 
@@ -250,13 +293,14 @@ module _ (x news : Entries) (all : StepLists) (lists made : Lists) (counted : Is
       few (Some steps) (Some t) m h = let most = h.1 in omega (arith, beginnings-le (steps_in steps) m, most)
 
   -- and once they are, the counts are those of the join
-  pub counted_after : (y : Entries) (after : Lists) → y ≡ join x news → ((o : List ℕ) → IsRecounted (tally_of made o) (steps_of all o) (tally_of after o)) → IsCounted y after
-  counted_after y after is recounted = record {
+  pub counted_after : (y : Entries) (after : Lists) → y ≡ join x news → ((o : List ℕ) → IsRecounted (tally_of made o) (steps_of all o) (tally_of after o)) → ((o : List ℕ) → IsListed (tree.get text_cmp after o)) → IsCounted y after
+  counted_after y after is recounted listed = record {
     tally = λ o. (recounted o).tally;
     counts = λ o m.
         let joined = ap (λ (z : Entries). showing z o m) is in
         let steps = (recounted o).counts m in
         omega (arith, joined, steps, counts_made o m, join_shows x news o m, gathered.counts o m);
+    listed = listed;
   }
 
 -- the list of an original has what is shown of it

@@ -1,5 +1,5 @@
 -- The nearest memento of a list in order, by its place.
-use Rattle.std.proofs.Common.{◌≡◌, ◌≢◌, ℕ, zero, suc, ◌-◌, ◌<◌, ◌≤◌, ◌⊎◌, inl, inr, true, List, [], ◌∷◌, length, get_or, slice_index, Some, None, refl, sym, ap, ◌∙◌, subst, arith}
+use Rattle.std.proofs.Common.{◌≡◌, ◌≢◌, ℕ, zero, suc, ◌+◌, ◌-◌, ◌<◌, ◌≤◌, ◌⊎◌, inl, inr, true, List, [], ◌∷◌, length, get_or, slice_index, Some, None, refl, sym, ap, ◌∙◌, subst, arith}
 use Rattle.std.specs.declared.cmp.Ordering.{Ordering}
 use Rattle.std.specs.declared.cmp.Ordering.TheVariants.{Less, Equal, Greater}
 use Rattle.std.specs.Prelude.{slice_get}
@@ -18,10 +18,10 @@ use Rattle.memento_time.specs.declared.mementos.Memento.{Memento}
 use Rattle.memento_time.proofs.MementoLemmas.{memento_cmp_total, memento_cmp_exact}
 use Rattle.memento_sets.specs.Sets as set
 use Rattle.memento_sets.specs.MementoSets.{Mementos}
-use Rattle.memento_index.specs.Choice.{distance, IsNearest, nearness_cmp, least_by, nearest}
+use Rattle.memento_index.specs.Choice.{distance, IsNearest, nearness_cmp, recency_cmp, least_by, nearest, last}
 use Rattle.memento_sets.proofs.Sets.{contains-from_list}
 use Rattle.memento_sets.proofs.Ordered.{items_in_order}
-use Rattle.memento_index.proofs.Choice.{nearest-is, nearest_once}
+use Rattle.memento_index.proofs.Choice.{nearest-is, nearest_once, nearest_is_last}
 use Rattle.memento_index.specs.Probes.{datetimes, gap}
 
 -- of a list in order each one is below those behind it
@@ -199,3 +199,38 @@ pub none_named : (xs : List Memento) (t : ℕ) → IsStrictlySortedBy memento_cm
 unfolding nearest
 none_named [] t up h = ap (least_by (nearness_cmp t)) (sym (items_in_order [] up))
 none_named (x ∷ xs) t up h = absurd (omega arith)
+
+-- where one is held, its datetime stands at a place
+held_at : (xs : List Memento) (n : Memento) → set.contains (set.from_list {R = memento_cmp} xs) n ≡ true → (j : ℕ) × (j < length xs) × (slice_index (datetimes xs) j ≡ n.at)
+held_at xs n h =
+    let any = Any-from_list_any (eq_by_cmp memento_cmp n) xs (sym (contains-from_list memento_cmp_total memento_cmp_exact xs n) ∙ h) in
+    let lt : any.0 < length xs = any.2 in
+    let is : n ≡ any.1 = memento_cmp_exact n any.1 ((Equal-is (memento_cmp n any.1)).0 any.4) in
+    (any.0, lt, datetime_at xs any.0 any.1 lt ∙ ap (λ (m : Memento). m.at) (any.3 ∙ sym is))
+
+-- the first place at a datetime is the nearest to it
+there_place : (ats : List ℕ) (t k : ℕ) → k < length ats → slice_index ats k ≡ t → ((j : ℕ) → j < k → slice_index ats j < t) → IsNearestPlace ats t k
+there_place ats t k within there less = record {
+  within = within;
+  nearest = λ j in_range. elim (cases_lt j k) [
+    | inl lt ↦ let early = less j lt in inl (omega arith)
+    | inr ge ↦ by_gap t (slice_index ats k) (slice_index ats j) k j (omega arith) ge
+  ];
+}
+
+-- the first place at the greatest datetime has the last memento
+pub last_named : (xs : List Memento) → IsStrictlySortedBy memento_cmp xs → (k end : ℕ) → length xs ≡ end + 1 → k ≤ end → ((j : ℕ) → j < k → slice_index (datetimes xs) j < slice_index (datetimes xs) end) → ((j : ℕ) → k ≤ j → j < end → slice_index (datetimes xs) end ≤ slice_index (datetimes xs) j) → slice_get xs k ≡ last (set.from_list xs)
+last_named xs up k end size within less least =
+    let t = slice_index (datetimes xs) end in
+    let top : (j : ℕ) → j < length xs → slice_index (datetimes xs) j ≤ t = λ j lt. rises xs up j end (omega arith) (omega arith) in
+    let there : slice_index (datetimes xs) k ≡ t = elim (cases_lt k end) [
+      | inl lt ↦ let high = least k (omega arith) lt in let low = top k (omega arith) in omega arith
+      | inr ge ↦ ap (slice_index (datetimes xs)) (omega arith)
+    ] in
+    named xs up t k (there_place (datetimes xs) t k (omega (arith, length-datetimes xs)) there less)
+    ∙ nearest_is_last (set.from_list xs) t (λ n h. let j = held_at xs n h in let low = top j.0 j.1 in omega (arith, j.2))
+
+pub none_last : (xs : List Memento) → IsStrictlySortedBy memento_cmp xs → length xs ≡ 0 → None ≡ last (set.from_list {R = memento_cmp} xs)
+unfolding last
+none_last [] up h = ap (least_by recency_cmp) (sym (items_in_order [] up))
+none_last (x ∷ xs) up h = absurd (omega arith)

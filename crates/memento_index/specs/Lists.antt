@@ -1,5 +1,5 @@
 -- The lists of an index.
-use Rattle.std.specs.Prelude.{◌≡◌, ℕ, ◌+◌, ◌≤◌, true, List, [], length, map, Option, Some, None, IfSome}
+use Rattle.std.specs.Prelude.{◌≡◌, ◌≢◌, ℕ, ◌+◌, ◌≤◌, true, List, [], length, map, Option, Some, None, IfSome}
 use Rattle.std.specs.Arc.{arc_value}
 use Rattle.std.specs.BTreeMap as tree
 use Rattle.std.specs.BTreeMap.{BTreeMap}
@@ -29,6 +29,10 @@ tally_in (Some t) = t.entries
 -- the mementos of an original with their counts
 abbrev pub tally_of : Lists → List ℕ → List Counted
 tally_of lists o = tally_in (tree.get text_cmp lists o)
+
+-- a list that is there has a memento
+abbrev pub IsListed : Option Tallied → Type 0
+IsListed t = IfSome t (λ t. t.entries ≢ [])
 
 -- the list stays as it is, with as much room at least, or is a new one of nothing
 abbrev pub Grows : Option Tallied → Option Tallied → Type 0
@@ -67,10 +71,12 @@ IsFirst entries (Each steps) = Unit {0}
 abbrev pub AreFirst : Lists → StepLists → Type 0
 AreFirst lists all = (o : List ℕ) → IfSome (tree.get text_cmp all o) (IsFirst (tally_of lists o))
 
--- each memento of an original stands in its list with the number of archives that show it
+-- each memento of an original stands in its list with the number of archives that show it, and an original of which
+-- nothing is shown has no list
 pub record IsCounted (x : Entries) (lists : Lists) : Type 0 where
   pub tally : (o : List ℕ) → IsTally (tally_of lists o)
   pub counts : (o : List ℕ) (m : Memento) → count_of (tally_of lists o) m ≡ showing x o m
+  pub listed : (o : List ℕ) → IsListed (tree.get text_cmp lists o)
 
 -- the list has room for the steps, and so has what is lifted off it; a first list wants none, and takes an empty one's
 -- place

@@ -1,17 +1,21 @@
 //! A state with the list of each original at hand.
-ghost use Rattle.std.specs.Prelude.{◌≡◌, ◌++◌, List, OnOk, OnErr, IfOk, option_copied};
+ghost use Rattle.std.specs.Prelude.{◌≡◌, ◌≤◌, ◌++◌, ℕ, List, OnOk, OnErr, IfOk, None, option_copied};
+ghost use Rattle.std.specs.BTreeMap as tree;
+ghost use Rattle.std.specs.FinMap as map;
+ghost use Rattle.memento_time.specs.Mementos.{text_cmp};
 ghost use Rattle.memento_sets.specs.Sets as set;
 ghost use Rattle.harvest_lattice.specs.Lattice.{join};
 ghost use Rattle.harvest_lattice.specs.Knowledge.{Harvested, lat, shown, shown_of};
 ghost use Rattle.memento_index.specs.Choice.{nearest, last};
+ghost use Rattle.memento_index.specs.Lists.{Grows, AreFirst, HaveRoom};
 
 use crate::gather::gather_steps;
 use crate::last::last_of;
-use crate::lists::{Lists, make_rooms, recount_all};
+use crate::lists::{Lists, StepLists, drop_empty, make_rooms, recount_all};
 use crate::merge::Merge;
 use crate::nearest::nearest_of;
 use crate::tally::Tally;
-use harvest_lattice::State;
+use harvest_lattice::{Changes, State};
 use memento_time::{Memento, Moment, NoMemory, Original};
 use std::alloc::Global;
 use std::collections::BTreeMap;
@@ -41,7 +45,6 @@ impl Model for Index {
 }
 
 impl Index {
-    ghost use Rattle.std.specs.FinMap as map;
     ghost use Rattle.memento_index.specs.Merges.{adds_of};
 
     /// The index of no harvests. Takes no memory.
@@ -70,12 +73,25 @@ impl Index {
     {
         let changes = merge.changes(&self.state)?;
         let steps = gather_steps(self.alloc, &self.state, &self.lists, &changes)?;
-        let keys = self.state.len();
         let mut lifted = Tally::new(self.alloc);
-        make_rooms(&mut self.lists, &mut lifted, self.alloc, &steps, keys)?;
-        self.state.put(changes)?;
-        recount_all(&mut self.lists, &mut lifted, steps);
-        Ok(())
+        let taken = put_with_room(
+            &mut self.state,
+            &mut self.lists,
+            &mut lifted,
+            self.alloc,
+            changes,
+            &steps,
+        );
+        match taken {
+            Ok(()) => {
+                recount_all(&mut self.lists, &mut lifted, steps);
+                Ok(())
+            }
+            Err(refused) => {
+                drop_empty(&mut self.lists, &steps);
+                Err(refused)
+            }
+        }
     }
 
     /// The mementos that are shown of an original, each once, by datetime, then by URI.
@@ -121,4 +137,29 @@ impl Index {
     {
         &self.state
     }
+}
+
+// Makes the room for the steps, and has the state take the changes. Where memory is refused, the state is as it was, and
+// empty lists may have been made.
+fn put_with_room(
+    state: &mut State,
+    lists: &mut Lists,
+    lifted: &mut Tally,
+    alloc: Global,
+    changes: Changes,
+    steps: &StepLists,
+) -> Result<(), NoMemory>
+    requires { AreFirst lists.old steps.now }
+    ensures ok { OnOk result (state.new ≡ join state.old changes) }
+    ensures err { OnErr result (state.new ≡ state.old) }
+    ensures grow { (o : List ℕ) → Grows (tree.get text_cmp lists.old o) (tree.get text_cmp lists.new o) }
+    ensures others { (o : List ℕ) → tree.get text_cmp steps.now o ≡ None
+        → tree.get text_cmp lists.new o ≡ tree.get text_cmp lists.old o }
+    ensures lifted { lifted.new.entries ≡ lifted.old.entries }
+    ensures made { OnOk result (HaveRoom (map.len state.old) steps.now lists.new lifted.new.room) }
+    ensures few { OnOk result (map.len state.old ≤ 18446744073709551615) }
+{
+    let keys = state.len();
+    make_rooms(lists, lifted, alloc, steps, keys)?;
+    state.put(changes)
 }

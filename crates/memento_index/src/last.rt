@@ -1,27 +1,42 @@
-// The last memento of a list.
-ghost use Rattle.std.specs.Prelude.{◌≡◌, option_copied};
-ghost use Rattle.memento_index.specs.Choice.{recency_cmp, least_by};
+//! The last memento of a list, by binary search.
+ghost use Rattle.std.specs.Prelude.{◌≡◌, ◌+◌, ◌^◌, ◌<◌, ◌≤◌, ℕ, IfSome, length, slice_get, option_copied};
+ghost use Rattle.std.specs.Option.{option_and_then};
+ghost use Rattle.std.specs.List.Sorted.{IsStrictlySortedBy};
+ghost use Rattle.memento_time.specs.Mementos.{memento_cmp};
+ghost use Rattle.memento_sets.specs.Sets as set;
+ghost use Rattle.memento_index.specs.Choice.{last};
 
+use crate::nearest::first_from;
+use crate::probed::Probed;
 use memento_time::Memento;
-use std::cmp::Ordering;
 
-fn by_recency(left: &Memento, right: &Memento) -> Ordering
-    ensures { result ≡ recency_cmp left.now right.now }
+/// The place of the memento of the greatest datetime, there that with the least URI. None where the list is empty.
+///
+/// Sees the list by its datetimes alone: at most as many as its length has binary digits, and 1.
+pub fn last_in(list: &mut Probed<'_>) -> Option<usize>
+    requires in_order { IsStrictlySortedBy memento_cmp list.old.list }
+    requires few { list.old.probes ≤ 1000000000 }
+    ensures within { IfSome result (λ k. k < length list.old.list) }
+    ensures last { option_and_then (slice_get list.old.list) result ≡ last (set.from_list list.old.list) }
+    ensures same { list.new.list ≡ list.old.list }
+    ensures few { (digits : ℕ) → length list.old.list < 2 ^ digits
+        → list.new.probes ≤ list.old.probes + (digits + 1) }
 {
-    let moments = right.at.cmp(&left.at);
-    moments.then(left.uri.cmp(&right.uri))
+    let len = list.len();
+    if len == 0 {
+        return None;
+    }
+    let greatest = list.at(len - 1);
+    Some(first_from(list, len - 1, greatest))
 }
 
-// The one of the greatest datetime, there that with the least URI.
+// The memento of the greatest datetime, there that with the least URI.
 pub fn last_of(list: &[Memento]) -> Option<&Memento>
-    ensures { option_copied result ≡ least_by recency_cmp list.now }
+    requires { IsStrictlySortedBy memento_cmp list.now }
+    ensures { option_copied result ≡ last (set.from_list list.now) }
 {
-    let (first, rest) = list.split_first()?;
-    let mut last = first;
-    for memento in rest {
-        if by_recency(last, memento).is_gt() {
-            last = memento;
-        }
+    match last_in(&mut Probed::new(list)) {
+        Some(place) => Some(&list[place]),
+        None => None,
     }
-    Some(last)
 }

@@ -19,6 +19,7 @@ mod steps;
 mod tally;
 
 pub use index::Index;
+pub use last::last_in;
 pub use laws::{distances_are_between, one_is_last, one_is_nearest};
 pub use merge::Merge;
 pub use nearest::nearest_in;

@@ -113,10 +113,8 @@ fn count_each(alloc: Global, mementos: &[Memento], more: usize) -> Result<Tally,
     ensures { IfOk result (λ tally. tally.entries ≡ each_once mementos.now) }
 {
     let mut tally = Tally::new(alloc);
-    let Some(most) = mementos.len().checked_add(more) else {
-        return Err(NoMemory);
-    };
-    tally.reserve(most)?;
+    // No allocator grants the greatest usize.
+    tally.reserve(mementos.len().saturating_add(more))?;
     for memento in mementos {
         let memento = memento.try_clone()?;
         tally.push(Counted { memento, count: 1 });

@@ -1,11 +1,12 @@
 // The lists of an index.
-ghost use Rattle.std.specs.Prelude.{◌≡◌, ◌+◌, ◌≤◌, ℕ, List, [], true, false, IfOk, IfSome, IsSome, OnOk, length};
+ghost use Rattle.std.specs.Prelude.{◌≡◌, ◌↔◌, ◌+◌, ◌≤◌, ℕ, List, [], true, false, IsTrue, IfOk, IfSome, IsSome, OnOk, None};
+ghost use Rattle.std.specs.Prelude.{length};
 ghost use Rattle.std.specs.BTreeMap as tree;
 ghost use Rattle.std.specs.Ordering.{eq_by_cmp};
 ghost use Rattle.memento_time.specs.Mementos.{text_cmp};
 ghost use Rattle.memento_index.specs.Counts.{IsTally, IsRecounted};
-ghost use Rattle.memento_index.specs.Lists.{Grows, tally_of, steps_in, steps_of, IsFirst, AreFirst, HasRoom, HaveRoom};
-ghost use Rattle.memento_index.specs.Lists.{CanCount};
+ghost use Rattle.memento_index.specs.Lists.{IsListed, Grows, tally_of, steps_in, steps_of, IsFirst, AreFirst, HasRoom};
+ghost use Rattle.memento_index.specs.Lists.{HaveRoom, CanCount};
 
 use crate::counted::Steps;
 use crate::listing::Listing;
@@ -20,7 +21,8 @@ pub type Lists = BTreeMap<Original, Listing>;
 pub type StepLists = BTreeMap<Original, Steps>;
 
 // Makes room in the list of each original for its steps, and room to lift the longest of these lists. What comes first
-// wants an empty list, and no room. No count of the keys and the steps is too large.
+// wants an empty list, and no room. No count of the keys and the steps is too large. Where memory is refused, empty lists
+// may have been made.
 pub fn make_rooms(
     lists: &mut Lists,
     lifted: &mut Tally,
@@ -30,6 +32,8 @@ pub fn make_rooms(
 ) -> Result<(), NoMemory>
     requires first { AreFirst lists.old all.now }
     ensures grow { (o : List ℕ) → Grows (tree.get text_cmp lists.old o) (tree.get text_cmp lists.new o) }
+    ensures others { (o : List ℕ) → tree.get text_cmp all.now o ≡ None
+        → tree.get text_cmp lists.new o ≡ tree.get text_cmp lists.old o }
     ensures lifted { lifted.new.entries ≡ lifted.old.entries }
     ensures made { OnOk result (HaveRoom keys all.now lists.new lifted.new.room) }
 {
@@ -48,6 +52,8 @@ fn make_room(
     keys: usize,
 ) -> Result<(), NoMemory>
     ensures grow { (o : List ℕ) → Grows (tree.get text_cmp lists.old o) (tree.get text_cmp lists.new o) }
+    ensures others { (o : List ℕ) → eq_by_cmp text_cmp original.now o ≡ false
+        → tree.get text_cmp lists.new o ≡ tree.get text_cmp lists.old o }
     ensures lifted { lifted.new.entries ≡ lifted.old.entries }
     ensures lifted_room { lifted.old.room ≤ lifted.new.room }
     ensures made { OnOk result (IsFirst (tally_of lists.old original.now) steps.now
@@ -69,6 +75,8 @@ fn make_room(
 // Gives an original an empty list where it has none.
 fn make_list(lists: &mut Lists, alloc: Global, original: &Original) -> Result<(), NoMemory>
     ensures grow { (o : List ℕ) → Grows (tree.get text_cmp lists.old o) (tree.get text_cmp lists.new o) }
+    ensures others { (o : List ℕ) → eq_by_cmp text_cmp original.now o ≡ false
+        → tree.get text_cmp lists.new o ≡ tree.get text_cmp lists.old o }
     ensures made { OnOk result (IsSome (tree.get text_cmp lists.new original.now)) }
 {
     if !lists.contains_key(original) {
@@ -81,6 +89,8 @@ fn make_list(lists: &mut Lists, alloc: Global, original: &Original) -> Result<()
 // Makes room in the list of an original, and gives the length that it may then have.
 fn reserve(lists: &mut Lists, original: &Original, more: usize) -> Result<usize, NoMemory>
     ensures grow { (o : List ℕ) → Grows (tree.get text_cmp lists.old o) (tree.get text_cmp lists.new o) }
+    ensures others { (o : List ℕ) → eq_by_cmp text_cmp original.now o ≡ false
+        → tree.get text_cmp lists.new o ≡ tree.get text_cmp lists.old o }
     ensures made { IfOk result
         (λ most. IfSome (tree.get text_cmp lists.new original.now)
         (λ t. (most ≡ length t.entries + more) × (most ≤ t.room))) }
@@ -91,13 +101,48 @@ fn reserve(lists: &mut Lists, original: &Original, more: usize) -> Result<usize,
     }
 }
 
+// Drops the lists of these originals that are empty. Takes no memory.
+pub fn drop_empty(lists: &mut Lists, all: &StepLists)
+    ensures gone { (o : List ℕ) → IsSome (tree.get text_cmp all.now o) → IsListed (tree.get text_cmp lists.new o) }
+    ensures tallies { (o : List ℕ) → tally_of lists.new o ≡ tally_of lists.old o }
+    ensures listed { (o : List ℕ) → IsListed (tree.get text_cmp lists.old o)
+        → tree.get text_cmp lists.new o ≡ tree.get text_cmp lists.old o }
+{
+    for original in all.keys() {
+        drop_if_empty(lists, original);
+    }
+}
+
+fn drop_if_empty(lists: &mut Lists, original: &Original)
+    ensures gone { IsListed (tree.get text_cmp lists.new original.now) }
+    ensures tallies { (o : List ℕ) → tally_of lists.new o ≡ tally_of lists.old o }
+    ensures listed { (o : List ℕ) → IsListed (tree.get text_cmp lists.old o)
+        → tree.get text_cmp lists.new o ≡ tree.get text_cmp lists.old o }
+{
+    if is_empty_at(lists, original) {
+        lists.remove(original);
+    }
+}
+
+// Whether an original has a list, and nothing is in it.
+fn is_empty_at(lists: &Lists, original: &Original) -> bool
+    ensures { IsTrue result ↔ ¬ (IsListed (tree.get text_cmp lists.now original.now)) }
+{
+    match lists.get(original) {
+        Some(list) => list.mementos().is_empty(),
+        None => false,
+    }
+}
+
 // Counts the steps of each original in its list, and drops the lists that become empty.
 pub fn recount_all(lists: &mut Lists, lifted: &mut Tally, all: StepLists)
     requires tally { (o : List ℕ) → IsTally (tally_of lists.old o) }
     requires can { (o : List ℕ) → CanCount (tally_of lists.old o) (steps_of all o) }
     requires room { HaveRoom 0 all lists.old lifted.old.room }
     requires settled { lifted.old.entries ≡ [] }
-    ensures { (o : List ℕ) → IsRecounted (tally_of lists.old o) (steps_of all o) (tally_of lists.new o) }
+    requires listed { (o : List ℕ) → tree.get text_cmp all o ≡ None → IsListed (tree.get text_cmp lists.old o) }
+    ensures recounted { (o : List ℕ) → IsRecounted (tally_of lists.old o) (steps_of all o) (tally_of lists.new o) }
+    ensures listed { (o : List ℕ) → IsListed (tree.get text_cmp lists.new o) }
 {
     for entry in all {
         let (original, steps) = entry;
@@ -116,6 +161,7 @@ fn recount_list(lists: &mut Lists, lifted: &mut Tally, original: &Original, step
         → tree.get text_cmp lists.new o ≡ tree.get text_cmp lists.old o }
     ensures settled { lifted.new.entries ≡ [] }
     ensures lifted_room { lifted.old.room ≤ lifted.new.room }
+    ensures listed { IsListed (tree.get text_cmp lists.new original.now) }
 {
     if recount_in_place(lists, lifted, original, steps) {
         lists.remove(original);
@@ -140,6 +186,7 @@ fn recount_in_place(
     ensures settled { lifted.new.entries ≡ [] }
     ensures lifted_room { lifted.old.room ≤ lifted.new.room }
     ensures empty { result ≡ true → tally_of lists.new original.now ≡ [] }
+    ensures listed { result ≡ false → IsListed (tree.get text_cmp lists.new original.now) }
 {
     match lists.get_mut(original) {
         Some(list) => {

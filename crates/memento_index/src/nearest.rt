@@ -12,7 +12,7 @@ use crate::probed::Probed;
 use memento_time::{Memento, Moment};
 
 // The first place below the end whose datetime isn't before the moment, or else the end.
-fn first_from(list: &mut Probed<'_>, end: usize, moment: Moment) -> usize
+pub fn first_from(list: &mut Probed<'_>, end: usize, moment: Moment) -> usize
     requires in_order { IsNonDecreasing (datetimes list.old.list) }
     requires in_range { end ≤ length list.old.list }
     requires few { list.old.probes ≤ 2000000000 }

@@ -58,10 +58,7 @@ impl Tally {
     {
         self.mementos.reserve(more)?;
         self.counts.reserve(more)?;
-        let Some(most) = self.mementos.len().checked_add(more) else {
-            return Err(NoMemory);
-        };
-        Ok(most)
+        Ok(self.mementos.len() + more)
     }
 
     // Adds a memento at the end, in the room that there is.

@@ -1,26 +1,22 @@
-use Rattle.std.proofs.Common.{◌≡◌, Some, cond, take_all, List, sym, ap, ◌∙◌}
-use Rattle.std.specs.Ordering.{is_gt}
+use Rattle.std.proofs.Common.{◌≡◌, ◌<◌, List, length, Some, None, sym, ap, subst, ◌∙◌}
+use Rattle.std.specs.Prelude.{slice_get}
+use Rattle.std.proofs.lemmas.Option.{slice_get-get_or}
 use Rattle.memento_time.specs.declared.mementos.Memento.{Memento}
-use Rattle.memento_sets.specs.Maps.{join_values}
-use Rattle.memento_index.specs.Choice.{recency_cmp, least_by}
-use Rattle.memento_index.proofs.Choice.{recency_total, rest_turn}
+use Rattle.memento_sets.specs.Sets as set
+use Rattle.memento_index.specs.Choice.{last}
+use Rattle.memento_index.specs.Probes.{Lent}
 use Rattle.memento_index.proofs.last.last_of.Goals as goal
-use Rattle.memento_index.proofs.last.last_of.Goals.{then-is_gt, else-is_gt}
 
-pub loop-memento-preserved : goal.loop-memento-preserved
-loop-memento-preserved c =
-    let best = c.loop-memento.last.now in
-    let item : Memento = c.memento-item.result in
-    let test = sym (ap is_gt c.by_recency.ensures) ∙ sym c.is_gt.ensures in
-    let step : cond (is_gt (recency_cmp best item)) item best ≡ c.if-is_gt.last.now = elim c.if-is_gt.branch [
-      | then-is_gt w ↦ ap (λ b. cond b item best) (test ∙ w.if-is_gt.true) ∙ sym (ap (λ r. r.now) w.last-is)
-      | else-is_gt w ↦ ap (λ b. cond b item best) (test ∙ w.if-is_gt.false) ∙ sym (ap (λ r. r.now) w.last-is)
-    ] in
-    rest_turn recency_cmp recency_total _ best _ c.loop-memento.memento-index item c.loop-memento-test.true c.memento-item.is c.loop-memento.invariant ∙ ap Some step
+pub returns-in-Some : goal.returns-in-Some
+returns-in-Some c =
+    let list = c.args.list.now in
+    let place = c.in-Some.place in
+    let its : c.new.result.list ≡ list = ap (λ (l : Lent). l.list) c.new.ensures in
+    let is : slice_get list place ≡ last (set.from_list list) = subst (λ (ms : List Memento). slice_get ms place ≡ last (set.from_list ms)) its c.in-Some.ensures.last in
+    let lt : place < length list = subst (λ (ms : List Memento). place < length ms) its c.in-Some.ensures.within in
+    ap (λ (m : Memento). Some m) c.index-list-place.is ∙ (sym (slice_get-get_or list place c.index-list-place.result lt) ∙ is)
 
-pub returns : goal.returns
-returns c =
-    let all = take_all c.loop-memento.memento-index c.in_ok-first.rest.now c.loop-memento-test.false in
-    sym c.loop-memento.invariant
-    ∙ (ap (λ (xs : List Memento). join_values (λ a b. cond (is_gt (recency_cmp a b)) b a) (Some c.in_ok-first.first.now) (least_by recency_cmp xs)) all
-    ∙ ap (least_by recency_cmp) (sym c.in_ok-first.ensures.cases.0))
+pub returns-in-None : goal.returns-in-None
+returns-in-None c =
+    let its : c.new.result.list ≡ c.args.list.now = ap (λ (l : Lent). l.list) c.new.ensures in
+    subst (λ (ms : List Memento). None ≡ last (set.from_list ms)) its c.in-None.ensures.last

@@ -11,5 +11,4 @@ returns-clause-made c =
     let alike = c.self.invariant in
     let same : length ms.items ≡ length ns.items = omega (arith, ms.ok.0, ns.ok.0, first, second, alike) in
     let long = length-beside ms.items ns.items same in
-    let is = c.in-Some.ensures.1 in
-    (omega (arith, is, c.len.ensures, long, ms.ok.0), omega (arith, is, c.len.ensures, c.in_ok-reserve.ensures.ok, c.in_ok-reserve-2.ensures.ok, first, second, alike))
+    (omega (arith, c.len.ensures, long, ms.ok.0), omega (arith, c.len.ensures, c.in_ok-reserve.ensures.ok, c.in_ok-reserve-2.ensures.ok, first, second, alike))
