@@ -1,0 +1,337 @@
+-- After a run, incarnations and merges are those that the accepted events count.
+use Rattle.std.proofs.Common.{◌≡◌, ℕ, ◌+◌, ◌≤◌, ◌⊎◌, true, false, cond, arith, List, [], ◌∷◌, ◌++◌, length, Option, Some, Ok, zip, refl, sym, ap, subst, ◌∙◌, append_assoc, append-nil, inl, inr}
+use Rattle.std.specs.Prelude.{Bool, ◌==◌, ◌&&◌}
+use Rattle.std.specs.Result.{is_ok}
+use Rattle.std.proofs.lemmas.Bool.{eqb-true, eq-eqb, false_from_ne_true}
+use Rattle.std.proofs.lemmas.List.{length_push}
+use Rattle.std.proofs.lemmas.List.Sums.{sum_by_push}
+use Rattle.harvest_lattice.specs.Knowledge.{adds}
+use Rattle.memento_index.specs.declared.merge.Merge.TheVariants as merge
+use Rattle.replica_exchange.specs.declared.cursor.Cursor.{Cursor}
+use Rattle.replica_exchange.specs.CursorRule.{delta_from}
+use Rattle.replica_exchange.specs.Stamps.{StampedState, IsStamped}
+use Rattle.replica_events.specs.declared.event.Event.{Event}
+use Rattle.replica_events.specs.declared.event.Event.TheVariants.{Take, Send, SendFrom, Deliver, Receive, Restart, Ask}
+use Rattle.replica_events.specs.declared.event.Said.TheVariants.{Taken, Sent, Joined, Restarted}
+use Rattle.replica_events.specs.World.{World, Replica, Message, Answer, Course, Run, numbered, replica, message, with_replica, with_message, taking, joining, sent_by, fresh, start, restarting}
+use Rattle.replica_events.specs.History.{Happened, History, NoRestart, history_of, sender_of}
+use Rattle.replica_events.specs.Cursors.{GoesOn}
+use Rattle.replica_events.specs.Incarnations.{is_restart, is_merge_of, restarts, merges_of, IsIn, first, restarted, WasSentIn}
+use Rattle.replica_events.proofs.Numbers.{IsPlaced, replica_placed, messages_stay, last_stays, Pushed, pushed}
+use Rattle.replica_events.proofs.Moments.{at_first, no_message_at_first, course_good}
+use Rattle.replica_events.proofs.Histories.{IsRestart, grows, no_restart_yet, no_restart_push}
+use Rattle.replica_events.proofs.Changes as change
+use Rattle.replica_events.proofs.Changes.{IsIdle, idle_not_restarted, Change, step_changes}
+
+-- ---- one event more
+
+-- what the event counts for
+abbrev restart_of : Event → Answer → ℕ
+restart_of event answer = cond (is_restart event && is_ok answer) 1 0
+
+abbrev merge_of : ℕ → Event → Answer → ℕ
+merge_of i event answer = cond (is_merge_of i event && is_ok answer) 1 0
+
+restarts_push : (history : History) (event : Event) (answer : Answer) → restarts (history ++ (event, answer) ∷ []) ≡ restarts history + restart_of event answer
+restarts_push history event answer = sum_by_push (λ (x : Happened). cond (is_restart x.0 && is_ok x.1) 1 0) history (event, answer)
+
+merges_push : (i : ℕ) (history : History) (event : Event) (answer : Answer) → merges_of i (history ++ (event, answer) ∷ []) ≡ merges_of i history + merge_of i event answer
+merges_push i history event answer = sum_by_push (λ (x : Happened). cond (is_merge_of i x.0 && is_ok x.1) 1 0) history (event, answer)
+
+is_in_still : (count : ℕ) (history : History) (event : Event) (answer : Answer) (i incarnation merges : ℕ) → IsIn count history i incarnation merges → ¬ IsRestart event answer i
+    → IsIn count (history ++ (event, answer) ∷ []) i incarnation (merges + merge_of i event answer)
+is_in_still count history event answer i incarnation merges (first none number so_often) other =
+    first (no_restart_push history event answer i none other) number (ap (λ (n : ℕ). n + merge_of i event answer) so_often ∙ sym (merges_push i history event answer))
+is_in_still count history event answer i incarnation merges (restarted before after is none number so_often) other =
+    restarted before (after ++ (event, answer) ∷ []) (grows history before after (Restart i, Ok Restarted) (event, answer) is) (no_restart_push after event answer i none other) number
+    (ap (λ (n : ℕ). n + merge_of i event answer) so_often ∙ sym (merges_push i after event answer))
+
+is_in_new : (count : ℕ) (history : History) (i : ℕ) → IsIn count (history ++ (Restart i, Ok Restarted) ∷ []) i (count + restarts history + 1) 0
+is_in_new count history i = restarted history [] refl (no_restart_yet i) refl refl
+
+sent_still : (count : ℕ) (history : History) (event : Event) (answer : Answer) (sender number incarnation merges : ℕ) → WasSentIn count history sender number incarnation merges
+    → WasSentIn count (history ++ (event, answer) ∷ []) sender number incarnation merges
+sent_still count history event answer sender number incarnation merges s = record {
+  sending = s.sending;
+  sends = s.sends;
+  before = s.before;
+  after = s.after ++ (event, answer) ∷ [];
+  sent = grows history s.before s.after (s.sending, Ok (Sent number)) (event, answer) s.sent;
+  was_in = s.was_in;
+}
+
+-- an event counts for the replica that merges by it, and for no other
+counted : (i : ℕ) → cond {A = ℕ} ((i == i) && true) 1 0 ≡ 1
+counted i = ap (λ (b : Bool). cond {A = ℕ} (b && true) 1 0) (eq-eqb i i refl)
+
+not_counted : (i j : ℕ) → ¬ (j ≡ i) → cond {A = ℕ} ((i == j) && true) 1 0 ≡ 0
+not_counted i j other = ap (λ (b : Bool). cond {A = ℕ} (b && true) 1 0) (false_from_ne_true (i == j) (λ same. other (sym (eqb-true i j same))))
+
+refused_counts : (b : Bool) → cond {A = ℕ} (b && false) 1 0 ≡ 0
+refused_counts true = refl
+refused_counts false = refl
+
+idle_restarts : (event : Event) (answer : Answer) → IsIdle event answer → restart_of event answer ≡ 0
+idle_restarts event answer (inl (why, answer_is)) = ap (restart_of event) answer_is ∙ refused_counts (is_restart event)
+idle_restarts event answer (inr (i, q, reply, event_is, answer_is)) = ap (λ (e : Event). restart_of e answer) event_is
+
+idle_merges : (event : Event) (answer : Answer) → IsIdle event answer → (i : ℕ) → merge_of i event answer ≡ 0
+idle_merges event answer (inl (why, answer_is)) i = ap (merge_of i event) answer_is ∙ refused_counts (is_merge_of i event)
+idle_merges event answer (inr (j, q, reply, event_is, answer_is)) i = ap (λ (e : Event). merge_of i e answer) event_is
+
+-- ---- worlds
+
+-- the world's numbers are those of the history
+record Counts (count : ℕ) (history : History) (w : World) : Type 0 where
+  pub last : w.last ≡ count + restarts history
+  pub replicas : (i : ℕ) (r : Replica) → replica w i ≡ Some r → IsIn count history i r.incarnation (length r.merges)
+  pub messages : (k : ℕ) (m : Message) → message w k ≡ Some m → WasSentIn count history m.sender k m.delta.incarnation m.delta.end
+
+module _ (count : ℕ) (history : History) (w : World) (counts : Counts count history w) where
+  -- an event that is no restart, and by which each replica merges as often as it counts for
+  steady : (event : Event) (answer : Answer) (new : World) → new.last ≡ w.last → restart_of event answer ≡ 0 → ((i : ℕ) → ¬ IsRestart event answer i)
+      → ((i : ℕ) (s : Replica) → replica new i ≡ Some s → (r : Replica) × (replica w i ≡ Some r) × (s.incarnation ≡ r.incarnation) × (length s.merges ≡ length r.merges + merge_of i event answer))
+      → ((k : ℕ) (m : Message) → message new k ≡ Some m → (message w k ≡ Some m) ⊎ WasSentIn count (history ++ (event, answer) ∷ []) m.sender k m.delta.incarnation m.delta.end)
+      → Counts count (history ++ (event, answer) ∷ []) new
+  steady event answer new last none other replicas messages = record {
+    last = let pushed_is = restarts_push history event answer in let was = counts.last in omega (arith, pushed_is, was, last, none);
+    replicas = λ i s there.
+        let was = replicas i s there in
+        let still = is_in_still count history event answer i was.0.incarnation (length was.0.merges) (counts.replicas i was.0 was.1) (other i) in
+        subst (λ (n : ℕ). IsIn count (history ++ (event, answer) ∷ []) i n (length s.merges)) (sym was.2)
+        (subst (IsIn count (history ++ (event, answer) ∷ []) i was.0.incarnation) (sym was.3) still);
+    messages = λ k m found. sent_or_still k m (messages k m found);
+  }
+    where
+      sent_or_still : (k : ℕ) (m : Message) → (message w k ≡ Some m) ⊎ WasSentIn count (history ++ (event, answer) ∷ []) m.sender k m.delta.incarnation m.delta.end
+          → WasSentIn count (history ++ (event, answer) ∷ []) m.sender k m.delta.incarnation m.delta.end
+      sent_or_still k m (inl before) = sent_still count history event answer m.sender k m.delta.incarnation m.delta.end (counts.messages k m before)
+      sent_or_still k m (inr now) = now
+
+  -- a replica merges once
+  merges_once : (event : Event) (answer : Answer) (i : ℕ) (r next : Replica) → replica w i ≡ Some r → next.incarnation ≡ r.incarnation → length next.merges ≡ length r.merges + 1
+      → restart_of event answer ≡ 0 → ((j : ℕ) → ¬ IsRestart event answer j) → merge_of i event answer ≡ 1 → ((j : ℕ) → ¬ (j ≡ i) → merge_of j event answer ≡ 0)
+      → Counts count (history ++ (event, answer) ∷ []) (with_replica w i next)
+  merges_once event answer i r next there own more none no_restart here elsewhere =
+      steady event answer (with_replica w i next) (last_stays w i next) none no_restart
+      (λ j s is. at j s (replica_placed w i r next j s there is))
+      (λ k m found. inl (subst (λ (ms : List Message). numbered ms k ≡ Some m) (messages_stay w i next) found))
+    where
+      at : (j : ℕ) (s : Replica) → IsPlaced w i next j s → (t : Replica) × (replica w j ≡ Some t) × (s.incarnation ≡ t.incarnation) × (length s.merges ≡ length t.merges + merge_of j event answer)
+      at j s (inl (same, is)) =
+          let here_too : merge_of j event answer ≡ 1 = ap (λ (j : ℕ). merge_of j event answer) same ∙ here in
+          let merges : length s.merges ≡ length next.merges = ap (λ (s : Replica). length s.merges) is in
+          (r, ap (replica w) same ∙ there, ap (λ (s : Replica). s.incarnation) is ∙ own, omega (arith, here_too, merges, more))
+      at j s (inr (other, found)) = let none_here = elsewhere j other in (s, found, refl, omega (arith, none_here))
+
+  -- an event by which no replica merges, and none restarts
+  no_merge : (event : Event) (answer : Answer) (new : World) → new.last ≡ w.last → new.replicas ≡ w.replicas → restart_of event answer ≡ 0 → ((j : ℕ) → ¬ IsRestart event answer j)
+      → ((j : ℕ) → merge_of j event answer ≡ 0)
+      → ((k : ℕ) (m : Message) → message new k ≡ Some m → (message w k ≡ Some m) ⊎ WasSentIn count (history ++ (event, answer) ∷ []) m.sender k m.delta.incarnation m.delta.end)
+      → Counts count (history ++ (event, answer) ∷ []) new
+  no_merge event answer new last replicas none no_restart no_merges messages =
+      steady event answer new last none no_restart
+      (λ j s is. let idle = no_merges j in (s, subst (λ (rs : List Replica). numbered rs j ≡ Some s) replicas is, refl, omega (arith, idle)))
+      messages
+
+  restarts_once : (i : ℕ) (r : Replica) → replica w i ≡ Some r → Counts count (history ++ (Restart i, Ok Restarted) ∷ []) (restarting w i)
+  restarts_once i r there = record {
+    last = let more = restarts_push history (Restart i) (Ok Restarted) in let was = counts.last in omega (arith, more, was);
+    replicas = λ j s is. at j s (replica_placed w i r (fresh (w.last + 1)) j s there is);
+    messages = λ k m found.
+        sent_still count history (Restart i) (Ok Restarted) m.sender k m.delta.incarnation m.delta.end
+        (counts.messages k m (subst (λ (ms : List Message). numbered ms k ≡ Some m) (messages_stay w i (fresh (w.last + 1))) found));
+  }
+    where
+      at : (j : ℕ) (s : Replica) → IsPlaced w i (fresh (w.last + 1)) j s → IsIn count (history ++ (Restart i, Ok Restarted) ∷ []) j s.incarnation (length s.merges)
+      at j s (inl (same, is)) =
+          subst (λ (s : Replica). IsIn count (history ++ (Restart i, Ok Restarted) ∷ []) j s.incarnation (length s.merges)) (sym is)
+          (subst (λ (j : ℕ). IsIn count (history ++ (Restart i, Ok Restarted) ∷ []) j (w.last + 1) 0) (sym same)
+          (subst (λ (n : ℕ). IsIn count (history ++ (Restart i, Ok Restarted) ∷ []) i (n + 1) 0) (sym counts.last) (is_in_new count history i)))
+      at j s (inr (other, found)) =
+          let still = is_in_still count history (Restart i) (Ok Restarted) j s.incarnation (length s.merges) (counts.replicas j s found) (λ restarts. let event_is = restarts.0 in other (cc)) in
+          subst (IsIn count (history ++ (Restart i, Ok Restarted) ∷ []) j s.incarnation) (omega arith) still
+
+  sends_once : (event : Event) (i : ℕ) (r : Replica) (s : StampedState) (cursor : Option Cursor) → replica w i ≡ Some r → IsStamped r.merges s → s.incarnation ≡ r.incarnation
+      → sender_of event ≡ Some i → Counts count (history ++ (event, Ok (Sent (length w.messages + 1))) ∷ []) (with_message w (sent_by i r (delta_from s cursor)))
+  sends_once event i r s cursor there stamped own sends =
+      no_merge event answer (with_message w (sent_by i r (delta_from s cursor))) refl refl (no_restart_counted event sends) (λ j restarts. let other = restarts.1 in cc) (none_merged event sends)
+      (λ k m found. at k m (pushed w.messages (sent_by i r (delta_from s cursor)) k m found))
+    where
+      answer : Answer
+      answer = Ok (Sent (length w.messages + 1))
+
+      no_restart_counted : (event : Event) → sender_of event ≡ Some i → restart_of event answer ≡ 0
+      no_restart_counted (Send j) sends = refl
+      no_restart_counted (SendFrom j n) sends = refl
+      no_restart_counted (Take j h) sends = cc
+      no_restart_counted (Deliver j k) sends = cc
+      no_restart_counted (Receive j bytes) sends = cc
+      no_restart_counted (Restart j) sends = cc
+      no_restart_counted (Ask j q) sends = cc
+
+      none_merged : (event : Event) → sender_of event ≡ Some i → (j : ℕ) → merge_of j event answer ≡ 0
+      none_merged (Send j) sends _ = refl
+      none_merged (SendFrom j n) sends _ = refl
+      none_merged (Take j h) sends _ = cc
+      none_merged (Deliver j k) sends _ = cc
+      none_merged (Receive j bytes) sends _ = cc
+      none_merged (Restart j) sends _ = cc
+      none_merged (Ask j q) sends _ = cc
+
+      all : History
+      all = history ++ (event, answer) ∷ []
+
+      now : WasSentIn count all i (length w.messages + 1) s.incarnation s.number
+      now = record {
+        sending = event;
+        sends = sends;
+        before = history;
+        after = [];
+        sent = refl;
+        was_in =
+            subst (λ (n : ℕ). IsIn count history i n s.number) (sym own)
+            (subst (IsIn count history i r.incarnation) (sym stamped.number) (counts.replicas i r there));
+      }
+
+      at : (k : ℕ) (m : Message) → Pushed w.messages (sent_by i r (delta_from s cursor)) k m → (message w k ≡ Some m) ⊎ WasSentIn count all m.sender k m.delta.incarnation m.delta.end
+      at k m (inl (k_is, is)) =
+          inr (subst (λ (m : Message). WasSentIn count all m.sender k m.delta.incarnation m.delta.end) (sym is)
+          (subst (λ (k : ℕ). WasSentIn count all i k s.incarnation s.number) (sym k_is) now))
+      at k m (inr (few, found)) = inl found
+
+  change_counts : (event : Event) (answer : Answer) (new : World) → Change w event answer new → Counts count (history ++ (event, answer) ∷ []) new
+  change_counts event answer new (change.idle idle is) =
+      no_merge event answer new (ap (λ (w : World). w.last) is) (ap (λ (w : World). w.replicas) is) (idle_restarts event answer idle) (idle_not_restarted event answer idle)
+      (idle_merges event answer idle) (λ k m found. inl (subst (λ (w : World). message w k ≡ Some m) is found))
+  change_counts event answer new (change.took i h r there event_is answer_is is) =
+      subst (Counts count (history ++ (event, answer) ∷ [])) (sym is)
+      (subst (λ (x : Happened). Counts count (history ++ x ∷ []) (with_replica w i (taking r (h ∷ []) (merge.Harvest h)))) (λ j. (sym event_is j, sym answer_is j))
+      (merges_once (Take i h) (Ok Taken) i r (taking r (h ∷ []) (merge.Harvest h)) there refl (length_push r.merges (merge.Harvest h)) refl (λ j restarts. let other = restarts.1 in cc)
+      (counted i) (not_counted i)))
+  change_counts event answer new (change.received i bytes s r there event_is answer_is is) =
+      subst (Counts count (history ++ (event, answer) ∷ [])) (sym is)
+      (subst (λ (x : Happened). Counts count (history ++ x ∷ []) (with_replica w i (taking r (adds s) (merge.State s)))) (λ j. (sym event_is j, sym answer_is j))
+      (merges_once (Receive i bytes) (Ok Joined) i r (taking r (adds s) (merge.State s)) there refl (length_push r.merges (merge.State s)) refl (λ j restarts. let other = restarts.1 in cc)
+      (counted i) (not_counted i)))
+  change_counts event answer new (change.joined i k r m there found event_is answer_is is) =
+      subst (Counts count (history ++ (event, answer) ∷ [])) (sym is)
+      (subst (λ (x : Happened). Counts count (history ++ x ∷ []) (with_replica w i (joining r m))) (λ j. (sym event_is j, sym answer_is j))
+      (merges_once (Deliver i k) (Ok Joined) i r (joining r m) there refl (length_push r.merges (merge.State m.delta.state)) refl (λ j restarts. let other = restarts.1 in cc)
+      (counted i) (not_counted i)))
+  change_counts event answer new (change.sent i r s cursor there stamped own sends answer_is is) =
+      subst (Counts count (history ++ (event, answer) ∷ [])) (sym is)
+      (subst (λ (said : Answer). Counts count (history ++ (event, said) ∷ []) (with_message w (sent_by i r (delta_from s cursor)))) (sym answer_is)
+      (sends_once event i r s cursor there stamped own sends))
+  change_counts event answer new (change.restarted i r there event_is answer_is is) =
+      subst (Counts count (history ++ (event, answer) ∷ [])) (sym is)
+      (subst (λ (x : Happened). Counts count (history ++ x ∷ []) (restarting w i)) (λ j. (sym event_is j, sym answer_is j)) (restarts_once i r there))
+
+run_counts : (base : List ℕ) (count : ℕ) (history : History) (w : World) (events : List Event) (answers : List Answer) (end : World) → Counts count history w → Run base w events answers end
+    → Counts count (history ++ zip events answers) end
+run_counts base count history w [] [] end counts run = subst (Counts count (history ++ [])) (sym run) (subst (λ (l : History). Counts count l w) (sym (append-nil history)) counts)
+run_counts base count history w [] (answer ∷ answers) end counts run = absurd run
+run_counts base count history w (event ∷ events) [] end counts run = absurd run
+run_counts base count history w (event ∷ events) (answer ∷ answers) end counts run =
+    let next = change_counts count history w counts event answer run.0 (step_changes w base event answer run.0 run.1) in
+    subst (λ (l : History). Counts count l end) (append_assoc history ((event, answer) ∷ []) (zip events answers))
+    (run_counts base count (history ++ (event, answer) ∷ []) run.0 events answers end next run.2)
+
+start_counts : (count : ℕ) → Counts count [] (start count)
+start_counts count = record {
+  last = omega arith;
+  replicas = λ i r there.
+      subst (λ (r : Replica). IsIn count [] i r.incarnation (length r.merges)) (sym (at_first count i r there).0) (first (no_restart_yet i) refl refl);
+  messages = λ k m found. absurd (no_message_at_first count k m found);
+}
+
+course_counts : {base : List ℕ} (course : Course base) → Counts course.count (history_of course) course.world
+course_counts {base} course = run_counts base course.count [] (start course.count) course.events course.answers course.world (start_counts course.count) course.run
+
+pub replica_is_in : {base : List ℕ} (course : Course base) (i : ℕ) (r : Replica) → replica course.world i ≡ Some r → IsIn course.count (history_of course) i r.incarnation (length r.merges)
+replica_is_in course i r there = (course_counts course).replicas i r there
+
+pub message_was_sent_in : {base : List ℕ} (course : Course base) (k : ℕ) (m : Message) → message course.world k ≡ Some m
+    → WasSentIn course.count (history_of course) m.sender k m.delta.incarnation m.delta.end
+message_was_sent_in course k m found = (course_counts course).messages k m found
+
+-- ---- no incarnation twice
+
+-- a replica of this incarnation is the one of the number, which wasn't restarted since
+record IsOwn (i number : ℕ) (history : History) (w : World) : Type 0 where
+  pub born : number ≤ w.last
+  pub own : (j : ℕ) (r : Replica) → replica w j ≡ Some r → number ≡ r.incarnation → (i ≡ j) × NoRestart history i
+
+module _ (i number : ℕ) (history : History) (w : World) (owned : IsOwn i number history w) where
+  -- replicas keep their incarnations
+  own_still : (event : Event) (answer : Answer) (new : World) → new.last ≡ w.last → ((j : ℕ) → ¬ IsRestart event answer j)
+      → ((j : ℕ) (s : Replica) → replica new j ≡ Some s → (r : Replica) × (replica w j ≡ Some r) × (s.incarnation ≡ r.incarnation)) → IsOwn i number (history ++ (event, answer) ∷ []) new
+  own_still event answer new last no_restart replicas = record {
+    born = subst (λ (n : ℕ). number ≤ n) (sym last) owned.born;
+    own = λ j s there is.
+        let was = replicas j s there in
+        let before = owned.own j was.0 was.1 (is ∙ was.2) in
+        (before.0, no_restart_push history event answer i before.1 (no_restart i));
+  }
+
+  own_placed : (event : Event) (answer : Answer) (j : ℕ) (r next : Replica) → replica w j ≡ Some r → next.incarnation ≡ r.incarnation → ((j : ℕ) → ¬ IsRestart event answer j)
+      → IsOwn i number (history ++ (event, answer) ∷ []) (with_replica w j next)
+  own_placed event answer j r next there own no_restart = own_still event answer (with_replica w j next) (last_stays w j next) no_restart (λ k s is. at k s (replica_placed w j r next k s there is))
+    where
+      at : (k : ℕ) (s : Replica) → IsPlaced w j next k s → (t : Replica) × (replica w k ≡ Some t) × (s.incarnation ≡ t.incarnation)
+      at k s (inl (same, is)) = (r, ap (replica w) same ∙ there, ap (λ (s : Replica). s.incarnation) is ∙ own)
+      at k s (inr (other, found)) = (s, found, refl)
+
+  own_restarted : (j : ℕ) (r : Replica) → replica w j ≡ Some r → IsOwn i number (history ++ (Restart j, Ok Restarted) ∷ []) (restarting w j)
+  own_restarted j r there = record {
+    born = let below = owned.born in omega (arith, below);
+    own = λ k s is same. at k s same (replica_placed w j r (fresh (w.last + 1)) k s there is);
+  }
+    where
+      at : (k : ℕ) (s : Replica) → number ≡ s.incarnation → IsPlaced w j (fresh (w.last + 1)) k s → (i ≡ k) × NoRestart (history ++ (Restart j, Ok Restarted) ∷ []) i
+      at k s same (inl (_, is)) =
+          let late : number ≡ w.last + 1 = same ∙ ap (λ (s : Replica). s.incarnation) is in
+          let below = owned.born in
+          absurd (omega (arith, late, below))
+      at k s same (inr (other, found)) =
+          let before = owned.own k s found same in
+          (before.0, no_restart_push history (Restart j) (Ok Restarted) i before.1 (λ restarts. let event_is = restarts.0 in let i_is = before.0 in other (cc)))
+
+  change_own : (event : Event) (answer : Answer) (new : World) → Change w event answer new → IsOwn i number (history ++ (event, answer) ∷ []) new
+  change_own event answer new (change.idle idle is) =
+      own_still event answer new (ap (λ (w : World). w.last) is) (idle_not_restarted event answer idle) (λ j s there. (s, subst (λ (w : World). replica w j ≡ Some s) is there, refl))
+  change_own event answer new (change.took j h r there event_is answer_is is) =
+      subst (IsOwn i number (history ++ (event, answer) ∷ [])) (sym is)
+      (own_placed event answer j r (taking r (h ∷ []) (merge.Harvest h)) there refl (λ k restarts. let other = restarts.1 in cc))
+  change_own event answer new (change.received j bytes s r there event_is answer_is is) =
+      subst (IsOwn i number (history ++ (event, answer) ∷ [])) (sym is)
+      (own_placed event answer j r (taking r (adds s) (merge.State s)) there refl (λ k restarts. let other = restarts.1 in cc))
+  change_own event answer new (change.joined j k r m there found event_is answer_is is) =
+      subst (IsOwn i number (history ++ (event, answer) ∷ [])) (sym is)
+      (own_placed event answer j r (joining r m) there refl (λ k restarts. let other = restarts.1 in cc))
+  change_own event answer new (change.sent j r s cursor there stamped own sends answer_is is) =
+      own_still event answer new (ap (λ (w : World). w.last) is) (λ k restarts. let other = restarts.1 in cc)
+      (λ k t found. (t, subst (λ (rs : List Replica). numbered rs k ≡ Some t) (ap (λ (w : World). w.replicas) is) found, refl))
+  change_own event answer new (change.restarted j r there event_is answer_is is) =
+      subst (IsOwn i number (history ++ (event, answer) ∷ [])) (sym is)
+      (subst (λ (x : Happened). IsOwn i number (history ++ x ∷ []) (restarting w j)) (λ k. (sym event_is k, sym answer_is k)) (own_restarted j r there))
+
+run_own : (base : List ℕ) (i number : ℕ) (history : History) (w : World) (events : List Event) (answers : List Answer) (end : World) → IsOwn i number history w → Run base w events answers end
+    → IsOwn i number (history ++ zip events answers) end
+run_own base i number history w [] [] end owned run = subst (IsOwn i number (history ++ [])) (sym run) (subst (λ (l : History). IsOwn i number l w) (sym (append-nil history)) owned)
+run_own base i number history w [] (answer ∷ answers) end owned run = absurd run
+run_own base i number history w (event ∷ events) [] end owned run = absurd run
+run_own base i number history w (event ∷ events) (answer ∷ answers) end owned run =
+    let next = change_own i number history w owned event answer run.0 (step_changes w base event answer run.0 run.1) in
+    subst (λ (l : History). IsOwn i number l end) (append_assoc history ((event, answer) ∷ []) (zip events answers))
+    (run_own base i number (history ++ (event, answer) ∷ []) run.0 events answers end next run.2)
+
+pub own_incarnation : {base : List ℕ} (earlier course : Course base) (on : GoesOn earlier course) (i j : ℕ) (was r : Replica) → replica earlier.world i ≡ Some was → replica course.world j ≡ Some r
+    → was.incarnation ≡ r.incarnation → (i ≡ j) × NoRestart (zip on.events on.answers) i
+own_incarnation {base} earlier course on i j was r there here same =
+    (run_own base i was.incarnation [] earlier.world on.events on.answers course.world at_first on.run).own j r here same
+  where
+    at_first : IsOwn i was.incarnation [] earlier.world
+    at_first =
+        let sound = (course_good earlier).sound in
+        record { born = sound.born i was there; own = λ j r here same. (sound.apart i j was r there here same, no_restart_yet i) }

@@ -1,0 +1,20 @@
+//! In which incarnations replicas are, and how often they have merged in them.
+ghost use Rattle.std.specs.Prelude.{◌≡◌, ℕ, List, length, Some, zip};
+ghost use Rattle.replica_events.specs.World.{Replica, Message, Course, replica, message};
+ghost use Rattle.replica_events.specs.History.{NoRestart, history_of};
+ghost use Rattle.replica_events.specs.Cursors.{GoesOn};
+ghost use Rattle.replica_events.specs.Incarnations.{IsIn, WasSentIn};
+
+/// The incarnations of new replicas are their numbers, and each accepted restart begins the next number: so the
+/// accepted events alone say in which incarnation a replica is, and how often it has merged in it. The delta of a
+/// message is of its sender's incarnation, and ends at the number of its merges, when it was sent. No two replicas ever
+/// have the same incarnation, at whatever times, nor has one replica before a restart and after it.
+pub fn incarnations_are_new()
+    ensures replicas { (base : List ℕ) (course : Course base) (i : ℕ) (r : Replica) → replica course.world i ≡ Some r →
+        IsIn course.count (history_of course) i r.incarnation (length r.merges) }
+    ensures messages { (base : List ℕ) (course : Course base) (k : ℕ) (m : Message) → message course.world k ≡ Some m →
+        WasSentIn course.count (history_of course) m.sender k m.delta.incarnation m.delta.end }
+    ensures apart { (base : List ℕ) (earlier course : Course base) (on : GoesOn earlier course) (i j : ℕ)
+        (was r : Replica) → replica earlier.world i ≡ Some was → replica course.world j ≡ Some r →
+        was.incarnation ≡ r.incarnation → (i ≡ j) × NoRestart (zip on.events on.answers) i }
+{}
