@@ -1,5 +1,5 @@
 -- What a step does, by the event and its answer.
-use Rattle.std.proofs.Common.{◌≡◌, ℕ, zero, suc, ◌+◌, ◌⊎◌, List, [], ◌∷◌, ◌++◌, length, Option, Some, None, Ok, Err, MatchOption, refl, sym, ap, subst, ◌∙◌, inl, inr, slice_get}
+use Rattle.std.proofs.Common.{◌≡◌, ℕ, ◌+◌, ◌⊎◌, List, [], ◌∷◌, length, Option, Some, None, Ok, Err, MatchOption, refl, inl, inr}
 use Rattle.harvest_lattice.specs.Lattice.{Entries}
 use Rattle.harvest_lattice.specs.Knowledge.{Harvested, adds}
 use Rattle.memento_index.specs.declared.merge.Merge.TheVariants as merge
@@ -18,7 +18,6 @@ use Rattle.replica_events.specs.declared.event.Refused.TheVariants.{NoReplica, N
 use Rattle.replica_events.specs.World as world
 use Rattle.replica_events.specs.World.{World, Replica, Message, Answer, Outcome, Effect, Step, Run, Accepts, Refuses, WithMessage, WithStamped, IfWithinLimit, IfNumberLeft, IfText, Merges, Joins, numbered, replica, message, with_replica, with_message, taking, joining, sent_by, own_cursor, replica_reply, restarting}
 use Rattle.replica_events.specs.History.{sender_of}
-use Rattle.replica_events.proofs.Numbers.{messages_stay}
 use Rattle.replica_events.proofs.Histories.{IsRestart}
 
 -- the event was refused, or a question that was replied to
@@ -99,37 +98,3 @@ module _ (w : World) where
   pub step_changes : (base : List ℕ) (event : Event) (answer : Answer) (new : World) → Step base w event answer new → Change w event answer new
   step_changes base event answer new (inl effect) = effect_changes base event answer new effect
   step_changes base event answer new (inr out) = idle (inl (NoMemory, out.0)) out.1
-
--- ---- messages stay
-
-get_push : {X : Type 0} (xs : List X) (last : X) (place : ℕ) (x : X) → slice_get xs place ≡ Some x → slice_get (xs ++ last ∷ []) place ≡ Some x
-get_push [] last place x is = cc
-get_push (y ∷ xs) last zero x is = is
-get_push (y ∷ xs) last (suc place) x is = get_push xs last place x is
-
-numbered_push : {X : Type 0} (xs : List X) (last : X) (k : ℕ) (x : X) → numbered xs k ≡ Some x → numbered (xs ++ last ∷ []) k ≡ Some x
-numbered_push xs last zero x is = is
-numbered_push xs last (suc place) x is = get_push xs last place x is
-
--- each message of the one world is in the other, under its number
-abbrev pub MessagesStay : World → World → Type 0
-MessagesStay w next = (k : ℕ) (m : Message) → message w k ≡ Some m → message next k ≡ Some m
-
-with_same : (w next : World) → next.messages ≡ w.messages → MessagesStay w next
-with_same w next same k m is = subst (λ (ms : List Message). numbered ms k ≡ Some m) (sym same) is
-
-change_stays : (w : World) (event : Event) (answer : Answer) (new : World) → Change w event answer new → MessagesStay w new
-change_stays w event answer new (idle i is) = with_same w new (ap (λ (w : World). w.messages) is)
-change_stays w event answer new (took i h r there event_is answer_is is) = with_same w new (ap (λ (w : World). w.messages) is ∙ messages_stay w i (taking r (h ∷ []) (merge.Harvest h)))
-change_stays w event answer new (received i bytes s r there event_is answer_is is) = with_same w new (ap (λ (w : World). w.messages) is ∙ messages_stay w i (taking r (adds s) (merge.State s)))
-change_stays w event answer new (joined i k r m there found event_is answer_is is) = with_same w new (ap (λ (w : World). w.messages) is ∙ messages_stay w i (joining r m))
-change_stays w event answer new (sent i r s cursor there stamped own sender answer_is is) =
-    λ k m found. subst (λ (w : World). message w k ≡ Some m) (sym is) (numbered_push w.messages (sent_by i r (delta_from s cursor)) k m found)
-change_stays w event answer new (restarted i r there event_is answer_is is) = with_same w new (ap (λ (w : World). w.messages) is ∙ messages_stay w i (world.fresh (w.last + 1)))
-
-pub run_stays : (base : List ℕ) (w : World) (events : List Event) (answers : List Answer) (end : World) → Run base w events answers end → MessagesStay w end
-run_stays base w [] [] end run k m found = subst (λ (w : World). message w k ≡ Some m) (sym run) found
-run_stays base w [] (answer ∷ answers) end run k m found = absurd run
-run_stays base w (event ∷ events) [] end run k m found = absurd run
-run_stays base w (event ∷ events) (answer ∷ answers) end run k m found =
-    run_stays base run.0 events answers end run.2 k m (change_stays w event answer run.0 (step_changes w base event answer run.0 run.1) k m found)

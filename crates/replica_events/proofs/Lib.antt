@@ -8,6 +8,6 @@ pub mod Stampings
 pub mod Outcomes
 mod Causes
 pub mod Replies
-pub mod Changes
-mod Furthest
+mod Changes
 mod Counted
+mod Furthest

@@ -1,14 +1,14 @@
 -- What the cursors of a world say, and by which deliveries they are held.
-use Rattle.std.specs.Prelude.{◌≡◌, ℕ, ◌≤◌, ◌++◌, List, ◌∷◌, length, Some, Ok, Contains}
+use Rattle.std.specs.Prelude.{◌≡◌, ℕ, ◌≤◌, ◌++◌, List, ◌∷◌, length, Some, Ok}
 use Rattle.harvest_lattice.specs.Lattice.{Entries, AtMost}
 use Rattle.replica_exchange.specs.Stamps.{state_after}
 use Rattle.replica_exchange.specs.declared.cursor.Cursor.{Cursor}
-use Rattle.replica_exchange.specs.declared.delta.Delta.{Delta}
 use Rattle.replica_events.specs.declared.event.Event.{Event}
 use Rattle.replica_events.specs.declared.event.Event.TheVariants.{Deliver}
 use Rattle.replica_events.specs.declared.event.Said.TheVariants.{Joined}
-use Rattle.replica_events.specs.World.{World, Replica, Message, Answer, Course, Run, replica, message}
-use Rattle.replica_events.specs.History.{Happened, History, NoRestart}
+use Rattle.replica_events.specs.World.{Replica, Answer, Course, Run, replica}
+use Rattle.replica_events.specs.History.{History, NoRestart}
+use Rattle.replica_events.specs.Incarnations.{WasSentIn}
 
 -- a course goes on from another one
 pub record GoesOn {base : List ℕ} (earlier course : Course base) : Type 0 where
@@ -30,35 +30,24 @@ pub record IsReached {base : List ℕ} (course : Course base) (peer : ℕ) (c : 
   pub number : length was.merges ≡ c.number
   pub reached : AtMost (state_after was.merges) state
 
--- what happened is an accepted delivery to the replica of this number, of a message of the peer with this delta
-pub record Brings (w : World) (i peer : ℕ) (d : Delta) (happened : Happened) : Type 0 where
-  pub number : ℕ
-  pub carrier : Message
-  pub found : message w number ≡ Some carrier
-  pub sender : carrier.sender ≡ peer
-  pub delta : carrier.delta ≡ d
-  pub delivered : happened ≡ (Deliver i number, Ok Joined)
-
--- the replica was brought the delta, and after this delivery, in which it wasn't restarted, all this happened
-pub record WasBrought (w : World) (history : History) (i peer : ℕ) (d : Delta) (after : History) : Type 0 where
+-- The replica of this number was delivered a message of the peer, and after that, when all this happened, it wasn't
+-- restarted. The cursor is the end of the message's delta: the incarnation that the peer was in when it sent the message,
+-- and how often it had merged in it.
+pub record WasBrought (count : ℕ) (history : History) (i peer : ℕ) (end : Cursor) (after : History) : Type 0 where
   pub before : History
-  pub delivery : Happened
-  pub brings : Brings w i peer d delivery
-  pub split : history ≡ before ++ delivery ∷ after
+  pub message : ℕ
+  pub sent : WasSentIn count before peer message end.incarnation end.number
+  pub delivered : history ≡ before ++ (Deliver i message, Ok Joined) ∷ after
   pub no_restart : NoRestart after i
 
--- the replica was brought the delta, and since then it was neither restarted nor brought a delta of another incarnation
--- of the peer
-pub record IsRecent (w : World) (history : History) (i peer : ℕ) (d : Delta) : Type 0 where
+-- the replica was brought this end, and all that it was brought of the peer since then is of the same incarnation
+pub record IsRecent (count : ℕ) (history : History) (i peer : ℕ) (end : Cursor) : Type 0 where
   pub after : History
-  pub brought : WasBrought w history i peer d after
-  pub same : (later : Delta) (happened : Happened) → Contains after happened → Brings w i peer later happened
-      → later.incarnation ≡ d.incarnation
+  pub brought : WasBrought count history i peer end after
+  pub same : (later : Cursor) (between rest : History) → WasBrought count history i peer later rest
+      → after ≡ between ++ rest → later.incarnation ≡ end.incarnation
 
--- the cursor tells where a recent delta of the peer ends, and none of the recent ones ends further
-pub record IsFurthest (w : World) (history : History) (i peer : ℕ) (c : Cursor) : Type 0 where
-  pub delta : Delta
-  pub recent : IsRecent w history i peer delta
-  pub incarnation : c.incarnation ≡ delta.incarnation
-  pub number : c.number ≡ delta.end
-  pub furthest : (other : Delta) → IsRecent w history i peer other → other.end ≤ c.number
+-- the end is recent, and no recent one is further
+pub record IsFurthest (count : ℕ) (history : History) (i peer : ℕ) (end : Cursor) : Type 0 where
+  pub recent : IsRecent count history i peer end
+  pub furthest : (other : Cursor) → IsRecent count history i peer other → other.number ≤ end.number

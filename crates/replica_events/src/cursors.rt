@@ -3,7 +3,6 @@ ghost use Rattle.std.specs.Prelude.{◌≡◌, ◌↔◌, ℕ, List, Some, None}
 ghost use Rattle.std.specs.FinMap as map;
 ghost use Rattle.harvest_lattice.specs.Knowledge.{lat};
 ghost use Rattle.replica_exchange.specs.declared.cursor.Cursor.{Cursor};
-ghost use Rattle.replica_exchange.specs.declared.delta.Delta.{Delta};
 ghost use Rattle.replica_exchange.specs.Stamps.{state_after};
 ghost use Rattle.replica_events.specs.World.{Replica, Course, replica};
 ghost use Rattle.replica_events.specs.History.{History, history_of};
@@ -20,16 +19,14 @@ pub fn cursors_are_kept()
         (peer : ℕ) (c : Cursor) → map.get r.cursors peer ≡ Some c → IsReached course peer c (lat r.taken) }
 {}
 
-/// A replica holds just the cursors that the accepted deliveries since its last restart make, and nothing else moves
-/// them: for a peer of which it was brought no delta since then it holds none; and else the one that tells where a
-/// delta of the peer ends that is recent, than which no recent one ends further. A delta that was brought is recent
-/// until a delta of another incarnation of the peer is brought. A message that was sent keeps its number and its delta,
-/// so the last world tells which delta a delivery brought.
+/// Which cursors a replica holds follows from the accepted events alone. Of a peer by which it was brought nothing since
+/// its last restart it holds none; and else the end of what it was brought: where ends of several incarnations of the
+/// peer were brought, those since the last change of the incarnation count, and of them the furthest.
 pub fn what_cursors_are()
     ensures held { (base : List ℕ) (course : Course base) (i : ℕ) (r : Replica) → replica course.world i ≡ Some r →
         (peer : ℕ) (c : Cursor) →
-        (map.get r.cursors peer ≡ Some c) ↔ IsFurthest course.world (history_of course) i peer c }
+        (map.get r.cursors peer ≡ Some c) ↔ IsFurthest course.count (history_of course) i peer c }
     ensures none { (base : List ℕ) (course : Course base) (i : ℕ) (r : Replica) → replica course.world i ≡ Some r →
         (peer : ℕ) → (map.get r.cursors peer ≡ None)
-        ↔ ((d : Delta) (after : History) → ¬ WasBrought course.world (history_of course) i peer d after) }
+        ↔ ((end : Cursor) (after : History) → ¬ WasBrought course.count (history_of course) i peer end after) }
 {}
