@@ -1,5 +1,5 @@
 -- What a step does, by the event and its answer.
-use Rattle.std.proofs.Common.{◌≡◌, ℕ, ◌+◌, ◌⊎◌, List, [], ◌∷◌, length, Option, Some, None, Ok, Err, MatchOption, refl, inl, inr}
+use Rattle.std.proofs.Common.{◌≡◌, ℕ, ◌+◌, ◌⊎◌, true, List, [], ◌∷◌, ◌++◌, length, Option, Some, None, Ok, Err, MatchOption, zip, refl, sym, subst, append_assoc, append-nil, inl, inr}
 use Rattle.harvest_lattice.specs.Lattice.{Entries}
 use Rattle.harvest_lattice.specs.Knowledge.{Harvested, adds}
 use Rattle.memento_index.specs.declared.merge.Merge.TheVariants as merge
@@ -8,7 +8,7 @@ use Rattle.timegate.specs.declared.reply.Reply.{Reply}
 use Rattle.timegate.specs.declared.request.Request.{Request}
 use Rattle.replica_exchange.specs.declared.cursor.Cursor.{Cursor}
 use Rattle.replica_exchange.specs.Stamps.{StampedState, IsStamped}
-use Rattle.replica_exchange.specs.CursorRule.{delta_from}
+use Rattle.replica_exchange.specs.CursorRule.{delta_from, fits}
 use Rattle.replica_events.specs.declared.event.Event.{Event}
 use Rattle.replica_events.specs.declared.event.Event.TheVariants.{Take, Send, SendFrom, Deliver, Receive, Restart, Ask}
 use Rattle.replica_events.specs.declared.event.Said.{Said}
@@ -16,8 +16,8 @@ use Rattle.replica_events.specs.declared.event.Said.TheVariants.{Taken, Sent, Jo
 use Rattle.replica_events.specs.declared.event.Refused.{Refused}
 use Rattle.replica_events.specs.declared.event.Refused.TheVariants.{NoReplica, NoMessage, BadState, NoMemory, Gap, NumbersSpent}
 use Rattle.replica_events.specs.World as world
-use Rattle.replica_events.specs.World.{World, Replica, Message, Answer, Outcome, Effect, Step, Run, Accepts, Refuses, WithMessage, WithStamped, IfWithinLimit, IfNumberLeft, IfText, Merges, Joins, numbered, replica, message, with_replica, with_message, taking, joining, sent_by, own_cursor, replica_reply, restarting}
-use Rattle.replica_events.specs.History.{sender_of}
+use Rattle.replica_events.specs.World.{World, Replica, Message, Answer, Outcome, Course, start, Effect, Step, Run, Accepts, Refuses, WithMessage, WithStamped, IfWithinLimit, IfNumberLeft, IsText, IfText, Merges, Joins, numbered, replica, message, with_replica, with_message, taking, joining, sent_by, own_cursor, replica_reply, restarting}
+use Rattle.replica_events.specs.History.{Happened, History, history_of, sender_of}
 use Rattle.replica_events.proofs.Histories.{IsRestart}
 
 -- the event was refused, or a question that was replied to
@@ -34,10 +34,10 @@ pub data Change (w : World) (event : Event) (answer : Answer) (new : World) : Ty
   idle : IsIdle event answer → new ≡ w → Change w event answer new
   took : (i : ℕ) (h : Harvested) (r : Replica) → replica w i ≡ Some r → event ≡ Take i h → answer ≡ Ok Taken
       → new ≡ with_replica w i (taking r (h ∷ []) (merge.Harvest h)) → Change w event answer new
-  received : (i : ℕ) (bytes : List ℕ) (s : Entries) (r : Replica) → replica w i ≡ Some r → event ≡ Receive i bytes → answer ≡ Ok Joined
+  received : (i : ℕ) (bytes : List ℕ) (s : Entries) (r : Replica) → replica w i ≡ Some r → IsText bytes s → event ≡ Receive i bytes → answer ≡ Ok Joined
       → new ≡ with_replica w i (taking r (adds s) (merge.State s)) → Change w event answer new
-  joined : (i k : ℕ) (r : Replica) (m : Message) → replica w i ≡ Some r → message w k ≡ Some m → event ≡ Deliver i k → answer ≡ Ok Joined
-      → new ≡ with_replica w i (joining r m) → Change w event answer new
+  joined : (i k : ℕ) (r : Replica) (m : Message) → replica w i ≡ Some r → message w k ≡ Some m → fits (map.get r.cursors m.sender) m.delta ≡ true → event ≡ Deliver i k
+      → answer ≡ Ok Joined → new ≡ with_replica w i (joining r m) → Change w event answer new
   sent : (i : ℕ) (r : Replica) (s : StampedState) (cursor : Option Cursor) → replica w i ≡ Some r → IsStamped r.merges s → s.incarnation ≡ r.incarnation
       → sender_of event ≡ Some i → answer ≡ Ok (Sent (length w.messages + 1)) → new ≡ with_message w (sent_by i r (delta_from s cursor)) → Change w event answer new
   restarted : (i : ℕ) (r : Replica) → replica w i ≡ Some r → event ≡ Restart i → answer ≡ Ok Restarted → new ≡ restarting w i → Change w event answer new
@@ -65,14 +65,14 @@ module _ (w : World) where
   joins : (i k : ℕ) (r : Replica) (m : Message) (answer : Answer) (new : World) → replica w i ≡ Some r → message w k ≡ Some m
       → IfWithinLimit m.bytes (Joins w i r m) (Refuses BadState w) answer new → Change w (Deliver i k) answer new
   joins i k r m answer new there found (inl (few, inl (fit, p))) =
-      left (Deliver i k) (length r.merges) Joined (with_replica w i (joining r m)) answer new (λ said is. joined i k r m there found refl said is) p
+      left (Deliver i k) (length r.merges) Joined (with_replica w i (joining r m)) answer new (λ said is. joined i k r m there found fit refl said is) p
   joins i k r m answer new there found (inl (few, inr (gap, p))) = refused (Deliver i k) (Gap (map.get r.cursors m.sender)) answer new p
   joins i k r m answer new there found (inr (many, p)) = refused (Deliver i k) BadState answer new p
 
   receives : (i : ℕ) (bytes : List ℕ) (r : Replica) (answer : Answer) (new : World) → replica w i ≡ Some r
       → IfText bytes (λ s. Merges w r Joined (with_replica w i (taking r (adds s) (merge.State s)))) (Refuses BadState w) answer new → Change w (Receive i bytes) answer new
-  receives i bytes r answer new there (inl (s, is, p)) =
-      left (Receive i bytes) (length r.merges) Joined (with_replica w i (taking r (adds s) (merge.State s))) answer new (λ said is. received i bytes s r there refl said is) p
+  receives i bytes r answer new there (inl (s, is_text, p)) =
+      left (Receive i bytes) (length r.merges) Joined (with_replica w i (taking r (adds s) (merge.State s))) answer new (λ said is. received i bytes s r there is_text refl said is) p
   receives i bytes r answer new there (inr (none, p)) = refused (Receive i bytes) BadState answer new p
 
   effect_changes : (base : List ℕ) (event : Event) (answer : Answer) (new : World) → Effect base w event answer new → Change w event answer new
@@ -98,3 +98,30 @@ module _ (w : World) where
   pub step_changes : (base : List ℕ) (event : Event) (answer : Answer) (new : World) → Step base w event answer new → Change w event answer new
   step_changes base event answer new (inl effect) = effect_changes base event answer new effect
   step_changes base event answer new (inr out) = idle (inl (NoMemory, out.0)) out.1
+
+-- ---- runs
+
+-- what holds of the history with an event and its answer, where these are those
+pub happened_as : (P : History → World → Type 0) (history : History) (event other : Event) (answer said : Answer) (new next : World) → event ≡ other → answer ≡ said → new ≡ next
+    → P (history ++ (other, said) ∷ []) next → P (history ++ (event, answer) ∷ []) new
+happened_as P history event other answer said new next event_is answer_is new_is holds =
+    subst (P (history ++ (event, answer) ∷ [])) (sym new_is) (subst (λ (x : Happened). P (history ++ x ∷ []) next) (λ j. (sym event_is j, sym answer_is j)) holds)
+
+-- each change keeps it
+abbrev pub IsKept : (History → World → Type 0) → Type 0
+IsKept P = (history : History) (w : World) (event : Event) (answer : Answer) (new : World) → P history w → Change w event answer new → P (history ++ (event, answer) ∷ []) new
+
+-- what each change keeps, a run keeps
+pub run_keeps : (P : History → World → Type 0) → IsKept P → (base : List ℕ) (history : History) (w : World) (events : List Event) (answers : List Answer) (end : World) → P history w
+    → Run base w events answers end → P (history ++ zip events answers) end
+run_keeps P kept base history w [] [] end holds run = subst (P (history ++ [])) (sym run) (subst (λ (l : History). P l w) (sym (append-nil history)) holds)
+run_keeps P kept base history w [] (answer ∷ answers) end holds run = absurd run
+run_keeps P kept base history w (event ∷ events) [] end holds run = absurd run
+run_keeps P kept base history w (event ∷ events) (answer ∷ answers) end holds run =
+    let next = kept history w event answer run.0 holds (step_changes w base event answer run.0 run.1) in
+    subst (λ (l : History). P l end) (append_assoc history ((event, answer) ∷ []) (zip events answers))
+    (run_keeps P kept base (history ++ (event, answer) ∷ []) run.0 events answers end next run.2)
+
+-- and so it holds after every course, where it holds at first
+pub course_keeps : (P : History → World → Type 0) → IsKept P → {base : List ℕ} (course : Course base) → P [] (start course.count) → P (history_of course) course.world
+course_keeps P kept {base} course first = run_keeps P kept base [] (start course.count) course.events course.answers course.world first course.run

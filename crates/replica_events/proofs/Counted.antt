@@ -1,5 +1,5 @@
 -- After a run, incarnations and merges are those that the accepted events count.
-use Rattle.std.proofs.Common.{◌≡◌, ℕ, ◌+◌, ◌≤◌, ◌⊎◌, true, false, cond, arith, List, [], ◌∷◌, ◌++◌, length, Option, Some, Ok, Contains, zip, refl, sym, ap, subst, ◌∙◌, append_assoc, append-nil, inl, inr}
+use Rattle.std.proofs.Common.{◌≡◌, ℕ, ◌+◌, ◌≤◌, ◌⊎◌, true, false, cond, arith, List, [], ◌∷◌, ◌++◌, length, Option, Some, Ok, Contains, zip, refl, sym, ap, subst, ◌∙◌, inl, inr}
 use Rattle.std.specs.Prelude.{Bool, ◌==◌, ◌&&◌}
 use Rattle.std.specs.Result.{is_ok}
 use Rattle.std.proofs.lemmas.Bool.{eqb-true, eq-eqb, false_from_ne_true}
@@ -15,7 +15,7 @@ use Rattle.replica_exchange.specs.Stamps.{StampedState, IsStamped}
 use Rattle.replica_events.specs.declared.event.Event.{Event}
 use Rattle.replica_events.specs.declared.event.Event.TheVariants.{Take, Send, SendFrom, Deliver, Receive, Restart, Ask}
 use Rattle.replica_events.specs.declared.event.Said.TheVariants.{Taken, Sent, Joined, Restarted}
-use Rattle.replica_events.specs.World.{World, Replica, Message, Answer, Course, Run, numbered, replica, message, with_replica, with_message, taking, joining, sent_by, fresh, start, restarting}
+use Rattle.replica_events.specs.World.{World, Replica, Message, Answer, Course, numbered, replica, message, with_replica, with_message, taking, joining, sent_by, fresh, start, restarting}
 use Rattle.replica_events.specs.History.{Happened, History, NoRestart, history_of, sender_of}
 use Rattle.replica_events.specs.Cursors.{GoesOn}
 use Rattle.replica_events.specs.Incarnations.{is_restart, is_merge_of, restarts, merges_of, IsIn, first, restarted, WasSentIn}
@@ -23,7 +23,7 @@ use Rattle.replica_events.proofs.Numbers.{IsPlaced, replica_placed, messages_sta
 use Rattle.replica_events.proofs.Moments.{at_first, no_message_at_first, course_good}
 use Rattle.replica_events.proofs.Histories.{IsRestart, Stood, stood, grows, not_empty, no_restart_yet, no_restart_push}
 use Rattle.replica_events.proofs.Changes as change
-use Rattle.replica_events.proofs.Changes.{IsIdle, idle_not_restarted, Change, step_changes}
+use Rattle.replica_events.proofs.Changes.{IsIdle, idle_not_restarted, Change, happened_as, IsKept, run_keeps, course_keeps}
 
 -- ---- one event more
 
@@ -292,42 +292,29 @@ module _ (count : ℕ) (history : History) (w : World) (counts : Counts count hi
           subst (λ (n : ℕ). IsIn count history i n s.number) (sym own)
           (subst (IsIn count history i r.incarnation) (sym stamped.number) (counts.replicas i r there))
 
-  pub change_counts : (event : Event) (answer : Answer) (new : World) → Change w event answer new → Counts count (history ++ (event, answer) ∷ []) new
+  change_counts : (event : Event) (answer : Answer) (new : World) → Change w event answer new → Counts count (history ++ (event, answer) ∷ []) new
   change_counts event answer new (change.idle idle is) =
       no_merge event answer new (ap (λ (w : World). w.last) is) (ap (λ (w : World). w.replicas) is) (idle_restarts event answer idle) (idle_not_restarted event answer idle)
       (idle_merges event answer idle) (unsent event answer new (ap (λ (w : World). w.messages) is) (idle_unsent event answer idle))
   change_counts event answer new (change.took i h r there event_is answer_is is) =
-      subst (Counts count (history ++ (event, answer) ∷ [])) (sym is)
-      (subst (λ (x : Happened). Counts count (history ++ x ∷ []) (with_replica w i (taking r (h ∷ []) (merge.Harvest h)))) (λ j. (sym event_is j, sym answer_is j))
+      happened_as (Counts count) history event (Take i h) answer (Ok Taken) new _ event_is answer_is is
       (merges_once (Take i h) (Ok Taken) i r (taking r (h ∷ []) (merge.Harvest h)) there refl (length_push r.merges (merge.Harvest h)) refl (λ j restarts. let other = restarts.1 in cc)
-      (λ k answer_is. cc) (counted i) (not_counted i)))
-  change_counts event answer new (change.received i bytes s r there event_is answer_is is) =
-      subst (Counts count (history ++ (event, answer) ∷ [])) (sym is)
-      (subst (λ (x : Happened). Counts count (history ++ x ∷ []) (with_replica w i (taking r (adds s) (merge.State s)))) (λ j. (sym event_is j, sym answer_is j))
+      (λ k answer_is. cc) (counted i) (not_counted i))
+  change_counts event answer new (change.received i bytes s r there text event_is answer_is is) =
+      happened_as (Counts count) history event (Receive i bytes) answer (Ok Joined) new _ event_is answer_is is
       (merges_once (Receive i bytes) (Ok Joined) i r (taking r (adds s) (merge.State s)) there refl (length_push r.merges (merge.State s)) refl (λ j restarts. let other = restarts.1 in cc)
-      (λ k answer_is. cc) (counted i) (not_counted i)))
-  change_counts event answer new (change.joined i k r m there found event_is answer_is is) =
-      subst (Counts count (history ++ (event, answer) ∷ [])) (sym is)
-      (subst (λ (x : Happened). Counts count (history ++ x ∷ []) (with_replica w i (joining r m))) (λ j. (sym event_is j, sym answer_is j))
+      (λ k answer_is. cc) (counted i) (not_counted i))
+  change_counts event answer new (change.joined i k r m there found fit event_is answer_is is) =
+      happened_as (Counts count) history event (Deliver i k) answer (Ok Joined) new _ event_is answer_is is
       (merges_once (Deliver i k) (Ok Joined) i r (joining r m) there refl (length_push r.merges (merge.State m.delta.state)) refl (λ j restarts. let other = restarts.1 in cc)
-      (λ k answer_is. cc) (counted i) (not_counted i)))
+      (λ k answer_is. cc) (counted i) (not_counted i))
   change_counts event answer new (change.sent i r s cursor there stamped own sends answer_is is) =
-      subst (Counts count (history ++ (event, answer) ∷ [])) (sym is)
-      (subst (λ (said : Answer). Counts count (history ++ (event, said) ∷ []) (with_message w (sent_by i r (delta_from s cursor)))) (sym answer_is)
-      (sends_once event i r s cursor there stamped own sends))
+      happened_as (Counts count) history event event answer (Ok (Sent (length w.messages + 1))) new _ refl answer_is is (sends_once event i r s cursor there stamped own sends)
   change_counts event answer new (change.restarted i r there event_is answer_is is) =
-      subst (Counts count (history ++ (event, answer) ∷ [])) (sym is)
-      (subst (λ (x : Happened). Counts count (history ++ x ∷ []) (restarting w i)) (λ j. (sym event_is j, sym answer_is j)) (restarts_once i r there))
+      happened_as (Counts count) history event (Restart i) answer (Ok Restarted) new _ event_is answer_is is (restarts_once i r there)
 
-run_counts : (base : List ℕ) (count : ℕ) (history : History) (w : World) (events : List Event) (answers : List Answer) (end : World) → Counts count history w → Run base w events answers end
-    → Counts count (history ++ zip events answers) end
-run_counts base count history w [] [] end counts run = subst (Counts count (history ++ [])) (sym run) (subst (λ (l : History). Counts count l w) (sym (append-nil history)) counts)
-run_counts base count history w [] (answer ∷ answers) end counts run = absurd run
-run_counts base count history w (event ∷ events) [] end counts run = absurd run
-run_counts base count history w (event ∷ events) (answer ∷ answers) end counts run =
-    let next = change_counts count history w counts event answer run.0 (step_changes w base event answer run.0 run.1) in
-    subst (λ (l : History). Counts count l end) (append_assoc history ((event, answer) ∷ []) (zip events answers))
-    (run_counts base count (history ++ (event, answer) ∷ []) run.0 events answers end next run.2)
+pub counts_kept : (count : ℕ) → IsKept (Counts count)
+counts_kept count history w event answer new counts changed = change_counts count history w counts event answer new changed
 
 pub start_counts : (count : ℕ) → Counts count [] (start count)
 start_counts count = record {
@@ -341,7 +328,7 @@ start_counts count = record {
 }
 
 course_counts : {base : List ℕ} (course : Course base) → Counts course.count (history_of course) course.world
-course_counts {base} course = run_counts base course.count [] (start course.count) course.events course.answers course.world (start_counts course.count) course.run
+course_counts {base} course = course_keeps (Counts course.count) (counts_kept course.count) course (start_counts course.count)
 
 pub replica_is_in : {base : List ℕ} (course : Course base) (i : ℕ) (r : Replica) → replica course.world i ≡ Some r → IsIn course.count (history_of course) i r.incarnation (length r.merges)
 replica_is_in course i r there = (course_counts course).replicas i r there
@@ -404,35 +391,26 @@ module _ (i number : ℕ) (history : History) (w : World) (owned : IsOwn i numbe
   change_own event answer new (change.took j h r there event_is answer_is is) =
       subst (IsOwn i number (history ++ (event, answer) ∷ [])) (sym is)
       (own_placed event answer j r (taking r (h ∷ []) (merge.Harvest h)) there refl (λ k restarts. let other = restarts.1 in cc))
-  change_own event answer new (change.received j bytes s r there event_is answer_is is) =
+  change_own event answer new (change.received j bytes s r there text event_is answer_is is) =
       subst (IsOwn i number (history ++ (event, answer) ∷ [])) (sym is)
       (own_placed event answer j r (taking r (adds s) (merge.State s)) there refl (λ k restarts. let other = restarts.1 in cc))
-  change_own event answer new (change.joined j k r m there found event_is answer_is is) =
-      subst (IsOwn i number (history ++ (event, answer) ∷ [])) (sym is)
-      (own_placed event answer j r (joining r m) there refl (λ k restarts. let other = restarts.1 in cc))
+  change_own event answer new (change.joined j k r m there found fit event_is answer_is is) =
+      subst (IsOwn i number (history ++ (event, answer) ∷ [])) (sym is) (own_placed event answer j r (joining r m) there refl (λ k restarts. let other = restarts.1 in cc))
   change_own event answer new (change.sent j r s cursor there stamped own sends answer_is is) =
       own_still event answer new (ap (λ (w : World). w.last) is) (λ k restarts. let other = restarts.1 in cc)
       (λ k t found. (t, subst (λ (rs : List Replica). numbered rs k ≡ Some t) (ap (λ (w : World). w.replicas) is) found, refl))
   change_own event answer new (change.restarted j r there event_is answer_is is) =
-      subst (IsOwn i number (history ++ (event, answer) ∷ [])) (sym is)
-      (subst (λ (x : Happened). IsOwn i number (history ++ x ∷ []) (restarting w j)) (λ k. (sym event_is k, sym answer_is k)) (own_restarted j r there))
+      happened_as (IsOwn i number) history event (Restart j) answer (Ok Restarted) new _ event_is answer_is is (own_restarted j r there)
 
-run_own : (base : List ℕ) (i number : ℕ) (history : History) (w : World) (events : List Event) (answers : List Answer) (end : World) → IsOwn i number history w → Run base w events answers end
-    → IsOwn i number (history ++ zip events answers) end
-run_own base i number history w [] [] end owned run = subst (IsOwn i number (history ++ [])) (sym run) (subst (λ (l : History). IsOwn i number l w) (sym (append-nil history)) owned)
-run_own base i number history w [] (answer ∷ answers) end owned run = absurd run
-run_own base i number history w (event ∷ events) [] end owned run = absurd run
-run_own base i number history w (event ∷ events) (answer ∷ answers) end owned run =
-    let next = change_own i number history w owned event answer run.0 (step_changes w base event answer run.0 run.1) in
-    subst (λ (l : History). IsOwn i number l end) (append_assoc history ((event, answer) ∷ []) (zip events answers))
-    (run_own base i number (history ++ (event, answer) ∷ []) run.0 events answers end next run.2)
+own_kept : (i number : ℕ) → IsKept (IsOwn i number)
+own_kept i number history w event answer new owned changed = change_own i number history w owned event answer new changed
 
 pub own_incarnation : {base : List ℕ} (earlier course : Course base) (on : GoesOn earlier course) (i j : ℕ) (was r : Replica) → replica earlier.world i ≡ Some was → replica course.world j ≡ Some r
     → was.incarnation ≡ r.incarnation → (i ≡ j) × NoRestart (zip on.events on.answers) i
 own_incarnation {base} earlier course on i j was r there here same =
-    (run_own base i was.incarnation [] earlier.world on.events on.answers course.world at_first on.run).own j r here same
+    (run_keeps (IsOwn i was.incarnation) (own_kept i was.incarnation) base [] earlier.world on.events on.answers course.world then on.run).own j r here same
   where
-    at_first : IsOwn i was.incarnation [] earlier.world
-    at_first =
+    then : IsOwn i was.incarnation [] earlier.world
+    then =
         let sound = (course_good earlier).sound in
         record { born = sound.born i was there; own = λ j r here same. (sound.apart i j was r there here same, no_restart_yet i) }

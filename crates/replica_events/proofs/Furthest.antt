@@ -1,5 +1,5 @@
 -- After a run, a cursor is held where its peer's deltas were brought, and tells where the furthest recent one ends.
-use Rattle.std.proofs.Common.{◌≡◌, ◌↔◌, ℕ, ◌+◌, ◌<◌, ◌≤◌, ◌⊎◌, true, false, cond, arith, List, [], ◌∷◌, ◌++◌, Option, Some, None, Ok, zip, refl, sym, ap, subst, ◌∙◌, append_assoc, append-nil, inl, inr}
+use Rattle.std.proofs.Common.{◌≡◌, ◌↔◌, ℕ, ◌+◌, ◌<◌, ◌≤◌, ◌⊎◌, true, false, cond, arith, List, [], ◌∷◌, ◌++◌, Option, Some, None, Ok, refl, sym, ap, subst, ◌∙◌, append_assoc, append-nil, inl, inr}
 use Rattle.std.specs.Prelude.{◌==◌, ◌&&◌, nat_lt}
 use Rattle.std.specs.Ordering.{nat_cmp, eq_by_cmp, is_eq}
 use Rattle.std.specs.Cmp.{nat_cmp_total, Equal-is, tied_itself}
@@ -15,7 +15,7 @@ use Rattle.replica_exchange.specs.CursorRule.{Held, end_of, moved, taken_from}
 use Rattle.replica_events.specs.declared.event.Event.{Event}
 use Rattle.replica_events.specs.declared.event.Event.TheVariants.{Deliver, Restart}
 use Rattle.replica_events.specs.declared.event.Said.TheVariants.{Joined, Restarted}
-use Rattle.replica_events.specs.World.{World, Replica, Message, Answer, Course, Run, numbered, replica, message, with_replica, taking, joining, fresh, start, restarting}
+use Rattle.replica_events.specs.World.{World, Replica, Message, Answer, Course, numbered, replica, message, with_replica, taking, joining, fresh, start, restarting}
 use Rattle.replica_events.specs.History.{Happened, History, NoRestart, history_of}
 use Rattle.replica_events.specs.Incarnations.{WasSentIn}
 use Rattle.replica_events.specs.Cursors.{WasBrought, IsRecent, IsFurthest}
@@ -23,8 +23,8 @@ use Rattle.replica_events.proofs.Numbers.{IsPlaced, replica_placed}
 use Rattle.replica_events.proofs.Moments.{at_first}
 use Rattle.replica_events.proofs.Histories.{IsRestart, Stood, stood, grows, not_empty, no_restart_yet, no_restart_push, no_restart_before, no_restart_last}
 use Rattle.replica_events.proofs.Changes as change
-use Rattle.replica_events.proofs.Changes.{IsIdle, idle_not_restarted, Change, step_changes}
-use Rattle.replica_events.proofs.Counted.{EndsAt, Counts, start_counts, change_counts}
+use Rattle.replica_events.proofs.Changes.{IsIdle, idle_not_restarted, Change, happened_as, IsKept, course_keeps}
+use Rattle.replica_events.proofs.Counted.{EndsAt, Counts, start_counts, counts_kept}
 
 -- lists with one last element are the same before it
 same_front : {X : Type 0} (xs ys : List X) (x : X) → xs ++ x ∷ [] ≡ ys ++ x ∷ [] → xs ≡ ys
@@ -356,33 +356,30 @@ module _ (count : ℕ) (history : History) (w : World) (counts : Counts count hi
       subst (Kept count (history ++ (event, answer) ∷ [])) (sym is)
       (same_cursors event answer i r (taking r (h ∷ []) (merge.Harvest h)) there refl (λ j restarts. let other = restarts.1 in cc)
       (undelivered event answer (λ j k _ other. cc)))
-  change_kept event answer new (change.received i bytes s r there event_is answer_is is) =
+  change_kept event answer new (change.received i bytes s r there text event_is answer_is is) =
       subst (Kept count (history ++ (event, answer) ∷ [])) (sym is)
       (same_cursors event answer i r (taking r (adds s) (merge.State s)) there refl (λ j restarts. let other = restarts.1 in cc)
       (undelivered event answer (λ j k other _. cc)))
-  change_kept event answer new (change.joined i k r m there found event_is answer_is is) =
-      subst (Kept count (history ++ (event, answer) ∷ [])) (sym is)
-      (subst (λ (x : Happened). Kept count (history ++ x ∷ []) (with_replica w i (joining r m))) (λ j. (sym event_is j, sym answer_is j)) (joined_kept i k r m there found))
+  change_kept event answer new (change.joined i k r m there found fit event_is answer_is is) =
+      happened_as (Kept count) history event (Deliver i k) answer (Ok Joined) new _ event_is answer_is is (joined_kept i k r m there found)
   change_kept event answer new (change.sent i r s cursor there stamped own sender answer_is is) =
       same_replicas event answer new (ap (λ (w : World). w.replicas) is) (λ j restarts. let other = restarts.1 in cc) (undelivered event answer (λ j k _ other. cc))
   change_kept event answer new (change.restarted i r there event_is answer_is is) =
-      subst (Kept count (history ++ (event, answer) ∷ [])) (sym is)
-      (subst (λ (x : Happened). Kept count (history ++ x ∷ []) (restarting w i)) (λ j. (sym event_is j, sym answer_is j)) (restarted_kept i r there))
+      happened_as (Kept count) history event (Restart i) answer (Ok Restarted) new _ event_is answer_is is (restarted_kept i r there)
 
-run_kept : (base : List ℕ) (count : ℕ) (history : History) (w : World) (events : List Event) (answers : List Answer) (end : World) → Counts count history w → Kept count history w
-    → Run base w events answers end → Kept count (history ++ zip events answers) end
-run_kept base count history w [] [] end counts kept run =
-    subst (Kept count (history ++ [])) (sym run) (subst (λ (l : History). Kept count l w) (sym (append-nil history)) kept)
-run_kept base count history w [] (answer ∷ answers) end counts kept run = absurd run
-run_kept base count history w (event ∷ events) [] end counts kept run = absurd run
-run_kept base count history w (event ∷ events) (answer ∷ answers) end counts kept run =
-    let change = step_changes w base event answer run.0 run.1 in
-    let counted = change_counts count history w counts event answer run.0 change in
-    subst (λ (l : History). Kept count l end) (append_assoc history ((event, answer) ∷ []) (zip events answers))
-    (run_kept base count (history ++ (event, answer) ∷ []) run.0 events answers end counted (change_kept count history w counts kept event answer run.0 change) run.2)
+-- the world's numbers and cursors are those of the history
+record Holds (count : ℕ) (history : History) (w : World) : Type 0 where
+  pub counts : Counts count history w
+  pub kept : Kept count history w
+
+holds_kept : (count : ℕ) → IsKept (Holds count)
+holds_kept count history w event answer new holds changed = record {
+  counts = counts_kept count history w event answer new holds.counts changed;
+  kept = change_kept count history w holds.counts holds.kept event answer new changed;
+}
 
 course_kept : {base : List ℕ} (course : Course base) → Kept course.count (history_of course) course.world
-course_kept {base} course = run_kept base course.count [] (start course.count) course.events course.answers course.world (start_counts course.count) at_start course.run
+course_kept {base} course = (course_keeps (Holds course.count) (holds_kept course.count) course (record { counts = start_counts course.count; kept = at_start })).kept
   where
     at_start : Kept course.count [] (start course.count)
     at_start i r there peer =
