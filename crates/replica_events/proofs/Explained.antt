@@ -1,5 +1,5 @@
 -- After a run, what replicas have taken is what they have learnt.
-use Rattle.std.proofs.Common.{◌≡◌, ◌↔◌, ℕ, ◌+◌, ◌≤◌, ◌⊎◌, List, [], ◌∷◌, ◌++◌, length, Option, Some, None, Ok, Err, Contains, MatchOption, zip, refl, sym, ap, subst, ◌∙◌, append_assoc, append-nil, inl, inr, arith}
+use Rattle.std.proofs.Common.{◌≡◌, ◌↔◌, ℕ, ◌+◌, ◌≤◌, ◌⊎◌, List, [], ◌∷◌, ◌++◌, length, Some, Ok, Err, Contains, refl, sym, ap, subst, ◌∙◌, inl, inr, arith}
 use Rattle.std.proofs.lemmas.List.{length_push}
 use Rattle.std.proofs.lemmas.Option.{same_Some}
 use Rattle.std.proofs.lemmas.List.Elements.{Contains-append_left, Contains-append_right, Contains-append_cases, Contains-push, Contains-push_cases}
@@ -9,23 +9,20 @@ use Rattle.replica_exchange.proofs.StateLemmas.{one_text}
 use Rattle.timegate.specs.declared.reply.Reply.{Reply}
 use Rattle.timegate.specs.declared.request.Request.{Request}
 use Rattle.replica_events.specs.declared.event.Event.{Event}
-use Rattle.replica_events.specs.declared.event.Event.TheVariants.{Take, Send, SendFrom, Deliver, Receive, Restart, Ask}
-use Rattle.replica_events.specs.declared.event.Said.{Said}
+use Rattle.replica_events.specs.declared.event.Event.TheVariants.{Take, Deliver, Receive, Restart, Ask}
 use Rattle.replica_events.specs.declared.event.Said.TheVariants.{Taken, Sent, Joined, Restarted, Replied}
 use Rattle.replica_events.specs.declared.event.Refused.{Refused}
-use Rattle.replica_events.specs.declared.event.Refused.TheVariants.{NoReplica, NoMessage, BadState, NoMemory, Gap, NumbersSpent}
 use Rattle.memento_index.specs.declared.merge.Merge.TheVariants as merge
-use Rattle.std.specs.FinMap as map
-use Rattle.replica_exchange.specs.declared.cursor.Cursor.{Cursor}
 use Rattle.replica_exchange.specs.declared.delta.Delta.{Delta}
 use Rattle.replica_exchange.specs.DeltaText.{delta_text}
 use Rattle.replica_exchange.specs.CursorRule.{delta_from}
-use Rattle.replica_events.specs.World as world
-use Rattle.replica_events.specs.World.{Knowledge, World, Replica, Message, Answer, Outcome, Course, Step, Run, Effect, Accepts, Refuses, WithMessage, WithStamped, IfWithinLimit, IfNumberLeft, IsText, IfText, Merges, Joins, numbered, replica, message, with_replica, with_message, taking, joining, sent_by, own_cursor, replica_reply, fresh, start, restarting}
+use Rattle.replica_events.specs.World.{Knowledge, World, Replica, Message, Answer, Course, IsText, numbered, replica, message, with_replica, with_message, taking, joining, sent_by, fresh, start, restarting}
 use Rattle.replica_events.specs.Agreement.{HasTaken, SameHarvests}
 use Rattle.replica_events.specs.History.{Happened, History, history_of, sender_of, Learnt, LearntAlike, Carries, HasSent}
 use Rattle.replica_events.proofs.Numbers.{IsPlaced, replica_placed, messages_stay, Pushed, pushed}
 use Rattle.replica_events.proofs.Moments.{at_first, no_message_at_first}
+use Rattle.replica_events.proofs.Changes as change
+use Rattle.replica_events.proofs.Changes.{Change, happened_as, course_keeps}
 use Rattle.replica_events.proofs.Histories.{IsRestart, Gains, Sends, carries_still, carries_now, carries_before, carries_sent, learnt_push, nothing_after_restart, nothing_at_first}
 
 -- ---- one event
@@ -305,97 +302,23 @@ sent history w event i r d sends explains there = record {
 
 -- ---- each event
 
-explained_as : (history : History) (event : Event) (answer said : Answer) (new next : World) → answer ≡ said → new ≡ next → Explains (history ++ (event, said) ∷ []) next
-    → Explains (history ++ (event, answer) ∷ []) new
-explained_as history event answer said new next answer_is new_is explains =
-    subst (λ (w : World). Explains (history ++ (event, answer) ∷ []) w) (sym new_is) (subst (λ (a : Answer). Explains (history ++ (event, a) ∷ []) next) (sym answer_is) explains)
-
--- where the replica is there, and where none has the number
-at_replica : (history : History) (w : World) (event : Event) (o : Option Replica) (happens : Replica → Outcome) (why : Refused) (answer : Answer) (new : World) → Explains history w
-    → MatchOption o (Refuses why w answer new) (λ r. happens r answer new)
-    → ((r : Replica) → o ≡ Some r → happens r answer new → Explains (history ++ (event, answer) ∷ []) new)
-    → Explains (history ++ (event, answer) ∷ []) new
-at_replica history w event None happens why answer new explains p found = explained_as history event answer (Err why) new w p.0 p.1 (refused history event why w explains)
-at_replica history w event (Some r) happens why answer new explains p found = found r refl p
-
-at_message : (history : History) (w : World) (event : Event) (o : Option Message) (happens : Message → Outcome) (why : Refused) (answer : Answer) (new : World) → Explains history w
-    → MatchOption o (Refuses why w answer new) (λ m. happens m answer new)
-    → ((m : Message) → o ≡ Some m → happens m answer new → Explains (history ++ (event, answer) ∷ []) new)
-    → Explains (history ++ (event, answer) ∷ []) new
-at_message history w event None happens why answer new explains p found = explained_as history event answer (Err why) new w p.0 p.1 (refused history event why w explains)
-at_message history w event (Some m) happens why answer new explains p found = found m refl p
-
-if_text : (history : History) (w : World) (event : Event) (bytes : List ℕ) (happens : Entries → Outcome) (answer : Answer) (new : World) → Explains history w
-    → ((s : Entries) → IsText bytes s → happens s answer new → Explains (history ++ (event, answer) ∷ []) new) → IfText bytes happens (Refuses BadState w) answer new
-    → Explains (history ++ (event, answer) ∷ []) new
-if_text history w event bytes happens answer new explains joined (inl (s, text, p)) = joined s text p
-if_text history w event bytes happens answer new explains joined (inr (none, p)) = explained_as history event answer (Err BadState) new w p.0 p.1 (refused history event BadState w explains)
-
--- where a number is left, and where none is
-if_left : (history : History) (w : World) (event : Event) (n : ℕ) (said : Said) (next : World) (answer : Answer) (new : World) → Explains history w
-    → Explains (history ++ (event, Ok said) ∷ []) next → IfNumberLeft n (Accepts said next) (Refuses NumbersSpent w) answer new → Explains (history ++ (event, answer) ∷ []) new
-if_left history w event n said next answer new explains accepted (inl (few, p)) = explained_as history event answer (Ok said) new next p.0 p.1 accepted
-if_left history w event n said next answer new explains accepted (inr (spent, p)) = explained_as history event answer (Err NumbersSpent) new w p.0 p.1 (refused history event NumbersSpent w explains)
-
-sends_explained : (history : History) (w : World) (event : Event) (i : ℕ) (cursor : Replica → Option Cursor) (answer : Answer) (new : World) → sender_of event ≡ Some i → Explains history w
-    → world.Sends w i cursor answer new → Explains (history ++ (event, answer) ∷ []) new
-sends_explained history w event i cursor answer new sends explains effect =
-    at_replica history w event (replica w i) (λ r. WithStamped r (λ s. Accepts (Sent (length w.messages + 1)) (with_message w (sent_by i r (delta_from s (cursor r)))))) NoReplica answer new explains effect
-    (λ r there p. explained_as history event answer (Ok (Sent (length w.messages + 1))) new (with_message w (sent_by i r (delta_from p.0 (cursor r)))) p.3.0 p.3.1
-    (sent history w event i r (delta_from p.0 (cursor r)) sends explains there))
-
-joins_explained : (history : History) (w : World) (i k : ℕ) (r : Replica) (m : Message) (answer : Answer) (new : World) → Explains history w → replica w i ≡ Some r → message w k ≡ Some m
-    → Joins w i r m answer new → Explains (history ++ (Deliver i k, answer) ∷ []) new
-joins_explained history w i k r m answer new explains there found (inl (fit, p)) =
-    if_left history w (Deliver i k) (length r.merges) Joined (with_replica w i (joining r m)) answer new explains (delivered history w i k m r explains there found) p
-joins_explained history w i k r m answer new explains there found (inr (gap, p)) =
-    explained_as history (Deliver i k) answer (Err (Gap (map.get r.cursors m.sender))) new w p.0 p.1 (refused history (Deliver i k) (Gap (map.get r.cursors m.sender)) w explains)
-
-bounded : (history : History) (w : World) (i k : ℕ) (r : Replica) (m : Message) (answer : Answer) (new : World) → Explains history w → replica w i ≡ Some r → message w k ≡ Some m
-    → IfWithinLimit m.bytes (Joins w i r m) (Refuses BadState w) answer new → Explains (history ++ (Deliver i k, answer) ∷ []) new
-bounded history w i k r m answer new explains there found (inl (few, p)) = joins_explained history w i k r m answer new explains there found p
-bounded history w i k r m answer new explains there found (inr (many, p)) =
-    explained_as history (Deliver i k) answer (Err BadState) new w p.0 p.1 (refused history (Deliver i k) BadState w explains)
-
-effect_explained : (base : List ℕ) (history : History) (w : World) (event : Event) (answer : Answer) (new : World) → Explains history w → Effect base w event answer new
-    → Explains (history ++ (event, answer) ∷ []) new
-effect_explained base history w (Take i g) answer new explains effect =
-    at_replica history w (Take i g) (replica w i) (λ r. Merges w r Taken (with_replica w i (taking r (g ∷ []) (merge.Harvest g)))) NoReplica answer new explains effect
-    (λ r there p. if_left history w (Take i g) (length r.merges) Taken _ answer new explains (taken history w i g r explains there) p)
-effect_explained base history w (Send i) answer new explains effect = sends_explained history w (Send i) i (λ _. None) answer new refl explains effect
-effect_explained base history w (SendFrom i n) answer new explains effect = sends_explained history w (SendFrom i n) i (own_cursor n) answer new refl explains effect
-effect_explained base history w (Deliver i k) answer new explains effect =
-    at_replica history w (Deliver i k) (replica w i) (λ r. WithMessage w k (λ m. IfWithinLimit m.bytes (Joins w i r m) (Refuses BadState w))) NoReplica answer new explains effect
-    (λ r there p. at_message history w (Deliver i k) (message w k) (λ m. IfWithinLimit m.bytes (Joins w i r m) (Refuses BadState w)) NoMessage answer new explains p
-    (λ m found q. bounded history w i k r m answer new explains there found q))
-effect_explained base history w (Receive i bytes) answer new explains effect =
-    at_replica history w (Receive i bytes) (replica w i) (λ r. IfText bytes (λ s. Merges w r Joined (with_replica w i (taking r (adds s) (merge.State s)))) (Refuses BadState w)) NoReplica answer new
-    explains effect
-    (λ r there p. if_text history w (Receive i bytes) bytes (λ s. Merges w r Joined (with_replica w i (taking r (adds s) (merge.State s)))) answer new explains
-    (λ s text q. if_left history w (Receive i bytes) (length r.merges) Joined _ answer new explains (received history w i bytes s r explains there text) q) p)
-effect_explained base history w (Restart i) answer new explains effect =
-    at_replica history w (Restart i) (replica w i) (λ r. IfNumberLeft w.last (Accepts Restarted (restarting w i)) (Refuses NumbersSpent w)) NoReplica answer new explains effect
-    (λ r there p. if_left history w (Restart i) w.last Restarted (restarting w i) answer new explains (restarted history w i r explains there) p)
-effect_explained base history w (Ask i q) answer new explains effect =
-    at_replica history w (Ask i q) (replica w i) (λ r. WithStamped r (λ s. Accepts (Replied (replica_reply base r s q)) w)) NoReplica answer new explains effect
-    (λ r there p. explained_as history (Ask i q) answer _ new _ p.3.0 p.3.1 (replied history i q _ w explains))
-
-step_explained : (base : List ℕ) (history : History) (w : World) (event : Event) (answer : Answer) (new : World) → Explains history w → Step base w event answer new
-    → Explains (history ++ (event, answer) ∷ []) new
-step_explained base history w event answer new explains (inl effect) = effect_explained base history w event answer new explains effect
-step_explained base history w event answer new explains (inr out) = explained_as history event answer (Err NoMemory) new w out.0 out.1 (refused history event NoMemory w explains)
+change_explained : (history : History) (w : World) (event : Event) (answer : Answer) (new : World) → Explains history w → Change w event answer new → Explains (history ++ (event, answer) ∷ []) new
+change_explained history w event answer new explains (change.idle (inl (why, answer_is)) is) =
+    happened_as Explains history event event answer (Err why) new w refl answer_is is (refused history event why w explains)
+change_explained history w event answer new explains (change.idle (inr (i, q, r, event_is, answer_is)) is) =
+    happened_as Explains history event (Ask i q) answer (Ok (Replied r)) new w event_is answer_is is (replied history i q r w explains)
+change_explained history w event answer new explains (change.took i h r there event_is answer_is is) =
+    happened_as Explains history event (Take i h) answer (Ok Taken) new _ event_is answer_is is (taken history w i h r explains there)
+change_explained history w event answer new explains (change.received i bytes s r there text event_is answer_is is) =
+    happened_as Explains history event (Receive i bytes) answer (Ok Joined) new _ event_is answer_is is (received history w i bytes s r explains there text)
+change_explained history w event answer new explains (change.joined i k r m there found fit event_is answer_is is) =
+    happened_as Explains history event (Deliver i k) answer (Ok Joined) new _ event_is answer_is is (delivered history w i k m r explains there found)
+change_explained history w event answer new explains (change.sent i r s cursor there stamped own sends answer_is is) =
+    happened_as Explains history event event answer (Ok (Sent (length w.messages + 1))) new _ refl answer_is is (sent history w event i r (delta_from s cursor) sends explains there)
+change_explained history w event answer new explains (change.restarted i r there event_is answer_is is) =
+    happened_as Explains history event (Restart i) answer (Ok Restarted) new _ event_is answer_is is (restarted history w i r explains there)
 
 -- ---- runs
-
-run_explained : (base : List ℕ) (history : History) (w : World) (events : List Event) (answers : List Answer) (end : World) → Explains history w → Run base w events answers end
-    → Explains (history ++ zip events answers) end
-run_explained base history w [] [] end explains run = subst (λ (e : World). Explains (history ++ []) e) (sym run) (subst (λ (l : History). Explains l w) (sym (append-nil history)) explains)
-run_explained base history w [] (answer ∷ answers) end explains run = absurd run
-run_explained base history w (event ∷ events) [] end explains run = absurd run
-run_explained base history w (event ∷ events) (answer ∷ answers) end explains run =
-    let first = step_explained base history w event answer run.0 explains run.1 in
-    subst (λ (l : History). Explains l end) (append_assoc history ((event, answer) ∷ []) (zip events answers))
-    (run_explained base (history ++ (event, answer) ∷ []) run.0 events answers end first run.2)
 
 start_explained : (count : ℕ) → Explains [] (start count)
 start_explained count = record {
@@ -412,7 +335,7 @@ start_explained count = record {
     nothing at = let below = at.1 in absurd (omega (arith, below))
 
 course_explained : {base : List ℕ} (course : Course base) → Explains (history_of course) course.world
-course_explained {base} course = run_explained base [] (start course.count) course.events course.answers course.world (start_explained course.count) course.run
+course_explained {base} course = course_keeps Explains change_explained course (start_explained course.count)
 
 -- what a replica has taken is what it has learnt
 pub taken_is_learnt : {base : List ℕ} (course : Course base) (i : ℕ) (known : Knowledge) → HasTaken course.world i known → (h : Harvested) → Contains known h ↔ Learnt (history_of course) i h

@@ -11,46 +11,46 @@ use Rattle.replica_events.specs.History.{Happened, History, NoRestart, sender_of
 
 -- ---- lists and one element more
 
-not_empty : {X : Type 0} (before after : List X) (y : X) → [] ≡ before ++ y ∷ after → ⊥
+pub not_empty : {X : Type 0} (before after : List X) (y : X) → [] ≡ before ++ y ∷ after → ⊥
 not_empty [] after y is = cc
 not_empty (b ∷ before) after y is = cc
 
 -- the element is the last one, or stands before it
-abbrev Stood : {X : Type 0} → List X → X → List X → X → List X → Type 0
+abbrev pub Stood : {X : Type 0} → List X → X → List X → X → List X → Type 0
 Stood {X} xs x before y after = ((xs ≡ before) × (x ≡ y) × (after ≡ [])) ⊎ ((rest : List X) × (xs ≡ before ++ y ∷ rest) × (after ≡ rest ++ x ∷ []))
 
 stood_under : {X : Type 0} (z b : X) (xs before after : List X) (x y : X) → z ≡ b → Stood xs x before y after → Stood (z ∷ xs) x (b ∷ before) y after
 stood_under z b xs before after x y head (inl (front, last, none)) = inl ((λ i. head i ∷ front i), last, none)
 stood_under z b xs before after x y head (inr (rest, front, back)) = inr (rest, (λ i. head i ∷ front i), back)
 
-stood : {X : Type 0} (xs before after : List X) (x y : X) → xs ++ x ∷ [] ≡ before ++ y ∷ after → Stood xs x before y after
+pub stood : {X : Type 0} (xs before after : List X) (x y : X) → xs ++ x ∷ [] ≡ before ++ y ∷ after → Stood xs x before y after
 stood [] [] after x y is = inl (refl, cc, cc)
 stood [] (b ∷ before) after x y is = absurd (not_empty before after y (cc))
 stood (z ∷ xs) [] after x y is = inr (xs, cc, cc)
 stood (z ∷ xs) (b ∷ before) after x y is = stood_under z b xs before after x y (cc) (stood xs before after x y (cc))
 
-grows : {X : Type 0} (all before after : List X) (x y : X) → all ≡ before ++ x ∷ after → all ++ y ∷ [] ≡ before ++ x ∷ (after ++ y ∷ [])
+pub grows : {X : Type 0} (all before after : List X) (x y : X) → all ≡ before ++ x ∷ after → all ++ y ∷ [] ≡ before ++ x ∷ (after ++ y ∷ [])
 grows all before after x y is = ap (λ (l : List _). l ++ y ∷ []) is ∙ append_assoc before (x ∷ after) (y ∷ [])
 
 -- ---- restarts
 
-no_restart_yet : (i : ℕ) → NoRestart [] i
+pub no_restart_yet : (i : ℕ) → NoRestart [] i
 no_restart_yet i at = let below = at.1 in absurd (omega (arith, below))
 
 abbrev pub IsRestart : Event → Answer → ℕ → Type 0
 IsRestart event answer i = (event ≡ Restart i) × (answer ≡ Ok Restarted)
 
-no_restart_push : (history : History) (event : Event) (answer : Answer) (i : ℕ) → NoRestart history i → ¬ IsRestart event answer i → NoRestart (history ++ (event, answer) ∷ []) i
+pub no_restart_push : (history : History) (event : Event) (answer : Answer) (i : ℕ) → NoRestart history i → ¬ IsRestart event answer i → NoRestart (history ++ (event, answer) ∷ []) i
 no_restart_push history event answer i none other at = cases (Contains-push_cases history (event, answer) (Restart i, Ok Restarted) at)
   where
     cases : (Contains history (Restart i, Ok Restarted)) ⊎ (let x : Happened = (event, answer) in x ≡ (Restart i, Ok Restarted)) → ⊥
     cases (inl before) = none before
     cases (inr last) = other (ap (λ (x : Happened). x.0) last, ap (λ (x : Happened). x.1) last)
 
-no_restart_before : (history : History) (event : Event) (answer : Answer) (i : ℕ) → NoRestart (history ++ (event, answer) ∷ []) i → NoRestart history i
+pub no_restart_before : (history : History) (event : Event) (answer : Answer) (i : ℕ) → NoRestart (history ++ (event, answer) ∷ []) i → NoRestart history i
 no_restart_before history event answer i none at = none (Contains-append_left history ((event, answer) ∷ []) (Restart i, Ok Restarted) at)
 
-no_restart_last : (history : History) (event : Event) (answer : Answer) (i : ℕ) → NoRestart (history ++ (event, answer) ∷ []) i → ¬ IsRestart event answer i
+pub no_restart_last : (history : History) (event : Event) (answer : Answer) (i : ℕ) → NoRestart (history ++ (event, answer) ∷ []) i → ¬ IsRestart event answer i
 no_restart_last history event answer i none is =
     none (subst (λ (x : Happened). Contains (history ++ (event, answer) ∷ []) x) (λ k. (is.0 k, is.1 k)) (Contains-push history (event, answer)))
 

@@ -8,3 +8,6 @@ pub mod Stampings
 pub mod Outcomes
 mod Causes
 pub mod Replies
+mod Changes
+mod Counted
+mod Furthest

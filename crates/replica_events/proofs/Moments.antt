@@ -1,6 +1,6 @@
 -- Each step keeps what holds of worlds, and so does a run: cursors are of moments that were.
 use Rattle.std.proofs.Common.{◌≡◌, ℕ, zero, suc, ◌+◌, ◌<◌, ◌≤◌, true, false, cond, List, [], ◌∷◌, ◌++◌, length, take, Option, Some, None, refl, sym, ap, subst, ◌∙◌, append_assoc, append-nil, inl, inr, arith, slice_get}
-use Rattle.std.specs.Prelude.{◌==◌, ◌&&◌, nat_lt, MatchOption}
+use Rattle.std.specs.Prelude.{◌==◌, ◌&&◌, nat_lt}
 use Rattle.std.specs.Ordering.{nat_cmp, eq_by_cmp}
 use Rattle.std.specs.Cmp.{nat_cmp_total, Equal-is}
 use Rattle.std.specs.FinMap as map
@@ -14,14 +14,11 @@ use Rattle.replica_exchange.specs.declared.cursor.Cursor.{Cursor}
 use Rattle.replica_exchange.specs.Stamps.{state_after, StampedState, IsStamped}
 use Rattle.replica_exchange.specs.CursorRule.{delta_from, fits, end_of, moved, taken_from}
 use Rattle.replica_events.specs.declared.event.Event.{Event}
-use Rattle.replica_events.specs.declared.event.Event.TheVariants.{Take, Send, SendFrom, Deliver, Receive, Restart, Ask}
-use Rattle.replica_events.specs.declared.event.Said.{Said}
-use Rattle.replica_events.specs.declared.event.Said.TheVariants.{Taken, Sent, Joined, Restarted, Replied}
-use Rattle.replica_events.specs.declared.event.Refused.{Refused}
-use Rattle.replica_events.specs.declared.event.Refused.TheVariants.{NoReplica, NoMessage, BadState, Gap, NumbersSpent}
-use Rattle.replica_events.specs.World.{Knowledge, World, Replica, Message, Answer, Outcome, Course, Effect, Sends, Merges, Joins, Step, Run, Accepts, Refuses, WithMessage, WithStamped, IfWithinLimit, IfText, IfNumberLeft, numbered, replica, message, with_replica, with_message, taking, joining, sent_by, own_cursor, replica_reply, fresh, fresh_after, start, restarting}
+use Rattle.replica_events.specs.World.{Knowledge, World, Replica, Message, Answer, Course, Step, Run, numbered, replica, message, with_replica, with_message, taking, joining, sent_by, fresh, fresh_after, start, restarting}
 use Rattle.replica_events.specs.Cursors.{GoesOn, IsReached}
 use Rattle.replica_events.proofs.Numbers.{IsPlaced, replica_placed, messages_stay, Pushed, pushed}
+use Rattle.replica_events.proofs.Changes as change
+use Rattle.replica_events.proofs.Changes.{Change, step_changes}
 use Rattle.replica_events.proofs.Sound.{Logs, logs_with, Sound, sound_taken, sound_received, sound_joined, sound_sent, sound_restarted}
 
 -- ---- what was met
@@ -162,67 +159,16 @@ module _ (Met : ℕ → Replica → Type 0) where
 
     -- ---- each event
 
-    same_world : (why : Refused) (answer : Answer) (new : World) → Refuses why w answer new → Good Met new
-    same_world why answer new p = subst (Good Met) (sym p.1) good
-
-    accepted : (next new : World) → Good Met next → new ≡ next → Good Met new
-    accepted next new is same = subst (Good Met) (sym same) is
-
-    given : {X : Type 0} (o : Option X) (happens : X → Outcome) (why : Refused) (answer : Answer) (new : World) → MatchOption o (Refuses why w answer new) (λ x. happens x answer new)
-        → ((x : X) → o ≡ Some x → happens x answer new → Good Met new) → Good Met new
-    given None happens why answer new p found = same_world why answer new p
-    given (Some x) happens why answer new p found = found x refl p
-
-    left : (n : ℕ) (said : Said) (next : World) (answer : Answer) (new : World) → Good Met next → IfNumberLeft n (Accepts said next) (Refuses NumbersSpent w) answer new → Good Met new
-    left n said next answer new is (inl (few, p)) = accepted next new is p.1
-    left n said next answer new is (inr (spent, p)) = same_world NumbersSpent answer new p
-
-    sends : (i : ℕ) (cursor : Replica → Option Cursor) (answer : Answer) (new : World) → Sends w i cursor answer new → Good Met new
-    sends i cursor answer new effect =
-        given (replica w i) (λ r. WithStamped r (λ s. Accepts (Sent (length w.messages + 1)) (next r s))) NoReplica answer new effect
-        (λ r there p. accepted (next r p.0) new (good_sent i r p.0 (cursor r) there p.1 p.2) p.3.1)
-      where
-        next : Replica → StampedState → World
-        next r s = with_message w (sent_by i r (delta_from s (cursor r)))
-
-    joins : (i k : ℕ) (r : Replica) (m : Message) (answer : Answer) (new : World) → replica w i ≡ Some r → message w k ≡ Some m → Joins w i r m answer new → Good Met new
-    joins i k r m answer new there found (inl (fit, p)) = left (length r.merges) Joined (with_replica w i (joining r m)) answer new (good_joined i k r m there found fit) p
-    joins i k r m answer new there found (inr (gap, p)) = same_world (Gap (map.get r.cursors m.sender)) answer new p
-
-    bounded : (i k : ℕ) (r : Replica) (m : Message) (answer : Answer) (new : World) → replica w i ≡ Some r → message w k ≡ Some m
-        → IfWithinLimit m.bytes (Joins w i r m) (Refuses BadState w) answer new → Good Met new
-    bounded i k r m answer new there found (inl (few, p)) = joins i k r m answer new there found p
-    bounded i k r m answer new there found (inr (many, p)) = same_world BadState answer new p
-
-    receives : (i : ℕ) (bytes : List ℕ) (r : Replica) (answer : Answer) (new : World) → replica w i ≡ Some r
-        → IfText bytes (λ s. Merges w r Joined (with_replica w i (taking r (adds s) (merge.State s)))) (Refuses BadState w) answer new → Good Met new
-    receives i bytes r answer new there (inl (s, is, p)) =
-        left (length r.merges) Joined (with_replica w i (taking r (adds s) (merge.State s))) answer new (good_received i r s there) p
-    receives i bytes r answer new there (inr (none, p)) = same_world BadState answer new p
-
-    pub good_effect : (base : List ℕ) (event : Event) (answer : Answer) (new : World) → Effect base w event answer new → Good Met new
-    good_effect base (Take i h) answer new effect =
-        given (replica w i) (λ r. Merges w r Taken (with_replica w i (taking r (h ∷ []) (merge.Harvest h)))) NoReplica answer new effect
-        (λ r there p. left (length r.merges) Taken (with_replica w i (taking r (h ∷ []) (merge.Harvest h))) answer new (good_taken i r h there) p)
-    good_effect base (Send i) answer new effect = sends i (λ _. None) answer new effect
-    good_effect base (SendFrom i n) answer new effect = sends i (own_cursor n) answer new effect
-    good_effect base (Deliver i k) answer new effect =
-        given (replica w i) (λ r. WithMessage w k (λ m. IfWithinLimit m.bytes (Joins w i r m) (Refuses BadState w))) NoReplica answer new effect
-        (λ r there p. given (message w k) (λ m. IfWithinLimit m.bytes (Joins w i r m) (Refuses BadState w)) NoMessage answer new p
-        (λ m found q. bounded i k r m answer new there found q))
-    good_effect base (Receive i bytes) answer new effect =
-        given (replica w i) (λ r. IfText bytes (λ s. Merges w r Joined (with_replica w i (taking r (adds s) (merge.State s)))) (Refuses BadState w)) NoReplica answer new effect
-        (λ r there p. receives i bytes r answer new there p)
-    good_effect base (Restart i) answer new effect =
-        given (replica w i) (λ r. IfNumberLeft w.last (Accepts Restarted (restarting w i)) (Refuses NumbersSpent w)) NoReplica answer new effect
-        (λ r there p. left w.last Restarted (restarting w i) answer new (good_restarted i r there) p)
-    good_effect base (Ask i q) answer new effect =
-        given (replica w i) (λ r. WithStamped r (λ s. Accepts (Replied (replica_reply base r s q)) w)) NoReplica answer new effect
-        (λ r there p. accepted w new good p.3.1)
+    good_change : (event : Event) (answer : Answer) (new : World) → Change w event answer new → Good Met new
+    good_change event answer new (change.idle answered is) = subst (Good Met) (sym is) good
+    good_change event answer new (change.took i h r there event_is answer_is is) = subst (Good Met) (sym is) (good_taken i r h there)
+    good_change event answer new (change.received i bytes s r there text event_is answer_is is) = subst (Good Met) (sym is) (good_received i r s there)
+    good_change event answer new (change.joined i k r m there found fit event_is answer_is is) = subst (Good Met) (sym is) (good_joined i k r m there found fit)
+    good_change event answer new (change.sent i r s cursor there stamped own sends answer_is is) = subst (Good Met) (sym is) (good_sent i r s cursor there stamped own)
+    good_change event answer new (change.restarted i r there event_is answer_is is) = subst (Good Met) (sym is) (good_restarted i r there)
 
     pub good_step : (base : List ℕ) (event : Event) (answer : Answer) (new : World) → Step base w event answer new → Good Met new
-    good_step base event answer new (inl effect) = good_effect base event answer new effect
-    good_step base event answer new (inr out) = accepted w new good out.1
+    good_step base event answer new step = good_change event answer new (step_changes w base event answer new step)
 
 -- what was met before is met still
 met_still : (Met More : ℕ → Replica → Type 0) (w : World) → ((p : ℕ) (s : Replica) → Met p s → More p s) → Good Met w → Good More w

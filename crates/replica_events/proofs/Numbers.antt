@@ -1,5 +1,5 @@
 -- Replicas and messages by their numbers, once one of them is new.
-use Rattle.std.proofs.Common.{◌≡◌, ℕ, zero, suc, ◌+◌, ◌≤◌, ◌⊎◌, List, [], ◌∷◌, ◌++◌, length, Some, slice_get, slice_set, refl, ap, inl, inr, arith}
+use Rattle.std.proofs.Common.{◌≡◌, ℕ, zero, suc, ◌+◌, ◌≤◌, ◌⊎◌, List, [], ◌∷◌, ◌++◌, length, Some, slice_get, slice_set, refl, ap, subst, inl, inr, arith}
 use Rattle.replica_events.specs.World.{World, Replica, numbered, replica, with_replica}
 
 -- ---- places
@@ -59,6 +59,23 @@ pushed xs last (suc place) x is = numbers (get_pushed xs last place x is)
     numbers : ((place ≡ length xs) × (x ≡ last)) ⊎ ((suc place ≤ length xs) × (slice_get xs place ≡ Some x)) → Pushed xs last (suc place) x
     numbers (inl (at, last_is)) = inl (omega (arith, at), last_is)
     numbers (inr (within, there)) = inr (within, there)
+
+get_push : {X : Type 0} (xs : List X) (last : X) (place : ℕ) (x : X) → slice_get xs place ≡ Some x → slice_get (xs ++ last ∷ []) place ≡ Some x
+get_push [] last place x is = cc
+get_push (y ∷ xs) last zero x is = is
+get_push (y ∷ xs) last (suc place) x is = get_push xs last place x is
+
+-- the others keep their numbers, and the last one has the next
+pub numbered_push : {X : Type 0} (xs : List X) (last : X) (k : ℕ) (x : X) → numbered xs k ≡ Some x → numbered (xs ++ last ∷ []) k ≡ Some x
+numbered_push xs last zero x is = is
+numbered_push xs last (suc place) x is = get_push xs last place x is
+
+get_last : {X : Type 0} (xs : List X) (last : X) → slice_get (xs ++ last ∷ []) (length xs) ≡ Some last
+get_last [] last = refl
+get_last (y ∷ xs) last = get_last xs last
+
+pub numbered_last : {X : Type 0} (xs : List X) (last : X) → numbered (xs ++ last ∷ []) (length xs + 1) ≡ Some last
+numbered_last xs last = let next : suc (length xs) ≡ length xs + 1 = omega arith in subst (λ (k : ℕ). numbered (xs ++ last ∷ []) k ≡ Some last) next (get_last xs last)
 
 pub last_stays : (w : World) (i : ℕ) (r : Replica) → (with_replica w i r).last ≡ w.last
 last_stays w zero r = refl

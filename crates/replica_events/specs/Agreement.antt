@@ -30,7 +30,8 @@ abbrev pub timemap_at : List ℕ → Knowledge → List ℕ → Option (List ℕ
 timemap_at base known original =
     if length (set.items (shown known original)) == 0 then None else Some (timemap_of base known original)
 
--- every request has the same reply from both replicas, and so has every original the same TimeMap, or neither has one
+-- every request that asks for no delta has the same reply from both replicas, and so has every original the same
+-- TimeMap, or neither has one; a delta also tells of the merges by which the harvests came
 pub record Agree (base : List ℕ) (world : World) (i j : ℕ) (known other : Knowledge) : Type 0 where
   pub replies : (q : Request) (r s : Reply) → IsOfTaken q → Gives base world i q r → Gives base world j q s → r ≡ s
   pub timemaps : (original : List ℕ) → timemap_at base known original ≡ timemap_at base other original

@@ -4,3 +4,4 @@ pub mod History
 pub mod Faults
 pub mod Agreement
 pub mod Cursors
+pub mod Incarnations

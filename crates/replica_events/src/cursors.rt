@@ -1,11 +1,12 @@
 //! What the merges of a replica make, and what its cursors say.
-ghost use Rattle.std.specs.Prelude.{◌≡◌, ℕ, List, Some};
+ghost use Rattle.std.specs.Prelude.{◌≡◌, ◌↔◌, ℕ, List, Some, None};
 ghost use Rattle.std.specs.FinMap as map;
 ghost use Rattle.harvest_lattice.specs.Knowledge.{lat};
 ghost use Rattle.replica_exchange.specs.declared.cursor.Cursor.{Cursor};
 ghost use Rattle.replica_exchange.specs.Stamps.{state_after};
 ghost use Rattle.replica_events.specs.World.{Replica, Course, replica};
-ghost use Rattle.replica_events.specs.Cursors.{IsReached};
+ghost use Rattle.replica_events.specs.History.{History, history_of};
+ghost use Rattle.replica_events.specs.Cursors.{IsReached, WasBrought, IsFurthest};
 
 /// After every list of events, the merges of a replica have made the state of all that it has taken: a delta that was
 /// delivered has led where all that its sender had taken would have led. And a cursor that a replica holds for a peer
@@ -16,4 +17,16 @@ pub fn cursors_are_kept()
         state_after r.merges ≡ lat r.taken }
     ensures cursors { (base : List ℕ) (course : Course base) (i : ℕ) (r : Replica) → replica course.world i ≡ Some r →
         (peer : ℕ) (c : Cursor) → map.get r.cursors peer ≡ Some c → IsReached course peer c (lat r.taken) }
+{}
+
+/// Which cursors a replica holds follows from the accepted events alone. Of a peer by which it was brought nothing since
+/// its last restart it holds none; and else the end of what it was brought: where ends of several incarnations of the
+/// peer were brought, those since the last change of the incarnation count, and of them the furthest.
+pub fn what_cursors_are()
+    ensures held { (base : List ℕ) (course : Course base) (i : ℕ) (r : Replica) → replica course.world i ≡ Some r →
+        (peer : ℕ) (c : Cursor) →
+        (map.get r.cursors peer ≡ Some c) ↔ IsFurthest course.count (history_of course) i peer c }
+    ensures none { (base : List ℕ) (course : Course base) (i : ℕ) (r : Replica) → replica course.world i ≡ Some r →
+        (peer : ℕ) → (map.get r.cursors peer ≡ None)
+        ↔ ((end : Cursor) (after : History) → ¬ WasBrought course.count (history_of course) i peer end after) }
 {}

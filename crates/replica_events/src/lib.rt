@@ -1,18 +1,20 @@
 //! What may happen to replicas that exchange what they have taken, and what follows of it, with no code of a program:
 //! events and their outcomes, worlds of replicas and messages, histories, and the laws that hold of them all.
 //!
-//! `replicas_agree` is what the crate is for: replicas that have learnt the same harvests reply alike. A program that
-//! shows which events it stands for has the laws for itself.
+//! `replicas_agree` is what the crate is for: replicas that have learnt the same harvests reply alike, but to requests
+//! for deltas. A program that shows which events it stands for has the laws for itself.
 #![tactic(auto)]
 
 mod agreement;
 mod cursors;
 mod event;
 mod history;
+mod incarnations;
 mod refusals;
 
 pub use agreement::{replicas_agree, replies_are_of_merges};
-pub use cursors::cursors_are_kept;
+pub use cursors::{cursors_are_kept, what_cursors_are};
 pub use event::{Answer, Event, Refused, Said};
 pub use history::{deliveries_in_any_order, what_replicas_have_taken};
+pub use incarnations::incarnations_are_new;
 pub use refusals::{one_outcome, refusals_have_causes};
