@@ -24,6 +24,6 @@ pub use replaying::run::replay;
 pub use replaying::watched::Watched;
 pub use replica_events::{
     Answer, Event, Refused, Said, cursors_are_kept, deliveries_in_any_order, one_outcome,
-    replicas_agree, replies_are_of_merges, what_replicas_have_taken,
+    refusals_have_causes, replicas_agree, replies_are_of_merges, what_replicas_have_taken,
 };
 pub use world::World;

@@ -221,7 +221,7 @@ fn says(rt: &HostRuntime, script: &[u8], wanted: &[u8]) -> Result<bool, Fail> {
     let mut reader = Watched::new(script);
     let mut writer = Watched::new(Vec::new(rt.alloc()));
     replay(rt.alloc(), &mut reader, &mut writer)?;
-    Ok(writer.device.as_slice() == wanted)
+    Ok(writer.device().as_slice() == wanted)
 }
 
 #[test]
@@ -239,7 +239,7 @@ fn bad_line(rt: &HostRuntime, script: &[u8], wanted: &[u8]) -> Option<u64> {
     let mut reader = Watched::new(script);
     let mut writer = Watched::new(Vec::new(rt.alloc()));
     match replay(rt.alloc(), &mut reader, &mut writer) {
-        Err(ReplayFault::BadLine { number }) if writer.device.as_slice() == wanted => Some(number),
+        Err(ReplayFault::BadLine { number }) if writer.device().as_slice() == wanted => Some(number),
         _ => None,
     }
 }
@@ -274,7 +274,7 @@ fn replay_by_bytes(
     let mut reader = Watched::new(FailingReader { rest, reads });
     let mut writer = Watched::new(Vec::new(rt.alloc()));
     let result = replay(rt.alloc(), &mut reader, &mut writer);
-    (result, writer.device.len())
+    (result, writer.device().len())
 }
 
 // A reader may give a byte at a time for as long as it likes, below the limit of a thousand million reads.
