@@ -30,16 +30,16 @@ pub record Of {A B : Type 0} (view : A → B) (all : List A) (number : ℕ) (b :
 pub kept_of : {A B : Type 0} (view : A → B) (all : List A) (kept : List B) (number : ℕ) (b : B) → kept ≡ map view all → numbered kept number ≡ Some b → Of view all number b
 kept_of {A} {B} view all kept number b kept_is is =
     of_it (numbered all number) refl (sym (numbered-map view all number) ∙ (ap (λ (bs : List B). numbered bs number) (sym kept_is) ∙ is)) where
-  of_it : (o : Option A) → numbered all number ≡ o → option_map view o ≡ Some b → Of view all number b
-  of_it None there seen = absurd (none-some b seen)
-  of_it (Some a) there seen = record { found = a; there = there; kept_is = sym (same_Some (view a) b seen) }
+      of_it : (o : Option A) → numbered all number ≡ o → option_map view o ≡ Some b → Of view all number b
+      of_it None there seen = absurd (none-some b seen)
+      of_it (Some a) there seen = record { found = a; there = there; kept_is = sym (same_Some (view a) b seen) }
 
 pub none_kept : {A B : Type 0} (view : A → B) (all : List A) (kept : List B) (number : ℕ) → kept ≡ map view all → numbered kept number ≡ None → numbered all number ≡ None
 none_kept {A} {B} view all kept number kept_is is =
     no_element (numbered all number) (sym (numbered-map view all number) ∙ (ap (λ (bs : List B). numbered bs number) (sym kept_is) ∙ is)) where
-  no_element : (o : Option A) → option_map view o ≡ None → o ≡ None
-  no_element None seen = refl
-  no_element (Some a) seen = absurd (none-some (view a) (sym seen))
+      no_element : (o : Option A) → option_map view o ≡ None → o ≡ None
+      no_element None seen = refl
+      no_element (Some a) seen = absurd (none-some (view a) (sym seen))
 
 -- what is true of each is true of what has the number
 pub all_numbered : {A : Type 0} (P : A → Type 0) (all : List A) (number : ℕ) (a : A) → numbered all number ≡ Some a → All P all → P a

@@ -1,7 +1,7 @@
 //! Reading all that a reader gives, and writing all that is to be written.
 ghost use Rattle.std.specs.Prelude.{◌≡◌, ◌≢◌, ◌⊎◌, ◌<◌, length, OnOk, OnErr, IfOk, IfErr, IfSome};
 ghost use Rattle.std.specs.Io.KnownBytes.{Appends};
-ghost use Rattle.replica_world.specs.Marks.{grown};
+ghost use Rattle.replica_world.specs.Watching.{grown};
 ghost use Rattle.replica_world.specs.Devices.{AppendsBeginning, StopsReading};
 
 use crate::replaying::fault::ReplayFault;

@@ -1,7 +1,7 @@
 //! What one command writes.
 ghost use Rattle.std.specs.Prelude.{◌≡◌, ◌++◌, OnOk, OnErr};
 ghost use Rattle.std.specs.Io.KnownBytes.{Appends};
-ghost use Rattle.replica_world.specs.Marks.{grown};
+ghost use Rattle.replica_world.specs.Watching.{grown};
 ghost use Rattle.replica_world.specs.Devices.{AppendsBeginning};
 
 use crate::replaying::devices::write_whole;

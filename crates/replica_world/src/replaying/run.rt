@@ -4,7 +4,7 @@ ghost use Rattle.std.specs.Prelude.{MatchOption};
 ghost use Rattle.replica_world.specs.Script.{command_at, number_of_line};
 ghost use Rattle.replica_events.specs.World.{World as Replicas};
 ghost use Rattle.replica_world.specs.Stands.{Stands};
-ghost use Rattle.replica_world.specs.Marks.{grown};
+ghost use Rattle.replica_world.specs.Watching.{grown};
 ghost use Rattle.replica_world.specs.Devices.{BlamesWriter};
 ghost use Rattle.replica_world.specs.Output.{Replays, ReplaysFrom};
 ghost use Rattle.replica_world.specs.Performing.{IsFirstPerformed};

@@ -239,7 +239,9 @@ fn bad_line(rt: &HostRuntime, script: &[u8], wanted: &[u8]) -> Option<u64> {
     let mut reader = Watched::new(script);
     let mut writer = Watched::new(Vec::new(rt.alloc()));
     match replay(rt.alloc(), &mut reader, &mut writer) {
-        Err(ReplayFault::BadLine { number }) if writer.device().as_slice() == wanted => Some(number),
+        Err(ReplayFault::BadLine { number }) if writer.device().as_slice() == wanted => Some(
+            number,
+        ),
         _ => None,
     }
 }

@@ -2,7 +2,7 @@
 ghost use Rattle.std.specs.Prelude.{◌≡◌, OnOk, OnErr};
 ghost use Rattle.std.specs.Io.{ReadsAtMost, WritesAtMost};
 ghost use Rattle.std.specs.Io.KnownBytes.{ReadConsumes, WriteAppends};
-ghost use Rattle.replica_world.specs.Marks.{grown, IsPiece, IsFailedWrite};
+ghost use Rattle.replica_world.specs.Watching.{grown, IsPiece, IsFailedWrite};
 
 use std::io::{self, Read, Write};
 use std::marker::Model;
@@ -17,9 +17,9 @@ pub struct Watched<D> {
 }
 
 impl<D> Model for Watched<D> {
-    ghost use Rattle.replica_world.specs.Marks.{Marked};
+    ghost use Rattle.replica_world.specs.Watching.{Seen};
 
-    ghost Value = { Marked D };
+    ghost Value = { Seen D };
 
     ghost view = { λ w. record { device = w.device; failures = w.failures; pieces = w.pieces } };
 }
@@ -59,7 +59,7 @@ impl<D> Watched<D> {
 }
 
 impl<R: Read> Watched<R> {
-    /// Reads once, and counts what it gave or that it failed.
+    /// Reads once, and counts whether that failed, or gave bytes.
     pub fn read(&mut self, buffer: &mut [u8]) -> io::Result<usize>
         ensures bound { ReadsAtMost result buffer.new }
         ensures bytes { ReadConsumes (R.remaining self.old.device) (R.remaining self.new.device) result buffer.new }
@@ -79,20 +79,18 @@ impl<R: Read> Watched<R> {
 }
 
 impl<W: Write> Watched<W> {
-    /// Writes once, and counts it where it failed or took no byte.
+    /// Writes once, and counts whether that failed or took none of the bytes.
     pub fn write(&mut self, bytes: &[u8]) -> io::Result<usize>
         ensures bound { WritesAtMost result bytes.now }
         ensures bytes { WriteAppends (W.contents self.old.device) (W.contents self.new.device) result bytes.now }
         ensures failed { IsFailedWrite result bytes.now → self.new.failures ≡ grown 1 self.old.failures }
         ensures not_failed { ¬ (IsFailedWrite result bytes.now) → self.new.failures ≡ self.old.failures }
+        ensures no_piece { self.new.pieces ≡ self.old.pieces }
     {
         let result = self.device.write(bytes);
-        let is_done = match result {
-            Ok(count) => count > 0 || bytes.is_empty(),
-            Err(_) => false,
-        };
-        if !is_done {
-            self.failures = self.failures.saturating_add(1);
+        match result {
+            Ok(count) if count > 0 || bytes.is_empty() => {}
+            _ => self.failures = self.failures.saturating_add(1),
         }
         result
     }

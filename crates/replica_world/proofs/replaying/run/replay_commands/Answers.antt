@@ -3,7 +3,7 @@ use Rattle.std.proofs.lemmas.Result.{err_from_is_err_and}
 use Rattle.replica_world.specs.declared.replaying.fault.ReplayFault.{ReplayFault}
 use Rattle.replica_world.proofs.Progress.{progress_start, progress_end, progress_bad, progress_next, progress_out_of_memory, progress_cut, some_left, none_left}
 use Rattle.replica_world.proofs.WholeScript.{first_shorter}
-use Rattle.replica_world.specs.Marks.{grown}
+use Rattle.replica_world.specs.Watching.{grown}
 use Rattle.replica_world.proofs.Written.{blamed}
 use Rattle.replica_world.proofs.replaying.run.replay_commands.Goals as goal
 

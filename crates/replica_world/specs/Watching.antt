@@ -1,8 +1,8 @@
--- What is noted of a device's calls.
+-- What is seen of a device whose calls are counted.
 use Rattle.std.specs.Prelude.{◌≡◌, ℕ, ◌+◌, ◌-◌, ◌^◌, ◌<◌, min, List, length, Result, Ok, Err}
 
 -- a device, how many of its calls failed, and how many reads gave bytes
-pub record Marked (D : Type 0) : Type 0 where
+pub record Seen (D : Type 0) : Type 0 where
   pub device : D
   pub failures : ℕ
   pub pieces : ℕ
