@@ -1,5 +1,5 @@
 -- What is kept under a number.
-use Rattle.std.proofs.Common.{◌≡◌, ℕ, zero, suc, List, length, get_or, map, Option, Some, None, refl, sym, ap, subst, ◌∙◌, ◌+◌, ◌≤◌, arith}
+use Rattle.std.proofs.Common.{◌≡◌, ℕ, zero, suc, List, length, get_or, map, Option, Some, None, refl, sym, ap, subst, ◌∙◌, ◌≤◌, arith}
 use Rattle.std.specs.Prelude.{All}
 use Rattle.std.specs.Option.{option_map}
 use Rattle.std.proofs.lemmas.Option.{slice_get-map, slice_get_past, slice_get_read, slice_get_within, get_or_from_slice_get, same_Some, none-some}

@@ -4,7 +4,7 @@ use Rattle.std.specs.Prelude.{slice_set, slice_get, ◌⊎◌, All}
 use Rattle.std.specs.List.{AllZip}
 use Rattle.std.specs.FinMap as fmap
 use Rattle.std.proofs.lemmas.List.{map_push, length_push, length-map, get_or_default}
-use Rattle.std.proofs.lemmas.List.Elements.{All-push, All-get_or}
+use Rattle.std.proofs.lemmas.List.Elements.{All-push}
 use Rattle.memento_index.specs.declared.merge.Merge.{Merge}
 use Rattle.memento_index.specs.declared.merge.Merge.TheVariants as merge
 use Rattle.harvest_lattice.specs.Lattice.{Entries}

@@ -1,5 +1,4 @@
 use Rattle.std.proofs.Common.{◌≡◌, ◌<◌, ◌++◌, length, take, rules, arith, refl, inr}
-use Rattle.replica_world.specs.Watching.{grown}
 use Rattle.replica_world.proofs.Written.{at_end, read_more, none_counted, one_more_counted, not_enough}
 use Rattle.replica_world.proofs.replaying.devices.read_all.Goals as goal
 

@@ -1,4 +1,4 @@
-use Rattle.std.proofs.Common.{Err, ap, ◌∙◌, refl}
+use Rattle.std.proofs.Common.{Err, ap, ◌∙◌}
 use Rattle.std.proofs.lemmas.Result.{err_from_is_err_and}
 use Rattle.replica_world.specs.declared.replaying.fault.ReplayFault.{ReplayFault}
 use Rattle.replica_world.proofs.Written.{stopped_at, stops_before_writing, never_read, write_failed, no_write_failed}
