@@ -1,26 +1,47 @@
--- What is kept at the place of a number.
-use Rattle.std.proofs.Common.{◌≡◌, ℕ, zero, suc, ◌+◌, ◌<◌, ◌≤◌, List, length, get_or, map, Some, None, ap, ◌∙◌, arith, refl}
-use Rattle.std.proofs.lemmas.List.{get_or-map, length-map}
-use Rattle.std.proofs.lemmas.Option.{slice_get_past, slice_get-get_or}
-use Rattle.replica_world.specs.Places.{IsNoNumber}
+-- What is kept under a number.
+use Rattle.std.proofs.Common.{◌≡◌, ℕ, zero, suc, List, length, get_or, map, Option, Some, None, refl, sym, ap, subst, ◌∙◌, ◌≤◌, arith}
+use Rattle.std.specs.Prelude.{All}
+use Rattle.std.specs.Option.{option_map}
+use Rattle.std.proofs.lemmas.Option.{slice_get-map, slice_get_past, slice_get_read, slice_get_within, get_or_from_slice_get, same_Some, none-some}
+use Rattle.std.proofs.lemmas.List.Elements.{All-get_or}
+use Rattle.replica_world.specs.Places.{IsPlaceOf, IsNoNumber}
 use Rattle.replica_events.specs.World.{numbered}
 
--- the element has the number, and what is kept at the place is of it
-pub record At {A B : Type 0} (view : A → B) (all : List A) (number : ℕ) (found : A) (kept : B) : Type 0 where
+-- what an index reads is what has the number
+pub numbered_here : {A : Type 0} (all : List A) (number count place : ℕ) (a : A) → count ≡ length all → IsPlaceOf number count place → a ≡ get_or all place a → numbered all number ≡ Some a
+numbered_here all number count place a count_is here is =
+    let number_is : suc place ≡ number = omega (arith, here.number_is) in
+    subst (λ (n : ℕ). numbered all n ≡ Some a) number_is (slice_get_read all count place a count_is here.within is)
+
+pub none_numbered : {A : Type 0} (all : List A) (number count : ℕ) → count ≡ length all → IsNoNumber number count → numbered all number ≡ None
+none_numbered all zero count count_is none = refl
+none_numbered all (suc place) count count_is none = slice_get_past all place (subst (λ (n : ℕ). n ≤ place) count_is none)
+
+numbered-map : {A B : Type 0} (view : A → B) (all : List A) (number : ℕ) → numbered (map view all) number ≡ option_map view (numbered all number)
+numbered-map view all zero = refl
+numbered-map view all (suc place) = slice_get-map view all place
+
+-- what is kept under the number, and the element that it is kept of
+pub record Of {A B : Type 0} (view : A → B) (all : List A) (number : ℕ) (b : B) : Type 0 where
+  pub found : A
   pub there : numbered all number ≡ Some found
-  pub kept_is : kept ≡ view found
+  pub kept_is : b ≡ view found
 
-pub at_place : {A B : Type 0} (view : A → B) (all : List A) (kept : List B) (number place : ℕ) (blank : A) (d : B) → kept ≡ map view all → number ≡ place + 1 → place < length kept → At view all number (get_or all place blank) (get_or kept place d)
-at_place view all kept number place blank d kept_is number_is below =
-    let within : place < length all = omega (arith, length-map all view, ap length kept_is) in
-    let is : number ≡ suc place = omega arith in
-    record {
-      there = ap (λ (n : ℕ). numbered all n) is ∙ slice_get-get_or all place blank within;
-      kept_is = ap (λ (bs : List _). get_or bs place d) kept_is ∙ get_or-map view all place blank d within;
-    }
+pub kept_of : {A B : Type 0} (view : A → B) (all : List A) (kept : List B) (number : ℕ) (b : B) → kept ≡ map view all → numbered kept number ≡ Some b → Of view all number b
+kept_of {A} {B} view all kept number b kept_is is =
+    of_it (numbered all number) refl (sym (numbered-map view all number) ∙ (ap (λ (bs : List B). numbered bs number) (sym kept_is) ∙ is)) where
+      of_it : (o : Option A) → numbered all number ≡ o → option_map view o ≡ Some b → Of view all number b
+      of_it None there seen = absurd (none-some b seen)
+      of_it (Some a) there seen = record { found = a; there = there; kept_is = sym (same_Some (view a) b seen) }
 
-pub no_number : {A B : Type 0} (view : A → B) (all : List A) (kept : List B) (number count : ℕ) → kept ≡ map view all → count ≡ length kept → IsNoNumber number count → numbered all number ≡ None
-no_number view all kept zero count kept_is count_is none = refl
-no_number view all kept (suc place) count kept_is count_is none =
-    let past : length all ≤ place = omega (arith, none, length-map all view, ap length kept_is) in
-    slice_get_past all place past
+pub none_kept : {A B : Type 0} (view : A → B) (all : List A) (kept : List B) (number : ℕ) → kept ≡ map view all → numbered kept number ≡ None → numbered all number ≡ None
+none_kept {A} {B} view all kept number kept_is is =
+    no_element (numbered all number) (sym (numbered-map view all number) ∙ (ap (λ (bs : List B). numbered bs number) (sym kept_is) ∙ is)) where
+      no_element : (o : Option A) → option_map view o ≡ None → o ≡ None
+      no_element None seen = refl
+      no_element (Some a) seen = absurd (none-some (view a) (sym seen))
+
+-- what is true of each is true of what has the number
+pub all_numbered : {A : Type 0} (P : A → Type 0) (all : List A) (number : ℕ) (a : A) → numbered all number ≡ Some a → All P all → P a
+all_numbered P all zero a there each = absurd (none-some a there)
+all_numbered P all (suc place) a there each = subst P (get_or_from_slice_get all place a a there) (All-get_or P all place a (slice_get_within all place a there) each)

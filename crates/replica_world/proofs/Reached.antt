@@ -5,21 +5,24 @@ use Rattle.timemap_reader.specs.declared.page.Page.{Page}
 use Rattle.timegate.specs.declared.reply.Reply.{Reply}
 use Rattle.timegate.specs.declared.request.Request.{Request}
 use Rattle.timegate.specs.Route.{IsOfTaken, original_at}
+use Rattle.harvest_lattice.specs.Lattice.{Entries}
 use Rattle.harvest_lattice.specs.Knowledge.{lat}
-use Rattle.timegate.specs.Reply.{reply}
+use Rattle.replica_exchange.specs.Stamps.{StampedState, IsStamped}
+use Rattle.timegate.specs.Reply.{reply, reply_of}
 use Rattle.timegate.proofs.Replies.{same_reply, reply_from_state}
 use Rattle.replica_events.specs.declared.event.Event.{Event}
 use Rattle.replica_events.specs.declared.event.Event.TheVariants.{Take, Ask}
 use Rattle.replica_events.specs.declared.event.Said.TheVariants.{Replied}
 use Rattle.replica_events.specs.declared.event.Refused.TheVariants.{NoReplica}
-use Rattle.replica_events.specs.World.{Knowledge, World, Replica, Refuses, Accepts, WithStamped, HasReplica, Run, start, replica_reply, Course}
+use Rattle.replica_events.specs.World.{Knowledge, World, Replica, Refuses, Accepts, WithStamped, HasReplica, Run, replica, start, replica_reply, Course}
 use Rattle.replica_events.specs.History.{History, LearntAlike}
 use Rattle.replica_events.specs.Agreement.{SameHarvests, HasTaken}
 use Rattle.replica_world.specs.Script as script
 use Rattle.replica_world.specs.Script.{Command, Taking}
 use Rattle.replica_world.specs.Output.{Happens, RefusedAs, IsPage, TakesHarvest, TakesPage, Performs, Says, answer_text, reply_text, taken_line, harvest_of}
-use Rattle.replica_world.specs.Reached.{IsHarvestTaking, IsPageRefusal, WritesAnswer, ComesTo, IsRunOf, AnswersTwice}
+use Rattle.replica_world.specs.Reached.{IsHarvestTaking, IsPageRefusal, WritesAnswer, ComesTo, IsRunOf, AnswersTwice, WritesReplyOf}
 use Rattle.replica_events.proofs.Explained.{same_harvests}
+use Rattle.replica_events.proofs.Moments.{merges_made}
 use Rattle.replica_world.proofs.Questions.{effect_unchanged}
 use Rattle.replica_world.proofs.Once.{OnePage, one_page_is, says_split}
 use Rattle.replica_events.proofs.Replies.{same_state}
@@ -106,14 +109,32 @@ commands_run one base w (command ∷ commands) text end (first, next, later, per
 pub question_unchanged : (base : List ℕ) (w : World) (i : ℕ) (q : Request) (text : List ℕ) (next : World) → Performs base w (script.Step (Ask i q)) text next → next ≡ w
 question_unchanged base w i q text next (answer, effect, is) = effect_unchanged base w i q answer next effect
 
+-- what it does is to give a reply of the replica's stamps
+question_replies : (base : List ℕ) (w : World) (i : ℕ) (r : Replica) (q : Request) (text : List ℕ) (next : World) → replica w i ≡ Some r → Performs base w (script.Step (Ask i q)) text next
+    → (s : StampedState) × IsStamped r.merges s × (s.incarnation ≡ r.incarnation) × (text ≡ reply_text (replica_reply base r s q))
+question_replies base w i r q text next there (answer, effect, is) =
+    let replies : WithStamped r (λ s. Accepts (Replied (replica_reply base r s q)) w) answer next =
+    subst (λ (o : Option Replica). MatchOption o (Refuses NoReplica w answer next) (λ r. WithStamped r (λ s. Accepts (Replied (replica_reply base r s q)) w) answer next)) there effect in
+    (replies.0, replies.1, replies.2, is ∙ ap (answer_text []) replies.3.0)
+
+-- which is the reply of what its merges made, in a world that a script leads to
+pub question_of_merges : OnePage → (base : List ℕ) (count : ℕ) (commands : List Command) (text : List ℕ) (w : World) → Says base (start count) commands text w
+    → (i : ℕ) (r : Replica) → replica w i ≡ Some r → (q : Request) (said : List ℕ) (next : World) → Performs base w (script.Step (Ask i q)) said next → WritesReplyOf base r q said
+question_of_merges one base count commands text w says i r there q said next performs =
+    let run : IsRunOf base (start count) commands text w = commands_run one base (start count) commands text w says in
+    let course : Course base = record { count = count; events = run.events; answers = run.answers; world = w; run = run.run } in
+    let replies = question_replies base w i r q said next there performs in
+    let s : StampedState = replies.0 in
+    let state : lat r.taken ≡ s.entries = sym (replies.1.entries ∙ merges_made course i r there) in
+    (s, replies.1, replies.2, replies.3 ∙ ap (λ (e : Entries). reply_text (reply_of base (record s { entries = e }) q)) state)
+
 -- a question to a replica that has taken this writes the reply of what it has taken
 pub question_writes : (base : List ℕ) (w : World) (i : ℕ) (known : Knowledge) (q : Request) (text : List ℕ) (next : World) → HasTaken w i known → IsOfTaken q → Performs base w (script.Step (Ask i q)) text next
     → text ≡ reply_text (reply base known q)
-question_writes base w i known q text next (r, there, known_is) compared (answer, effect, is) =
-    let replies : WithStamped r (λ s. Accepts (Replied (replica_reply base r s q)) w) answer next =
-    subst (λ (o : Option Replica). MatchOption o (Refuses NoReplica w answer next) (λ r. WithStamped r (λ s. Accepts (Replied (replica_reply base r s q)) w) answer next)) there effect in
+question_writes base w i known q text next (r, there, known_is) compared performs =
+    let replies = question_replies base w i r q text next there performs in
     let own : replica_reply base r replies.0 q ≡ reply base r.taken q = reply_from_state base r.taken (record replies.0 { entries = lat r.taken }) q refl compared in
-    is ∙ (ap (answer_text []) replies.3.0 ∙ (ap reply_text own ∙ ap (λ (known : Knowledge). reply_text (reply base known q)) known_is))
+    replies.3 ∙ (ap reply_text own ∙ ap (λ (known : Knowledge). reply_text (reply base known q)) known_is)
 
 -- so two that have taken the same harvests write the same
 pub questions_agree : (base : List ℕ) (w : World) (i j : ℕ) (known other : Knowledge) → HasTaken w i known → HasTaken w j other → SameHarvests known other

@@ -4,7 +4,7 @@ use Rattle.std.specs.Prelude.{slice_set, slice_get, ◌⊎◌, All}
 use Rattle.std.specs.List.{AllZip}
 use Rattle.std.specs.FinMap as fmap
 use Rattle.std.proofs.lemmas.List.{map_push, length_push, length-map, get_or_default}
-use Rattle.std.proofs.lemmas.List.Elements.{All-push, All-get_or}
+use Rattle.std.proofs.lemmas.List.Elements.{All-push}
 use Rattle.memento_index.specs.declared.merge.Merge.{Merge}
 use Rattle.memento_index.specs.declared.merge.Merge.TheVariants as merge
 use Rattle.harvest_lattice.specs.Lattice.{Entries}
@@ -31,15 +31,15 @@ use Rattle.replica_events.specs.declared.event.Said.TheVariants.{Taken, Sent, Jo
 use Rattle.replica_events.specs.declared.event.Refused.{Refused}
 use Rattle.replica_events.specs.declared.event.Refused.TheVariants.{NoReplica, NoMessage, BadState, NoMemory, Gap, NumbersSpent}
 use Rattle.replica_events.specs.Faults.{refusal, stamp_refusal}
-use Rattle.replica_events.specs.World.{World, Replica, Message, Answer, Step, Effect, HasReplica, TakesMemory, IsText, last_number, replica, message, with_replica, with_message, taking, joining, sent_by, own_cursor, fresh, fresh_after, restarting, start}
+use Rattle.replica_events.specs.World.{World, Replica, Message, Answer, Step, Effect, numbered, HasReplica, TakesMemory, IsText, last_number, replica, message, with_replica, with_message, taking, joining, sent_by, own_cursor, fresh, fresh_after, restarting, start}
 use Rattle.replica_events.proofs.Numbers.{messages_stay, last_stays}
 use Rattle.replica_events.proofs.Moments.{run_push, longer, merges_made}
-use Rattle.replica_world.specs.Places.{IsNoNumber}
+use Rattle.replica_world.specs.Places.{IsPlaceOf, IsNoNumber}
 use Rattle.replica_world.specs.declared.message.SentMessage.{SentMessage}
 use Rattle.replica_world.specs.declared.replica.KeptReplica.{KeptReplica}
 use Rattle.replica_world.specs.Keeping.{IsJoinCause}
 use Rattle.replica_world.specs.Stands.{Kept, Keeps, IsSent, IsReached, Stands, Steps, Runs, MergedAt, kept_at, kept_message, nothing_kept}
-use Rattle.replica_world.proofs.Places.{at_place, no_number}
+use Rattle.replica_world.proofs.Places.{kept_of, none_kept, all_numbered}
 
 -- ---- two lists, pair by pair
 
@@ -94,12 +94,19 @@ refused_without base w (Ask i q) is = rw is (refl, refl)
 stays : (kept : Kept) (event : Event) (answer : Answer) → ((w : World) → Stands kept w → Step kept.base w event answer w) → Steps kept event answer kept
 stays kept event answer step = record { base = refl; leads = λ w stands. record { next = w; step = step w stands; stands = stands } }
 
-absent : (kept : Kept) (w : World) (number count : ℕ) → Stands kept w → count ≡ length kept.replicas → IsNoNumber number count → replica w number ≡ None
-absent kept w zero count stands count_is none = refl
-absent kept w (suc place) count stands count_is none = zip_none Keeps kept.replicas w.replicas place stands.replicas (omega (arith, count_is, none))
+absent : (kept : Kept) (w : World) (number : ℕ) → Stands kept w → IsNoNumber number (length kept.replicas) → replica w number ≡ None
+absent kept w zero stands none = refl
+absent kept w (suc place) stands none = zip_none Keeps kept.replicas w.replicas place stands.replicas none
 
-pub no_replica : (kept : Kept) (count : ℕ) (event : Event) → count ≡ length kept.replicas → IsNoNumber (number_of event) count → Steps kept event (Err NoReplica) kept
-no_replica kept count event count_is none = stays kept event (Err NoReplica) (λ w stands. inl (refused_without kept.base w event (absent kept w (number_of event) count stands count_is none)))
+-- a refusal after which all is as it was
+pub refused_as : (old new : Kept) (event : Event) (why : Refused) (answer : Answer) → Steps old event (Err why) old → new ≡ old → answer ≡ Err why → Steps old event answer new
+refused_as old new event why answer steps new_is answer_is = subst (λ (k : Kept). Steps old event answer k) (sym new_is) (subst (λ (a : Answer). Steps old event a old) (sym answer_is) steps)
+
+pub no_replica : (kept new : Kept) (event : Event) (why : Refused) (answer : Answer) → (why ≡ NoReplica) × IsNoNumber (number_of event) (length kept.replicas) → new ≡ kept → answer ≡ Err why → Steps kept event answer new
+no_replica kept new event why answer is new_is answer_is =
+    refused_as kept new event NoReplica answer
+    (stays kept event (Err NoReplica) (λ w stands. inl (refused_without kept.base w event (absent kept w (number_of event) stands is.1))))
+    new_is (answer_is ∙ ap (λ (why : Refused). Err why) is.0)
 
 -- the replica of a number, of which this is kept at its place
 record Found (kept : Kept) (w : World) (number place : ℕ) : Type 0 where
@@ -107,37 +114,33 @@ record Found (kept : Kept) (w : World) (number place : ℕ) : Type 0 where
   pub there : replica w number ≡ Some found
   pub keeps : Keeps (kept_at kept place) found
 
-replica_at : (kept : Kept) (w : World) (number place : ℕ) → Stands kept w → number ≡ place + 1 → place < length kept.replicas → Found kept w number place
-replica_at kept w number place stands is below =
-    let x = zip_at Keeps kept.replicas w.replicas place nothing_kept stands.replicas below in
-    let same : suc place ≡ number = omega (arith, is) in
+replica_at : (kept : Kept) (w : World) (number place : ℕ) → Stands kept w → IsPlaceOf number (length kept.replicas) place → Found kept w number place
+replica_at kept w number place stands here =
+    let x = zip_at Keeps kept.replicas w.replicas place nothing_kept stands.replicas here.within in
+    let same : suc place ≡ number = omega (arith, here.number_is) in
     record { found = x.0; there = subst (λ (n : ℕ). replica w n ≡ Some x.0) same x.1; keeps = x.2 }
 
-ran_out : (kept : Kept) (number place : ℕ) (event : Event) → number ≡ place + 1 → place < length kept.replicas → ((w : World) → Stands kept w → HasReplica w number → TakesMemory w event)
+ran_out : (kept : Kept) (number place : ℕ) (event : Event) → IsPlaceOf number (length kept.replicas) place → ((w : World) → Stands kept w → HasReplica w number → TakesMemory w event)
     → Steps kept event (Err NoMemory) kept
-ran_out kept number place event number_is below takes =
+ran_out kept number place event here takes =
     stays kept event (Err NoMemory)
-    (λ w stands. let x = replica_at kept w number place stands number_is below in inr (refl, refl, takes w stands (x.found, x.there)))
+    (λ w stands. let x = replica_at kept w number place stands here in inr (refl, refl, takes w stands (x.found, x.there)))
 
--- a refusal after which all is as it was
-pub refused_as : (old new : Kept) (event : Event) (why : Refused) (answer : Answer) → Steps old event (Err why) old → new ≡ old → answer ≡ Err why → Steps old event answer new
-refused_as old new event why answer steps new_is answer_is = subst (λ (k : Kept). Steps old event answer k) (sym new_is) (subst (λ (a : Answer). Steps old event a old) (sym answer_is) steps)
+pub take_ran_out : (kept : Kept) (number place : ℕ) (h : Harvested) → IsPlaceOf number (length kept.replicas) place → Steps kept (Take number h) (Err NoMemory) kept
+take_ran_out kept number place h here = ran_out kept number place (Take number h) here (λ w stands there. there)
 
-pub take_ran_out : (kept : Kept) (number place : ℕ) (h : Harvested) → number ≡ place + 1 → place < length kept.replicas → Steps kept (Take number h) (Err NoMemory) kept
-take_ran_out kept number place h number_is below = ran_out kept number place (Take number h) number_is below (λ w stands there. there)
+pub send_ran_out : (kept : Kept) (number place : ℕ) → IsPlaceOf number (length kept.replicas) place → Steps kept (Send number) (Err NoMemory) kept
+send_ran_out kept number place here = ran_out kept number place (Send number) here (λ w stands there. there)
 
-pub send_ran_out : (kept : Kept) (number place : ℕ) → number ≡ place + 1 → place < length kept.replicas → Steps kept (Send number) (Err NoMemory) kept
-send_ran_out kept number place number_is below = ran_out kept number place (Send number) number_is below (λ w stands there. there)
+pub send_from_ran_out : (kept : Kept) (number place n : ℕ) → IsPlaceOf number (length kept.replicas) place → Steps kept (SendFrom number n) (Err NoMemory) kept
+send_from_ran_out kept number place n here = ran_out kept number place (SendFrom number n) here (λ w stands there. there)
 
-pub send_from_ran_out : (kept : Kept) (number place n : ℕ) → number ≡ place + 1 → place < length kept.replicas → Steps kept (SendFrom number n) (Err NoMemory) kept
-send_from_ran_out kept number place n number_is below = ran_out kept number place (SendFrom number n) number_is below (λ w stands there. there)
+pub ask_ran_out : (kept : Kept) (number place : ℕ) (q : Request) → IsPlaceOf number (length kept.replicas) place → Steps kept (Ask number q) (Err NoMemory) kept
+ask_ran_out kept number place q here = ran_out kept number place (Ask number q) here (λ w stands there. there)
 
-pub ask_ran_out : (kept : Kept) (number place : ℕ) (q : Request) → number ≡ place + 1 → place < length kept.replicas → Steps kept (Ask number q) (Err NoMemory) kept
-ask_ran_out kept number place q number_is below = ran_out kept number place (Ask number q) number_is below (λ w stands there. there)
-
-pub receive_ran_out : (kept : Kept) (number place : ℕ) (bytes : List ℕ) → number ≡ place + 1 → place < length kept.replicas → length bytes ≤ longest_text
+pub receive_ran_out : (kept : Kept) (number place : ℕ) (bytes : List ℕ) → IsPlaceOf number (length kept.replicas) place → length bytes ≤ longest_text
     → Steps kept (Receive number bytes) (Err NoMemory) kept
-receive_ran_out kept number place bytes number_is below within = ran_out kept number place (Receive number bytes) number_is below (λ w stands there. (there, within))
+receive_ran_out kept number place bytes here within = ran_out kept number place (Receive number bytes) here (λ w stands there. (there, within))
 
 -- ---- one replica merges
 
@@ -157,14 +160,14 @@ Takes old number event answer m held w r =
     (next : Replica) × (next.merges ≡ r.merges ++ m ∷ []) × (next.incarnation ≡ r.incarnation) × (held ≡ next.cursors) × Step old.base w event answer (with_replica w number next)
 
 -- and it is stood for
-merged_step : (old new : Kept) (number place : ℕ) (event : Event) (answer : Answer) (m : Merge) (held : Held) → number ≡ place + 1 → place < length old.replicas
+merged_step : (old new : Kept) (number place : ℕ) (event : Event) (answer : Answer) (m : Merge) (held : Held) → IsPlaceOf number (length old.replicas) place
     → MergedAt old place m held new
     → ((w : World) (r : Replica) → Stands old w → replica w number ≡ Some r → Keeps (kept_at old place) r → ¬ (length r.merges ≡ last_number) → Takes old number event answer m held w r)
     → Steps old event answer new
-merged_step old new number place event answer m held number_is below a takes = record {
+merged_step old new number place event answer m held here a takes = record {
   base = a.base;
   leads = λ w stands.
-      let x = replica_at old w number place stands number_is below in
+      let x = replica_at old w number place stands here in
       let r : Replica = x.found in
       let p = takes w r stands x.there x.keeps (λ last. a.merged.left (x.keeps.stamped.number ∙ last)) in
       let next : Replica = p.0 in
@@ -178,7 +181,7 @@ merged_step old new number place event answer m held number_is below a takes = r
         step = p.4;
         stands = record {
           reached = subst (λ (b : List ℕ). IsReached b (with_replica w number next)) (sym a.base) (reached_next old.base w event answer (with_replica w number next) stands.reached p.4);
-          replicas = subst (λ (ks : List KeptReplica). AllZip Keeps ks (with_replica w number next).replicas) (sym a.replicas) (placed old w number place (kept_at new place) next stands number_is keeps);
+          replicas = subst (λ (ks : List KeptReplica). AllZip Keeps ks (with_replica w number next).replicas) (sym a.replicas) (placed old w number place (kept_at new place) next stands here.number_is keeps);
           messages = a.messages ∙ (stands.messages ∙ ap (map kept_message) (sym (messages_stay w number next)));
           last = a.last ∙ (stands.last ∙ sym (last_stays w number next));
           sent = subst (All IsSent) (sym (messages_stay w number next)) stands.sent;
@@ -186,88 +189,74 @@ merged_step old new number place event answer m held number_is below a takes = r
       };
 }
 
-pub took : (old new : Kept) (number place : ℕ) (h copy : Harvested) → copy ≡ h → number ≡ place + 1 → place < length old.replicas
+pub took : (old new : Kept) (number place : ℕ) (h copy : Harvested) → copy ≡ h → IsPlaceOf number (length old.replicas) place
     → MergedAt old place (merge.Harvest copy) (kept_at old place).cursors new → Steps old (Take number h) (Ok Taken) new
-took old new number place h copy copy_is number_is below a =
-    merged_step old new number place (Take number h) (Ok Taken) (merge.Harvest copy) (kept_at old place).cursors number_is below a
+took old new number place h copy copy_is here a =
+    merged_step old new number place (Take number h) (Ok Taken) (merge.Harvest copy) (kept_at old place).cursors here a
     (λ w r stands there keeps few.
     (taking r (h ∷ []) (merge.Harvest h), ap (λ (g : Harvested). r.merges ++ merge.Harvest g ∷ []) (sym copy_is), refl, keeps.cursors, inl (rw there (inl (few, (refl, refl))))))
 
-pub received : (old new : Kept) (number place : ℕ) (bytes : List ℕ) (s : Entries) → number ≡ place + 1 → place < length old.replicas → IsText bytes s
+pub received : (old new : Kept) (number place : ℕ) (bytes : List ℕ) (s : Entries) → IsPlaceOf number (length old.replicas) place → IsText bytes s
     → MergedAt old place (merge.State s) (kept_at old place).cursors new → Steps old (Receive number bytes) (Ok Joined) new
-received old new number place bytes s number_is below text a =
-    merged_step old new number place (Receive number bytes) (Ok Joined) (merge.State s) (kept_at old place).cursors number_is below a
+received old new number place bytes s here text a =
+    merged_step old new number place (Receive number bytes) (Ok Joined) (merge.State s) (kept_at old place).cursors here a
     (λ w r stands there keeps few. (taking r (adds s) (merge.State s), refl, refl, keeps.cursors, inl (rw there (inl (s, text, inl (few, (refl, refl)))))))
 
 -- where the replica's number is the last one, nothing is merged
-spent_take : (kept : Kept) (number place : ℕ) (h : Harvested) → number ≡ place + 1 → place < length kept.replicas → (kept_at kept place).stamped.number ≡ last_number
+spent_take : (kept : Kept) (number place : ℕ) (h : Harvested) → IsPlaceOf number (length kept.replicas) place → (kept_at kept place).stamped.number ≡ last_number
     → Steps kept (Take number h) (Err NumbersSpent) kept
-spent_take kept number place h number_is below spent =
+spent_take kept number place h here spent =
     stays kept (Take number h) (Err NumbersSpent)
     (λ w stands.
-    let x = replica_at kept w number place stands number_is below in
+    let x = replica_at kept w number place stands here in
     inl (rw x.there (inr (sym x.keeps.stamped.number ∙ spent, (refl, refl)))))
 
-spent_receive : (kept : Kept) (number place : ℕ) (bytes : List ℕ) (s : Entries) → number ≡ place + 1 → place < length kept.replicas → IsText bytes s
+spent_receive : (kept : Kept) (number place : ℕ) (bytes : List ℕ) (s : Entries) → IsPlaceOf number (length kept.replicas) place → IsText bytes s
     → (kept_at kept place).stamped.number ≡ last_number → Steps kept (Receive number bytes) (Err NumbersSpent) kept
-spent_receive kept number place bytes s number_is below text spent =
+spent_receive kept number place bytes s here text spent =
     stays kept (Receive number bytes) (Err NumbersSpent)
     (λ w stands.
-    let x = replica_at kept w number place stands number_is below in
+    let x = replica_at kept w number place stands here in
     inl (rw x.there (inl (s, text, inr (sym x.keeps.stamped.number ∙ spent, (refl, refl))))))
 
 -- a merge that isn't absorbed: numbers are spent, or memory was refused
-pub not_taken : (kept : Kept) (number place : ℕ) (h : Harvested) (why : StampFault) → number ≡ place + 1 → place < length kept.replicas
+pub not_taken : (kept : Kept) (number place : ℕ) (h : Harvested) (why : StampFault) → IsPlaceOf number (length kept.replicas) place
     → (why ≡ stamp_fault.NumbersSpent → (kept_at kept place).stamped.number ≡ last_number) → Steps kept (Take number h) (Err (stamp_refusal why)) kept
-not_taken kept number place h stamp_fault.NumbersSpent number_is below spent = spent_take kept number place h number_is below (spent refl)
-not_taken kept number place h stamp_fault.NoMemory number_is below spent = take_ran_out kept number place h number_is below
+not_taken kept number place h stamp_fault.NumbersSpent here spent = spent_take kept number place h here (spent refl)
+not_taken kept number place h stamp_fault.NoMemory here spent = take_ran_out kept number place h here
 
-pub not_absorbed : (kept : Kept) (number place : ℕ) (bytes : List ℕ) (s : Entries) (why : StampFault) → number ≡ place + 1 → place < length kept.replicas → IsText bytes s
+pub not_absorbed : (kept : Kept) (number place : ℕ) (bytes : List ℕ) (s : Entries) (why : StampFault) → IsPlaceOf number (length kept.replicas) place → IsText bytes s
     → (why ≡ stamp_fault.NumbersSpent → (kept_at kept place).stamped.number ≡ last_number) → Steps kept (Receive number bytes) (Err (stamp_refusal why)) kept
-not_absorbed kept number place bytes s stamp_fault.NumbersSpent number_is below text spent = spent_receive kept number place bytes s number_is below text (spent refl)
-not_absorbed kept number place bytes s stamp_fault.NoMemory number_is below text spent = receive_ran_out kept number place bytes number_is below text.within
+not_absorbed kept number place bytes s stamp_fault.NumbersSpent here text spent = spent_receive kept number place bytes s here text (spent refl)
+not_absorbed kept number place bytes s stamp_fault.NoMemory here text spent = receive_ran_out kept number place bytes here text.within
 
 -- bytes that are refused are no state's text within the limit
 no_text : (bytes : List ℕ) (s : Entries) → IsCause TooLong bytes ⊎ IsCause NotState bytes → IsText bytes s → ⊥
 no_text bytes s (inl long) text = let within = text.within in absurd (omega (arith, long, within))
 no_text bytes s (inr not) text = not.1 s text.state text.text
 
-pub not_received : (kept : Kept) (number place : ℕ) (bytes : List ℕ) (fault : StateFault) (answer : Answer) → number ≡ place + 1 → place < length kept.replicas
+pub not_received : (kept : Kept) (number place : ℕ) (bytes : List ℕ) (fault : StateFault) (answer : Answer) → IsPlaceOf number (length kept.replicas) place
     → IsCause fault bytes → answer ≡ Err (refusal fault) → Steps kept (Receive number bytes) answer kept
-not_received kept number place bytes fault.NoMemory answer number_is below cause is =
-    subst (λ (a : Answer). Steps kept (Receive number bytes) a kept) (sym is) (receive_ran_out kept number place bytes number_is below cause)
-not_received kept number place bytes TooLong answer number_is below cause is =
-    stays kept (Receive number bytes) answer (λ w stands. inl (rw (replica_at kept w number place stands number_is below).there (inr (λ s text. no_text bytes s (inl cause) text, (is, refl)))))
-not_received kept number place bytes NotState answer number_is below cause is =
-    stays kept (Receive number bytes) answer (λ w stands. inl (rw (replica_at kept w number place stands number_is below).there (inr (λ s text. no_text bytes s (inr cause) text, (is, refl)))))
+not_received kept number place bytes fault.NoMemory answer here cause is =
+    subst (λ (a : Answer). Steps kept (Receive number bytes) a kept) (sym is) (receive_ran_out kept number place bytes here cause)
+not_received kept number place bytes TooLong answer here cause is =
+    stays kept (Receive number bytes) answer (λ w stands. inl (rw (replica_at kept w number place stands here).there (inr (λ s text. no_text bytes s (inl cause) text, (is, refl)))))
+not_received kept number place bytes NotState answer here cause is =
+    stays kept (Receive number bytes) answer (λ w stands. inl (rw (replica_at kept w number place stands here).there (inr (λ s text. no_text bytes s (inr cause) text, (is, refl)))))
 
 -- ---- messages
 
--- a message that nobody sent
-blank : Message
-blank = record { sender = 0; taken = []; delta = record { incarnation = 0; start = 0; end = 0; state = fmap.empty }; bytes = [] }
-
--- the message of a number, of which this is kept at its place
+-- the message of a number, of which this is kept
 record FoundMessage (kept : Kept) (w : World) (number : ℕ) (k : SentMessage) : Type 0 where
   pub found : Message
   pub there : message w number ≡ Some found
   pub kept_is : k ≡ kept_message found
   pub sent : IsSent found
 
--- the replica and the message that an event names, and what is kept of them
-pub record IsDelivery (kept : Kept) (number place k slot : ℕ) (m : SentMessage) : Type 0 where
-  pub number_is : number ≡ place + 1
-  pub below : place < length kept.replicas
-  pub k_is : k ≡ slot + 1
-  pub slot_below : slot < length kept.messages
-  pub m_is : m ≡ get_or kept.messages slot m
-
-message_at : (kept : Kept) (w : World) (number place k slot : ℕ) (m : SentMessage) → Stands kept w → IsDelivery kept number place k slot m → FoundMessage kept w k m
-message_at kept w number place k slot m stands d =
-    let slot_below = d.slot_below in
-    let x = at_place kept_message w.messages kept.messages k slot blank m stands.messages d.k_is slot_below in
-    let within : slot < length w.messages = omega (arith, slot_below, length-map w.messages kept_message, ap length stands.messages) in
-    record { found = get_or w.messages slot blank; there = x.there; kept_is = d.m_is ∙ x.kept_is; sent = All-get_or IsSent w.messages slot blank within stands.sent }
+message_at : (kept : Kept) (w : World) (k : ℕ) (m : SentMessage) → Stands kept w → numbered kept.messages k ≡ Some m → FoundMessage kept w k m
+message_at kept w k m stands sent =
+    let x = kept_of kept_message w.messages kept.messages k m stands.messages sent in
+    record { found = x.found; there = x.there; kept_is = x.kept_is; sent = all_numbered IsSent w.messages k x.found x.there stands.sent }
 
 -- the delta that was read
 pub record IsReadFrom (m : SentMessage) (read : Delta) : Type 0 where
@@ -288,13 +277,13 @@ same_message kept w k m read f is = record {
   within = subst (λ (k : SentMessage). length k.bytes ≤ longest_text) f.kept_is is.within;
 }
 
-pub delivered : (old new : Kept) (number place k slot : ℕ) (m : SentMessage) (read : Delta) → IsDelivery old number place k slot m → IsReadFrom m read
+pub delivered : (old new : Kept) (number place k : ℕ) (m : SentMessage) (read : Delta) → IsPlaceOf number (length old.replicas) place → numbered old.messages k ≡ Some m → IsReadFrom m read
     → fits (fmap.get (kept_at old place).cursors m.sender) read ≡ true
     → MergedAt old place (merge.State read.state) (taken_from (kept_at old place).cursors m.sender read) new → Steps old (Deliver number k) (Ok Joined) new
-delivered old new number place k slot m read d is fit a =
-    merged_step old new number place (Deliver number k) (Ok Joined) (merge.State read.state) (taken_from (kept_at old place).cursors m.sender read) d.number_is d.below a
+delivered old new number place k m read here sent is fit a =
+    merged_step old new number place (Deliver number k) (Ok Joined) (merge.State read.state) (taken_from (kept_at old place).cursors m.sender read) here a
     (λ w r stands there keeps few.
-    let f = message_at old w number place k slot m stands d in
+    let f = message_at old w k m stands sent in
     let same = same_message old w k m read f is in
     let follows : fits (fmap.get r.cursors f.found.sender) f.found.delta ≡ true =
     (λ i. fits (fmap.get (sym keeps.cursors i) (sym same.sender i)) (sym same.delta i)) ∙ fit in (
@@ -306,80 +295,83 @@ delivered old new number place k slot m read d is fit a =
     ))
 
 -- a delta that leaves a gap is refused with the cursor that is held
-gap_left : (kept : Kept) (number place k slot : ℕ) (m : SentMessage) (read : Delta) (held : Option Cursor) → IsDelivery kept number place k slot m → IsReadFrom m read
+gap_left : (kept : Kept) (number place k : ℕ) (m : SentMessage) (read : Delta) (held : Option Cursor) → IsPlaceOf number (length kept.replicas) place → numbered kept.messages k ≡ Some m → IsReadFrom m read
     → held ≡ fmap.get (kept_at kept place).cursors m.sender → fits (fmap.get (kept_at kept place).cursors m.sender) read ≡ false
     → Steps kept (Deliver number k) (Err (Gap held)) kept
-gap_left kept number place k slot m read held d is held_is gap =
+gap_left kept number place k m read held here sent is held_is gap =
     stays kept (Deliver number k) (Err (Gap held))
     (λ w stands.
-    let x = replica_at kept w number place stands d.number_is d.below in
-    let f = message_at kept w number place k slot m stands d in
+    let x = replica_at kept w number place stands here in
+    let f = message_at kept w k m stands sent in
     let same = same_message kept w k m read f is in
     let leaves : fits (fmap.get x.found.cursors f.found.sender) f.found.delta ≡ false =
     (λ i. fits (fmap.get (sym x.keeps.cursors i) (sym same.sender i)) (sym same.delta i)) ∙ gap in
     let now : held ≡ fmap.get x.found.cursors f.found.sender = held_is ∙ (λ i. fmap.get (x.keeps.cursors i) (same.sender i)) in
     inl (rw x.there (rw f.there (inl (same.within, inr (leaves, (ap (λ (o : Option Cursor). Err (Gap o)) now, refl)))))))
 
-spent_delivery : (kept : Kept) (number place k slot : ℕ) (m : SentMessage) (read : Delta) → IsDelivery kept number place k slot m → IsReadFrom m read
+spent_delivery : (kept : Kept) (number place k : ℕ) (m : SentMessage) (read : Delta) → IsPlaceOf number (length kept.replicas) place → numbered kept.messages k ≡ Some m → IsReadFrom m read
     → fits (fmap.get (kept_at kept place).cursors m.sender) read ≡ true → (kept_at kept place).stamped.number ≡ last_number
     → Steps kept (Deliver number k) (Err NumbersSpent) kept
-spent_delivery kept number place k slot m read d is fit spent =
+spent_delivery kept number place k m read here sent is fit spent =
     stays kept (Deliver number k) (Err NumbersSpent)
     (λ w stands.
-    let x = replica_at kept w number place stands d.number_is d.below in
-    let f = message_at kept w number place k slot m stands d in
+    let x = replica_at kept w number place stands here in
+    let f = message_at kept w k m stands sent in
     let same = same_message kept w k m read f is in
     let follows : fits (fmap.get x.found.cursors f.found.sender) f.found.delta ≡ true =
     (λ i. fits (fmap.get (sym x.keeps.cursors i) (sym same.sender i)) (sym same.delta i)) ∙ fit in
     inl (rw x.there (rw f.there (inl (same.within, inl (follows, inr (sym x.keeps.stamped.number ∙ spent, (refl, refl))))))))
 
-deliver_ran_out : (kept : Kept) (number place k slot : ℕ) (m : SentMessage) → IsDelivery kept number place k slot m → length m.bytes ≤ longest_text → Steps kept (Deliver number k) (Err NoMemory) kept
-deliver_ran_out kept number place k slot m d within =
-    ran_out kept number place (Deliver number k) d.number_is d.below
+deliver_ran_out : (kept : Kept) (number place k : ℕ) (m : SentMessage) → IsPlaceOf number (length kept.replicas) place → numbered kept.messages k ≡ Some m → length m.bytes ≤ longest_text → Steps kept (Deliver number k) (Err NoMemory) kept
+deliver_ran_out kept number place k m here sent within =
+    ran_out kept number place (Deliver number k) here
     (λ w stands there.
-    let f = message_at kept w number place k slot m stands d in
+    let f = message_at kept w k m stands sent in
     (there, (f.found, f.there, subst (λ (k : SentMessage). length k.bytes ≤ longest_text) f.kept_is within)))
 
 -- a delta that was read isn't joined
-pub not_joined : (kept : Kept) (number place k slot : ℕ) (m : SentMessage) (read : Delta) (why : Refused) → IsDelivery kept number place k slot m → IsReadFrom m read
+pub not_joined : (kept : Kept) (number place k : ℕ) (m : SentMessage) (read : Delta) (why : Refused) → IsPlaceOf number (length kept.replicas) place → numbered kept.messages k ≡ Some m → IsReadFrom m read
     → IsJoinCause why (kept_at kept place) m.sender read → Steps kept (Deliver number k) (Err why) kept
-not_joined kept number place k slot m read (Gap held) d is cause = gap_left kept number place k slot m read held d is cause.0 cause.1
-not_joined kept number place k slot m read NumbersSpent d is cause = spent_delivery kept number place k slot m read d is cause.0 cause.1
-not_joined kept number place k slot m read NoMemory d is cause = deliver_ran_out kept number place k slot m d is.within
-not_joined kept number place k slot m read NoReplica d is cause = absurd cause
-not_joined kept number place k slot m read NoMessage d is cause = absurd cause
-not_joined kept number place k slot m read BadState d is cause = absurd cause
+not_joined kept number place k m read (Gap held) here sent is cause = gap_left kept number place k m read held here sent is cause.0 cause.1
+not_joined kept number place k m read NumbersSpent here sent is cause = spent_delivery kept number place k m read here sent is cause.0 cause.1
+not_joined kept number place k m read NoMemory here sent is cause = deliver_ran_out kept number place k m here sent is.within
+not_joined kept number place k m read NoReplica here sent is cause = absurd cause
+not_joined kept number place k m read NoMessage here sent is cause = absurd cause
+not_joined kept number place k m read BadState here sent is cause = absurd cause
 
-pub no_message : (kept : Kept) (number place k count : ℕ) → number ≡ place + 1 → place < length kept.replicas → count ≡ length kept.messages → IsNoNumber k count → Steps kept (Deliver number k) (Err NoMessage) kept
-no_message kept number place k count number_is below count_is none =
-    stays kept (Deliver number k) (Err NoMessage)
+pub no_message : (kept new : Kept) (number place k : ℕ) (why : Refused) (answer : Answer) → IsPlaceOf number (length kept.replicas) place → (why ≡ NoMessage) × (numbered kept.messages k ≡ None) → new ≡ kept → answer ≡ Err why
+    → Steps kept (Deliver number k) answer new
+no_message kept new number place k why answer here is new_is answer_is =
+    refused_as kept new (Deliver number k) NoMessage answer
+    (stays kept (Deliver number k) (Err NoMessage)
     (λ w stands.
-    let x = replica_at kept w number place stands number_is below in
-    let missing : message w k ≡ None = no_number kept_message w.messages kept.messages k count stands.messages count_is none in
-    inl (rw x.there (rw missing (refl, refl))))
+    let x = replica_at kept w number place stands here in
+    let missing : message w k ≡ None = none_kept kept_message w.messages kept.messages k stands.messages is.1 in
+    inl (rw x.there (rw missing (refl, refl)))))
+    new_is (answer_is ∙ ap (λ (why : Refused). Err why) is.0)
 
 -- a message's bytes are a delta's text, so only their number can refuse them
 too_long : (bytes : List ℕ) (d : Delta) → IsDelta d → bytes ≡ delta_text d → IsDeltaCause TooLong bytes ⊎ IsDeltaCause NotState bytes → longest_text < length bytes
 too_long bytes d delta text (inl long) = long
 too_long bytes d delta text (inr not) = absurd (not.1 d delta text)
 
-not_read : (kept : Kept) (number place k slot : ℕ) (m : SentMessage) (answer : Answer) → IsDelivery kept number place k slot m → IsDeltaCause TooLong m.bytes ⊎ IsDeltaCause NotState m.bytes → answer ≡ Err BadState
+not_read : (kept : Kept) (number place k : ℕ) (m : SentMessage) (answer : Answer) → IsPlaceOf number (length kept.replicas) place → numbered kept.messages k ≡ Some m → IsDeltaCause TooLong m.bytes ⊎ IsDeltaCause NotState m.bytes → answer ≡ Err BadState
     → Steps kept (Deliver number k) answer kept
-not_read kept number place k slot m answer d cause is =
+not_read kept number place k m answer here sent cause is =
     stays kept (Deliver number k) answer
     (λ w stands.
-    let x = replica_at kept w number place stands d.number_is d.below in
-    let f = message_at kept w number place k slot m stands d in
+    let x = replica_at kept w number place stands here in
+    let f = message_at kept w k m stands sent in
     let bytes : m.bytes ≡ f.found.bytes = ap (λ (k : SentMessage). k.bytes) f.kept_is in
     let over : longest_text < length f.found.bytes = subst (λ (b : List ℕ). longest_text < length b) bytes (too_long m.bytes f.found.delta f.sent.delta (bytes ∙ f.sent.text) cause) in
     inl (rw x.there (rw f.there (inr (over, (is, refl))))))
 
-pub not_delivered : (kept : Kept) (number place k slot : ℕ) (m : SentMessage) (fault : StateFault) (answer : Answer) → IsDelivery kept number place k slot m
+pub not_delivered : (kept : Kept) (number place k : ℕ) (m : SentMessage) (fault : StateFault) (answer : Answer) → IsPlaceOf number (length kept.replicas) place → numbered kept.messages k ≡ Some m
     → IsDeltaCause fault m.bytes → answer ≡ Err (refusal fault) → Steps kept (Deliver number k) answer kept
-not_delivered kept number place k slot m TooLong answer d cause is = not_read kept number place k slot m answer d (inl cause) is
-not_delivered kept number place k slot m NotState answer d cause is = not_read kept number place k slot m answer d (inr cause) is
-not_delivered kept number place k slot m fault.NoMemory answer d cause is =
-    subst (λ (a : Answer). Steps kept (Deliver number k) a kept) (sym is) (deliver_ran_out kept number place k slot m d cause)
+not_delivered kept number place k m TooLong answer here sent cause is = not_read kept number place k m answer here sent (inl cause) is
+not_delivered kept number place k m NotState answer here sent cause is = not_read kept number place k m answer here sent (inr cause) is
+not_delivered kept number place k m fault.NoMemory answer here sent cause is =
+    subst (λ (a : Answer). Steps kept (Deliver number k) a kept) (sym is) (deliver_ran_out kept number place k m here sent cause)
 
 -- ---- a message is sent
 
@@ -392,15 +384,15 @@ pub record PushedMessage (old new : Kept) (sender count : ℕ) (text : List ℕ)
   pub counted : count ≡ length new.messages
 
 -- a delta is sent from what is kept, with the text that was written
-sent_one : (old new : Kept) (number place count : ℕ) (event : Event) (cursor : Option Cursor) (text : List ℕ) → number ≡ place + 1 → place < length old.replicas
+sent_one : (old new : Kept) (number place count : ℕ) (event : Event) (cursor : Option Cursor) (text : List ℕ) → IsPlaceOf number (length old.replicas) place
     → text ≡ delta_text (delta_from (kept_at old place).stamped cursor) → IsDelta (delta_from (kept_at old place).stamped cursor) → PushedMessage old new number count text
     → ((w : World) (r : Replica) → replica w number ≡ Some r → Keeps (kept_at old place) r
     → Step old.base w event (Ok (Sent (length w.messages + 1))) (with_message w (sent_by number r (delta_from (kept_at old place).stamped cursor))))
     → Steps old event (Ok (Sent count)) new
-sent_one old new number place count event cursor text number_is below text_is written push step = record {
+sent_one old new number place count event cursor text here text_is written push step = record {
   base = push.base;
   leads = λ w stands.
-      let x = replica_at old w number place stands number_is below in
+      let x = replica_at old w number place stands here in
       let m : Message = sent_by number x.found (delta_from (kept_at old place).stamped cursor) in
       let same : new.messages ≡ map kept_message (w.messages ++ m ∷ []) =
       push.messages ∙ ((λ i. stands.messages i ++ record { sender = number; bytes = text_is i } ∷ []) ∙ sym (map_push kept_message w.messages m)) in
@@ -419,23 +411,23 @@ sent_one old new number place count event cursor text number_is below text_is wr
       };
 }
 
-pub sent_whole : (old new : Kept) (number place count : ℕ) (text : List ℕ) → number ≡ place + 1 → place < length old.replicas
+pub sent_whole : (old new : Kept) (number place count : ℕ) (text : List ℕ) → IsPlaceOf number (length old.replicas) place
     → text ≡ delta_text (delta_from (kept_at old place).stamped None) → IsDelta (delta_from (kept_at old place).stamped None) → PushedMessage old new number count text
     → Steps old (Send number) (Ok (Sent count)) new
-sent_whole old new number place count text number_is below text_is written push =
-    sent_one old new number place count (Send number) None text number_is below text_is written push
+sent_whole old new number place count text here text_is written push =
+    sent_one old new number place count (Send number) None text here text_is written push
     (λ w r there keeps. inl (rw there ((kept_at old place).stamped, keeps.stamped, keeps.incarnation, (refl, refl))))
 
 -- a cursor at this number of the merges of the incarnation that is kept
 abbrev pub kept_cursor : Kept → ℕ → ℕ → Option Cursor
 kept_cursor kept place n = Some (record { incarnation = (kept_at kept place).stamped.incarnation; number = n })
 
-pub sent_from : (old new : Kept) (number place count n : ℕ) (text : List ℕ) → number ≡ place + 1 → place < length old.replicas
+pub sent_from : (old new : Kept) (number place count n : ℕ) (text : List ℕ) → IsPlaceOf number (length old.replicas) place
     → text ≡ delta_text (delta_from (kept_at old place).stamped (kept_cursor old place n)) → IsDelta (delta_from (kept_at old place).stamped (kept_cursor old place n))
     → PushedMessage old new number count text → Steps old (SendFrom number n) (Ok (Sent count)) new
-sent_from old new number place count n text number_is below text_is written push =
+sent_from old new number place count n text here text_is written push =
     let s : StampedState = (kept_at old place).stamped in
-    sent_one old new number place count (SendFrom number n) (kept_cursor old place n) text number_is below text_is written push
+    sent_one old new number place count (SendFrom number n) (kept_cursor old place n) text here text_is written push
     (λ w r there keeps.
     let same : with_message w (sent_by number r (delta_from s (kept_cursor old place n))) ≡ with_message w (sent_by number r (delta_from s (own_cursor n r))) =
     ap (λ (i : ℕ). with_message w (sent_by number r (delta_from s (Some (record { incarnation = i; number = n }))))) keeps.incarnation in
@@ -443,14 +435,14 @@ sent_from old new number place count n text number_is below text_is written push
 
 -- ---- a replica restarts
 
-pub restarted : (old new : Kept) (number place : ℕ) (k : KeptReplica) → number ≡ place + 1 → place < length old.replicas → ¬ (old.last ≡ last_number)
+pub restarted : (old new : Kept) (number place : ℕ) (k : KeptReplica) → IsPlaceOf number (length old.replicas) place → ¬ (old.last ≡ last_number)
     → IsStamped [] k.stamped → k.stamped.incarnation ≡ old.last + 1 → k.cursors ≡ fmap.empty
     → new.base ≡ old.base → new.messages ≡ old.messages → new.last ≡ old.last + 1
     → new.replicas ≡ slice_set old.replicas place k → Steps old (Restart number) (Ok Restarted) new
-restarted old new number place k number_is below left is incarnation cursors base messages last replicas = record {
+restarted old new number place k here left is incarnation cursors base messages last replicas = record {
   base = base;
   leads = λ w stands.
-      let x = replica_at old w number place stands number_is below in
+      let x = replica_at old w number place stands here in
       let step : Step old.base w (Restart number) (Ok Restarted) (restarting w number) = inl (rw x.there (inl ((λ spent. left (stands.last ∙ spent)), (refl, refl)))) in
       let keeps : Keeps k (fresh (w.last + 1)) = record { stamped = is; incarnation = incarnation ∙ ap (λ (n : ℕ). n + 1) stands.last; cursors = cursors } in
       record {
@@ -458,7 +450,7 @@ restarted old new number place k number_is below left is incarnation cursors bas
         step = step;
         stands = record {
           reached = subst (λ (b : List ℕ). IsReached b (restarting w number)) (sym base) (reached_next old.base w (Restart number) (Ok Restarted) (restarting w number) stands.reached step);
-          replicas = subst (λ (ks : List KeptReplica). AllZip Keeps ks (restarting w number).replicas) (sym replicas) (placed old w number place k (fresh (w.last + 1)) stands number_is keeps);
+          replicas = subst (λ (ks : List KeptReplica). AllZip Keeps ks (restarting w number).replicas) (sym replicas) (placed old w number place k (fresh (w.last + 1)) stands here.number_is keeps);
           messages = messages ∙ (stands.messages ∙ ap (map kept_message) (sym (messages_stay w number (fresh (w.last + 1)))));
           last = last ∙ ap (λ (n : ℕ). n + 1) stands.last;
           sent = subst (All IsSent) (sym (messages_stay w number (fresh (w.last + 1)))) stands.sent;
@@ -466,19 +458,19 @@ restarted old new number place k number_is below left is incarnation cursors bas
       };
 }
 
-pub spent_restart : (kept : Kept) (number place : ℕ) → number ≡ place + 1 → place < length kept.replicas → kept.last ≡ last_number → Steps kept (Restart number) (Err NumbersSpent) kept
-spent_restart kept number place number_is below spent =
+pub spent_restart : (kept : Kept) (number place : ℕ) → IsPlaceOf number (length kept.replicas) place → kept.last ≡ last_number → Steps kept (Restart number) (Err NumbersSpent) kept
+spent_restart kept number place here spent =
     stays kept (Restart number) (Err NumbersSpent)
-    (λ w stands. inl (rw (replica_at kept w number place stands number_is below).there (inr (sym stands.last ∙ spent, (refl, refl)))))
+    (λ w stands. inl (rw (replica_at kept w number place stands here).there (inr (sym stands.last ∙ spent, (refl, refl)))))
 
 -- ---- a replica is asked
 
-pub replied : (kept : Kept) (number place : ℕ) (q : Request) (r : Reply) → number ≡ place + 1 → place < length kept.replicas
+pub replied : (kept : Kept) (number place : ℕ) (q : Request) (r : Reply) → IsPlaceOf number (length kept.replicas) place
     → r ≡ reply_of kept.base (kept_at kept place).stamped q → Steps kept (Ask number q) (Ok (Replied r)) kept
-replied kept number place q r number_is below is =
+replied kept number place q r here is =
     stays kept (Ask number q) (Ok (Replied r))
     (λ w stands.
-    let x = replica_at kept w number place stands number_is below in
+    let x = replica_at kept w number place stands here in
     let s : StampedState = (kept_at kept place).stamped in
     let there : replica stands.reached.course.world number ≡ Some x.found = ap (λ (w : World). replica w number) stands.reached.world ∙ x.there in
     let state : s.entries ≡ lat x.found.taken = x.keeps.stamped.entries ∙ merges_made stands.reached.course number x.found there in

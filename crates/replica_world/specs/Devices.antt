@@ -1,8 +1,9 @@
 -- What readers and writers tell after a failure.
-use Rattle.std.specs.Prelude.{◌≡◌, ℕ, Bool, true, List, ◌++◌, Option, Result, Ok, Err}
+use Rattle.std.specs.Prelude.{◌≡◌, ℕ, List, ◌++◌, Option, Result, Ok, Err}
 use Rattle.std.specs.Io.KnownBytes.{Appends}
 use Rattle.replica_world.specs.declared.replaying.fault.ReplayFault.{ReplayFault}
 use Rattle.replica_world.specs.declared.replaying.fault.ReplayFault.TheVariants.{BadLine, Read, Write, NoMemory}
+use Rattle.replica_world.specs.Watching.{grown}
 
 -- known bytes grow by a beginning of these
 abbrev pub AppendsBeginning : Option (List ℕ) → Option (List ℕ) → List ℕ → Type 0
@@ -15,10 +16,10 @@ StopsReading NoMemory = Unit {0}
 StopsReading (BadLine number) = ⊥
 StopsReading Write = ⊥
 
--- once a script is read, a replay blames its writer only where that failed, and never its reader
-abbrev pub BlamesWriter : Result (Unit {0}) ReplayFault → Bool → Type 0
-BlamesWriter (Ok u) failed = Unit {0}
-BlamesWriter (Err Read) failed = ⊥
-BlamesWriter (Err Write) failed = failed ≡ true
-BlamesWriter (Err NoMemory) failed = Unit {0}
-BlamesWriter (Err (BadLine number)) failed = Unit {0}
+-- once a script is read, a replay ends with `Write` just where a write failed, and never with `Read`
+abbrev pub BlamesWriter : Result (Unit {0}) ReplayFault → ℕ → ℕ → Type 0
+BlamesWriter (Ok u) old new = new ≡ old
+BlamesWriter (Err Read) old new = ⊥
+BlamesWriter (Err Write) old new = new ≡ grown 1 old
+BlamesWriter (Err NoMemory) old new = new ≡ old
+BlamesWriter (Err (BadLine number)) old new = new ≡ old

@@ -10,5 +10,6 @@ pub mod Layout
 pub mod Output
 pub mod Spelled
 pub mod Performing
+pub mod Watching
 pub mod Devices
 pub mod Reached

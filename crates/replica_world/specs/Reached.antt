@@ -2,11 +2,14 @@
 use Rattle.std.specs.Prelude.{◌≡◌, ℕ, ◌≤◌, ◌⊎◌, List, [], ◌∷◌, ◌++◌, length, Some, codes, zip}
 use Rattle.memento_time.specs.Text.{IsArchiveName}
 use Rattle.timemap_reader.specs.declared.page.Page.{Page}
+use Rattle.replica_exchange.specs.Stamps.{StampedState, IsStamped}
 use Rattle.timegate.specs.declared.reply.Reply.{Reply}
+use Rattle.timegate.specs.declared.request.Request.{Request}
+use Rattle.timegate.specs.Reply.{reply_of}
 use Rattle.timegate.specs.Route.{original_at}
 use Rattle.replica_events.specs.declared.event.Event.{Event}
 use Rattle.replica_events.specs.declared.event.Event.TheVariants as event
-use Rattle.replica_events.specs.World.{World, Answer, HasReplica, Run, start}
+use Rattle.replica_events.specs.World.{World, Replica, Answer, HasReplica, Run, start}
 use Rattle.replica_events.specs.History.{History, LearntAlike}
 use Rattle.replica_world.specs.Script.{Taking, Command, Take, Step}
 use Rattle.replica_world.specs.Output.{IsPage, most_mementos, harvest_of, accepted_line, answer_text, taken_line}
@@ -64,3 +67,8 @@ pub record AnswersTwice (base : List ℕ) (count : ℕ) (commands : List Command
   pub run : IsRunOf base (start count) commands said mid
   pub twice : HasReplica mid i → HasReplica mid j → LearntAlike (zip run.events run.answers) i j
       → (r : Reply) × (output ≡ said ++ (reply_text r ++ reply_text r))
+
+-- what is written is the reply to the request of the state and the stamps that the replica's merges made
+abbrev pub WritesReplyOf : List ℕ → Replica → Request → List ℕ → Type 0
+WritesReplyOf base r q text =
+    (s : StampedState) × IsStamped r.merges s × (s.incarnation ≡ r.incarnation) × (text ≡ reply_text (reply_of base s q))

@@ -1,6 +1,6 @@
 //! Replicas in one memory.
-ghost use Rattle.std.specs.Prelude.{◌≡◌, ◌+◌, ◌<◌, ◌≤◌, IfSome, IfNone};
-ghost use Rattle.replica_world.specs.Places.{IsNoNumber};
+ghost use Rattle.std.specs.Prelude.{IfSome, IfNone};
+ghost use Rattle.replica_world.specs.Places.{IsPlaceOf, IsNoNumber};
 
 use crate::message::SentMessage;
 use crate::replica::KeptReplica;
@@ -42,7 +42,7 @@ impl Model for World {
 
 // The place of a number that counts from 1.
 fn place_of(number: usize, count: usize) -> Option<usize>
-    ensures found { IfSome result (λ place. (number ≡ place + 1) × (place < count)) }
+    ensures found { IfSome result (IsPlaceOf number count) }
     ensures none { IfNone result (IsNoNumber number count) }
 {
     if number == 0 || number > count {
@@ -53,11 +53,13 @@ fn place_of(number: usize, count: usize) -> Option<usize>
 
 impl World {
     ghost use Rattle.std.specs.Prelude.{◌≡◌, ◌↔◌, ◌<◌, ◌≤◌, ◌++◌, ◌∷◌, [], length, true, IfOk, IfErr, OnOk, OnErr};
-    ghost use Rattle.std.specs.Prelude.{IsErrOf};
+    ghost use Rattle.std.specs.Prelude.{IsErrOf, Some, None};
+    ghost use Rattle.replica_world.specs.Places.{IsPlaceOf, IsNoNumber};
     ghost use Rattle.std.specs.FinMap as fmap;
     ghost use Rattle.memento_index.specs.declared.merge.Merge.TheVariants as merge;
     ghost use Rattle.replica_exchange.specs.CursorRule.{fits, taken_from};
-    ghost use Rattle.replica_events.specs.World.{start};
+    ghost use Rattle.replica_events.specs.World.{numbered, start};
+    ghost use Rattle.replica_events.specs.declared.event.Refused.TheVariants as refused;
     ghost use Rattle.replica_world.specs.Keeping.{IsJoinCause};
     ghost use Rattle.replica_world.specs.Stands.{Stands, Steps, Runs, MergedAt, kept_at};
     ghost use Rattle.replica_events.specs.declared.event.Event.TheVariants as event;
@@ -118,9 +120,7 @@ impl World {
         ensures steps { Steps self.old (event.Take number harvest.now) result self.new }
         ensures refused { OnErr result (self.new ≡ self.old) }
     {
-        let Some(place) = place_of(number, self.replicas.len()) else {
-            return Err(Refused::NoReplica);
-        };
+        let place = self.replica_place(number)?;
         let merge = Merge::Harvest(harvest.try_clone()?);
         self.absorb(place, &merge)?;
         Ok(Said::Taken)
@@ -130,9 +130,7 @@ impl World {
         ensures steps { Steps self.old (event.Send number) result self.new }
         ensures refused { OnErr result (self.new ≡ self.old) }
     {
-        let Some(place) = place_of(number, self.replicas.len()) else {
-            return Err(Refused::NoReplica);
-        };
+        let place = self.replica_place(number)?;
         let text = write_delta(self.alloc, &self.replicas[place].stamped, None)?;
         let count = self.push_message(number, text)?;
         Ok(Said::Sent(count))
@@ -142,9 +140,7 @@ impl World {
         ensures steps { Steps self.old (event.SendFrom number merges) result self.new }
         ensures refused { OnErr result (self.new ≡ self.old) }
     {
-        let Some(place) = place_of(number, self.replicas.len()) else {
-            return Err(Refused::NoReplica);
-        };
+        let place = self.replica_place(number)?;
         let stamped = &self.replicas[place].stamped;
         let cursor = Cursor {
             incarnation: stamped.incarnation(),
@@ -159,13 +155,8 @@ impl World {
         ensures steps { Steps self.old (event.Deliver number message) result self.new }
         ensures refused { OnErr result (self.new ≡ self.old) }
     {
-        let Some(place) = place_of(number, self.replicas.len()) else {
-            return Err(Refused::NoReplica);
-        };
-        let Some(sent) = place_of(message, self.messages.len()) else {
-            return Err(Refused::NoMessage);
-        };
-        let message = &self.messages[sent];
+        let place = self.replica_place(number)?;
+        let message = self.message(message)?;
         let sender = message.sender as u64;
         let delta = read_delta(self.alloc, message.bytes.as_slice())?;
         self.join(place, sender, delta)?;
@@ -176,9 +167,7 @@ impl World {
         ensures steps { Steps self.old (event.Receive number bytes.now) result self.new }
         ensures refused { OnErr result (self.new ≡ self.old) }
     {
-        let Some(place) = place_of(number, self.replicas.len()) else {
-            return Err(Refused::NoReplica);
-        };
+        let place = self.replica_place(number)?;
         let state = read_state(self.alloc, bytes)?;
         self.absorb(place, &Merge::State(state))?;
         Ok(Said::Joined)
@@ -188,9 +177,7 @@ impl World {
         ensures steps { Steps self.old (event.Restart number) result self.new }
         ensures refused { OnErr result (self.new ≡ self.old) }
     {
-        let Some(place) = place_of(number, self.replicas.len()) else {
-            return Err(Refused::NoReplica);
-        };
+        let place = self.replica_place(number)?;
         let Some(incarnation) = self.last.checked_add(1) else {
             return Err(Refused::NumbersSpent);
         };
@@ -203,12 +190,31 @@ impl World {
     pub fn ask(&self, number: usize, request: &Request) -> Answer
         ensures { Steps self.now (event.Ask number request.now) result self.now }
     {
-        let Some(place) = place_of(number, self.replicas.len()) else {
-            return Err(Refused::NoReplica);
-        };
+        let place = self.replica_place(number)?;
         let stamped = &self.replicas[place].stamped;
         let reply = answer(self.alloc, &self.service, stamped, request)?;
         Ok(Said::Replied(reply))
+    }
+
+    // The place of the replica with this number.
+    fn replica_place(&self, number: usize) -> Result<usize, Refused>
+        ensures found { IfOk result (IsPlaceOf number (length self.now.replicas)) }
+        ensures none { IfErr result
+            (λ why. (why ≡ refused.NoReplica) × IsNoNumber number (length self.now.replicas)) }
+    {
+        place_of(number, self.replicas.len()).ok_or(Refused::NoReplica)
+    }
+
+    // What is kept of the message with this number.
+    fn message(&self, number: usize) -> Result<&SentMessage, Refused>
+        ensures found { IfOk result (λ message. numbered self.now.messages number ≡ Some message.now) }
+        ensures none { IfErr result
+            (λ why. (why ≡ refused.NoMessage) × (numbered self.now.messages number ≡ None)) }
+    {
+        match place_of(number, self.messages.len()) {
+            Some(place) => Ok(&self.messages[place]),
+            None => Err(Refused::NoMessage),
+        }
     }
 
     // Merges into one replica.

@@ -1,6 +1,7 @@
 //! Reading all that a reader gives, and writing all that is to be written.
-ghost use Rattle.std.specs.Prelude.{◌≡◌, ◌⊎◌, ◌≤◌, true, OnOk, OnErr, IfOk, IfErr, IfSome};
+ghost use Rattle.std.specs.Prelude.{◌≡◌, ◌≢◌, ◌⊎◌, ◌<◌, length, OnOk, OnErr, IfOk, IfErr, IfSome};
 ghost use Rattle.std.specs.Io.KnownBytes.{Appends};
+ghost use Rattle.replica_world.specs.Watching.{grown};
 ghost use Rattle.replica_world.specs.Devices.{AppendsBeginning, StopsReading};
 
 use crate::replaying::fault::ReplayFault;
@@ -8,19 +9,22 @@ use crate::replaying::watched::Watched;
 use std::alloc::Global;
 use std::io::{Read, Write};
 
-/// A reader that isn't at its end after this number of reads counts as failed, so that a replay ends.
-const MOST_READS: u64 = 1_000_000_000;
+/// A reader that gave so many pieces, and isn't at its end, counts as failed, so that a replay ends.
+const MOST_PIECES: u64 = 1_000_000_000;
 
 /// All that a reader gives.
 pub fn read_all<R: Read>(alloc: Global, reader: &mut Watched<R>) -> Result<Vec<u8>, ReplayFault>
     ensures all { IfOk result (λ text. IfSome (R.remaining reader.old.device) (λ bytes. text.items ≡ bytes)) }
     ensures fault { IfErr result StopsReading }
-    ensures read { reader.old.reads ≡ 0 → result ≡ Err ReplayFault.Read →
-        (reader.new.failed ≡ true) ⊎ (1000000000 ≤ reader.new.reads) }
+    ensures read { result ≡ Err ReplayFault.Read → (reader.new.failures ≡ grown 1 reader.old.failures)
+        ⊎ (reader.new.pieces ≡ grown 1000000000 reader.old.pieces) }
+    ensures read_of_few { result ≡ Err ReplayFault.Read → IfSome (R.remaining reader.old.device)
+        (λ bytes. length bytes < 1000000000 → reader.new.failures ≡ grown 1 reader.old.failures) }
+    ensures no_read_failed { result ≢ Err ReplayFault.Read → reader.new.failures ≡ reader.old.failures }
 {
     let mut text = Vec::new(alloc);
     let mut buffer = [0u8; 65_536];
-    for _ in 0..MOST_READS {
+    for _ in 0..MOST_PIECES {
         let Ok(count) = reader.read(&mut buffer) else {
             return Err(ReplayFault::Read);
         };
@@ -38,7 +42,8 @@ pub fn write_whole<W: Write>(writer: &mut Watched<W>, bytes: &[u8]) -> Result<()
     ensures err { OnErr result
         (AppendsBeginning (W.contents writer.old.device) (W.contents writer.new.device) bytes.now) }
     ensures write { OnErr result (result ≡ Err ReplayFault.Write) }
-    ensures failed { OnErr result (writer.new.failed ≡ true) }
+    ensures failed { OnErr result (writer.new.failures ≡ grown 1 writer.old.failures) }
+    ensures not_failed { OnOk result (writer.new.failures ≡ writer.old.failures) }
 {
     let mut rest = bytes;
     while !rest.is_empty() {

@@ -1,5 +1,5 @@
 //! Laws of scripts.
-ghost use Rattle.std.specs.Prelude.{◌≡◌, ℕ, List, [], ◌∷◌, ◌++◌};
+ghost use Rattle.std.specs.Prelude.{◌≡◌, ℕ, List, [], ◌∷◌, ◌++◌, Some};
 ghost use Rattle.text_fields.specs.Finds.{Finds};
 ghost use Rattle.replica_world.specs.Fields.{line_of, block_of, after_empty_lines};
 ghost use Rattle.timegate.specs.declared.request.Request.{Request};
@@ -8,9 +8,9 @@ ghost use Rattle.timegate.specs.Route.{IsOfTaken};
 ghost use Rattle.replica_events.specs.declared.event.Event.TheVariants.{Ask};
 ghost use Rattle.replica_world.specs.Script.{Command, start_at, command_at, commands_of};
 ghost use Rattle.replica_world.specs.Script as script;
-ghost use Rattle.replica_events.specs.World.{Knowledge, World, start};
+ghost use Rattle.replica_events.specs.World.{Knowledge, World, Replica, replica, start};
 ghost use Rattle.replica_events.specs.Agreement.{SameHarvests, HasTaken};
-ghost use Rattle.replica_world.specs.Reached.{IsRunOf, AnswersTwice};
+ghost use Rattle.replica_world.specs.Reached.{IsRunOf, AnswersTwice, WritesReplyOf};
 ghost use Rattle.replica_world.specs.Layout.{IsLine, IsBlock, IsStartAt, IsCommandAt, IsBehindEmptyLines, IsReadAs};
 ghost use Rattle.replica_world.specs.Output.{IsOutput, Performs, Says, reply_text};
 
@@ -37,11 +37,16 @@ pub fn script_is_its_layout()
 {}
 
 /// The commands of a script come to events, these lead to its world, and what it writes are their answers. So what
-/// holds of all replicas of a world holds of those of a script, whatever has happened in it: where it ends in one
-/// request to two replicas that have learnt the same harvests, and for no delta, it ends in one reply, written twice.
+/// holds of all replicas of a world holds of those of a script, whatever has happened in it: each question, also one
+/// for a delta, writes the reply of what its replica's merges made (`replies`); and where the script ends in one request
+/// to two replicas that have learnt the same harvests, and for no delta, it ends in one reply, written twice (`twice`).
 pub fn scripts_are_runs()
     ensures runs { (base : List ℕ) (world : World) (commands : List Command) (text : List ℕ) (end : World) →
         Says base world commands text end → IsRunOf base world commands text end }
+    ensures replies { (base : List ℕ) (count : ℕ) (commands : List Command) (text : List ℕ) (world : World) →
+        Says base (start count) commands text world → (i : ℕ) (r : Replica) → replica world i ≡ Some r →
+        (q : Request) (said : List ℕ) (next : World) → Performs base world (script.Step (Ask i q)) said next →
+        WritesReplyOf base r q said }
     ensures twice { (base : List ℕ) (count : ℕ) (commands : List Command)
         (i j : ℕ) (q : Request) (output : List ℕ) (end : World) → IsOfTaken q →
         Says base (start count) (commands ++ script.Step (Ask i q) ∷ script.Step (Ask j q) ∷ []) output end →

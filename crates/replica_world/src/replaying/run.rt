@@ -1,9 +1,10 @@
 //! A whole script.
-ghost use Rattle.std.specs.Prelude.{◌≡◌, ◌⊎◌, ◌+◌, ◌-◌, ◌≤◌, ◌==◌, true, length, take, count_by, None, IfOk, IfSome};
+ghost use Rattle.std.specs.Prelude.{◌≡◌, ◌≢◌, ◌⊎◌, ◌+◌, ◌-◌, ◌<◌, ◌≤◌, ◌==◌, length, take, count_by, None, IfOk, IfSome};
 ghost use Rattle.std.specs.Prelude.{MatchOption};
 ghost use Rattle.replica_world.specs.Script.{command_at, number_of_line};
 ghost use Rattle.replica_events.specs.World.{World as Replicas};
 ghost use Rattle.replica_world.specs.Stands.{Stands};
+ghost use Rattle.replica_world.specs.Watching.{grown};
 ghost use Rattle.replica_world.specs.Devices.{BlamesWriter};
 ghost use Rattle.replica_world.specs.Output.{Replays, ReplaysFrom};
 ghost use Rattle.replica_world.specs.Performing.{IsFirstPerformed};
@@ -66,7 +67,7 @@ fn replay_commands<W: Write>(
     requires { length text.now ≤ length script.now }
     ensures replays { (w : Replicas) → Stands world.old w → ReplaysFrom world.old.base w script.now text.now
         (W.contents writer.old.device) (W.contents writer.new.device) result }
-    ensures writer { BlamesWriter result writer.new.failed }
+    ensures writer { BlamesWriter result writer.old.failures writer.new.failures }
 {
     // A page is one, so what a failed replay wrote is a beginning of the one output.
     one_page();
@@ -89,7 +90,7 @@ fn replay_script<W: Write>(
     writer: &mut Watched<W>,
 ) -> Result<(), ReplayFault>
     ensures replays { Replays script.now (W.contents writer.old.device) (W.contents writer.new.device) result }
-    ensures writer { BlamesWriter result writer.new.failed }
+    ensures writer { BlamesWriter result writer.old.failures writer.new.failures }
 {
     let text = after_empty_lines(script);
     if text.is_empty() {
@@ -135,12 +136,12 @@ fn replay_script<W: Write>(
 /// - `BadLine`: the line of this number is none of these, or its block or lines are cut short. The commands before it
 ///   were performed.
 /// - `Read`, `Write`: a device failed in this call; a write that takes no byte is a failure. `Read` also where the
-///   reader was not at its end after 1,000,000,000 reads, which no script of fewer bytes needs.
+///   reader was not at its end after 1,000,000,000 reads that gave bytes, which no script of fewer bytes needs.
 /// - `NoMemory`: the allocator refused a growth.
 ///
 /// Where reader and writer tell their bytes, what is written is the one output of the script; nothing after `Read`, and
-/// after `Write` and `NoMemory` a beginning of it. `Watched` carries the marks by which `Read` and `Write` are known to
-/// be the devices' doing: hand in devices whose marks are clear, as `Watched::new` makes them.
+/// after `Write` and `NoMemory` a beginning of it. `Watched` counts the failures and the reads, by which `Read` and
+/// `Write` are known to be the devices' doing, and anything else to come without a failure of theirs.
 pub fn replay<R: Read, W: Write>(
     alloc: Global,
     reader: &mut Watched<R>,
@@ -148,9 +149,13 @@ pub fn replay<R: Read, W: Write>(
 ) -> Result<(), ReplayFault>
     ensures output { IfSome (R.remaining reader.old.device) (λ script.
         Replays script (W.contents writer.old.device) (W.contents writer.new.device) result) }
-    ensures read { reader.old.reads ≡ 0 → result ≡ Err ReplayFault.Read →
-        (reader.new.failed ≡ true) ⊎ (1000000000 ≤ reader.new.reads) }
-    ensures write { result ≡ Err ReplayFault.Write → writer.new.failed ≡ true }
+    ensures read { result ≡ Err ReplayFault.Read → (reader.new.failures ≡ grown 1 reader.old.failures)
+        ⊎ (reader.new.pieces ≡ grown 1000000000 reader.old.pieces) }
+    ensures read_of_few { result ≡ Err ReplayFault.Read → IfSome (R.remaining reader.old.device)
+        (λ script. length script < 1000000000 → reader.new.failures ≡ grown 1 reader.old.failures) }
+    ensures write { result ≡ Err ReplayFault.Write → writer.new.failures ≡ grown 1 writer.old.failures }
+    ensures no_read_failed { result ≢ Err ReplayFault.Read → reader.new.failures ≡ reader.old.failures }
+    ensures no_write_failed { result ≢ Err ReplayFault.Write → writer.new.failures ≡ writer.old.failures }
 {
     let script = read_all(alloc, reader)?;
     replay_script(alloc, &script, writer)

@@ -1,67 +1,97 @@
-//! Devices that note their failures, so that a contract can speak of them.
-ghost use Rattle.std.specs.Prelude.{◌≡◌, ◌+◌, ◌-◌, ◌^◌, ◌<◌, true, false, OnErr, MatchResult};
+//! Devices that count their failures, so that a contract can speak of them.
+ghost use Rattle.std.specs.Prelude.{◌≡◌, OnOk, OnErr};
 ghost use Rattle.std.specs.Io.{ReadsAtMost, WritesAtMost};
 ghost use Rattle.std.specs.Io.KnownBytes.{ReadConsumes, WriteAppends};
+ghost use Rattle.replica_world.specs.Watching.{grown, IsPiece, IsFailedWrite};
 
 use std::io::{self, Read, Write};
+use std::marker::Model;
 
-/// A reader or a writer, whether a call of it has failed, and how often it was read. Only `read` and `write` below,
-/// which call the device once, set the marks.
+/// A reader or a writer, how many of its calls have failed, and how many reads have given bytes. Only `read` and
+/// `write` below, which call the device once, count.
 #[derive(Debug, Drop)]
 pub struct Watched<D> {
-    pub device: D,
-    /// Whether a read failed, or a write failed or took no byte.
-    pub failed: bool,
-    pub reads: u64,
+    device: D,
+    failures: u64,
+    pieces: u64,
+}
+
+impl<D> Model for Watched<D> {
+    ghost use Rattle.replica_world.specs.Watching.{Seen};
+
+    ghost Value = { Seen D };
+
+    ghost view = { λ w. record { device = w.device; failures = w.failures; pieces = w.pieces } };
 }
 
 impl<D> Watched<D> {
     /// A device that wasn't called yet.
     pub fn new(device: D) -> Watched<D>
-        ensures device { result.device ≡ device }
-        ensures failed { result.failed ≡ false }
-        ensures reads { result.reads ≡ 0 }
+        ensures { result ≡ record { device = device; failures = 0; pieces = 0 } }
     {
         Watched {
             device,
-            failed: false,
-            reads: 0,
+            failures: 0,
+            pieces: 0,
         }
+    }
+
+    /// The device.
+    pub fn device(&self) -> &D
+        ensures { result.now ≡ self.now.device }
+    {
+        &self.device
+    }
+
+    /// How many reads failed, and how many writes failed or took none of the bytes that they were given.
+    pub fn failures(&self) -> u64
+        ensures { result ≡ self.now.failures }
+    {
+        self.failures
+    }
+
+    /// How many reads gave bytes.
+    pub fn pieces(&self) -> u64
+        ensures { result ≡ self.now.pieces }
+    {
+        self.pieces
     }
 }
 
 impl<R: Read> Watched<R> {
-    /// Reads once, and notes that and whether it failed.
+    /// Reads once, and counts whether that failed, or gave bytes.
     pub fn read(&mut self, buffer: &mut [u8]) -> io::Result<usize>
         ensures bound { ReadsAtMost result buffer.new }
         ensures bytes { ReadConsumes (R.remaining self.old.device) (R.remaining self.new.device) result buffer.new }
-        ensures failed { OnErr result (self.new.failed ≡ true) }
-        ensures reads { self.old.reads < 2 ^ 64 - 1 → self.new.reads ≡ self.old.reads + 1 }
+        ensures failed { OnErr result (self.new.failures ≡ grown 1 self.old.failures) }
+        ensures not_failed { OnOk result (self.new.failures ≡ self.old.failures) }
+        ensures piece { IsPiece result → self.new.pieces ≡ grown 1 self.old.pieces }
+        ensures no_piece { ¬ (IsPiece result) → self.new.pieces ≡ self.old.pieces }
     {
-        self.reads = self.reads.saturating_add(1);
         let result = self.device.read(buffer);
-        if result.is_err() {
-            self.failed = true;
+        match result {
+            Ok(0) => {}
+            Ok(_) => self.pieces = self.pieces.saturating_add(1),
+            Err(_) => self.failures = self.failures.saturating_add(1),
         }
         result
     }
 }
 
 impl<W: Write> Watched<W> {
-    /// Writes once, and notes whether that failed or took no byte.
+    /// Writes once, and counts whether that failed or took none of the bytes.
     pub fn write(&mut self, bytes: &[u8]) -> io::Result<usize>
         ensures bound { WritesAtMost result bytes.now }
         ensures bytes { WriteAppends (W.contents self.old.device) (W.contents self.new.device) result bytes.now }
-        ensures failed { MatchResult result
-            (λ count. count ≡ 0 → self.new.failed ≡ true) (λ _. self.new.failed ≡ true) }
+        ensures failed { IsFailedWrite result bytes.now → self.new.failures ≡ grown 1 self.old.failures }
+        ensures not_failed { ¬ (IsFailedWrite result bytes.now) → self.new.failures ≡ self.old.failures }
+        ensures no_piece { self.new.pieces ≡ self.old.pieces }
     {
         let result = self.device.write(bytes);
         match result {
-            Ok(0) | Err(_) => {
-                self.failed = true;
-                result
-            }
-            Ok(_) => result,
+            Ok(count) if count > 0 || bytes.is_empty() => {}
+            _ => self.failures = self.failures.saturating_add(1),
         }
+        result
     }
 }

@@ -3,6 +3,7 @@ use Rattle.std.proofs.lemmas.Result.{err_from_is_err_and}
 use Rattle.replica_world.specs.declared.replaying.fault.ReplayFault.{ReplayFault}
 use Rattle.replica_world.proofs.Progress.{progress_start, progress_end, progress_bad, progress_next, progress_out_of_memory, progress_cut, some_left, none_left}
 use Rattle.replica_world.proofs.WholeScript.{first_shorter}
+use Rattle.replica_world.specs.Watching.{grown}
 use Rattle.replica_world.proofs.Written.{blamed}
 use Rattle.replica_world.proofs.replaying.run.replay_commands.Goals as goal
 
@@ -10,6 +11,7 @@ pub commands-init : goal.commands-init
 commands-init g c = record {
   within = omega arith;
   progress = λ w stands. progress_start w _ _ _ _ stands c.after_empty_lines-rest.ensures.text c.after_empty_lines-rest.ensures.within;
+  failures = refl;
 }
 
 pub returns-in_err-said-clause-replays : goal.returns-in_err-said-clause-replays
@@ -35,6 +37,7 @@ commands-preserved g c =
       within = omega (arith, shorter, c.commands.invariant.within);
       progress = λ w stands.
           progress_next _ _ _ _ _ _ _ _ _ _ _ _ (c.commands.invariant.progress w stands) (some_left _ _ c.is_empty.ensures c.commands-test.true) (rw c.in-Some.is at c.in_ok-said.ensures) shorter refl c.in_ok-write.ensures.ok;
+      failures = c.in_ok-write.ensures.not_failed ∙ c.commands.invariant.failures;
     }
 
 pub returns-clause-replays : goal.returns-clause-replays
@@ -46,9 +49,9 @@ commands-smaller g c = first_shorter _ _ _ _ _ (rw c.in-Some.is at c.in_ok-said.
 pub returns-in_err-said-clause-writer : goal.returns-in_err-said-clause-writer
 returns-in_err-said-clause-writer g c =
     let p = err_from_is_err_and c.from_residual.result c.from_residual.ensures.1 in
-    rw (p.1, p.2) tt
+    rw (p.1, p.2) c.commands.invariant.failures
 
 pub returns-in_err-write-clause-writer : goal.returns-in_err-write-clause-writer
 returns-in_err-write-clause-writer g c =
     let p = err_from_is_err_and c.from_residual-in_err-write.result c.from_residual-in_err-write.ensures.1 in
-    blamed _ _ (rw (p.1, p.2) c.in_err-write.ensures.write) c.in_err-write.ensures.failed
+    blamed _ _ _ (rw (p.1, p.2) c.in_err-write.ensures.write) (c.in_err-write.ensures.failed ∙ ap (grown 1) c.commands.invariant.failures)

@@ -1,4 +1,4 @@
-use Rattle.std.proofs.Common.{rules, ◌≡◌, ◌<◌, None, ap, length, subst, ◌∙◌}
+use Rattle.std.proofs.Common.{rules, ◌≡◌, None, ap, subst, ◌∙◌}
 use Rattle.replica_exchange.specs.DeltaText.{IsDelta, delta_text}
 use Rattle.replica_exchange.specs.CursorRule.{delta_from}
 use Rattle.replica_world.specs.declared.replica.KeptReplica.{KeptReplica}
@@ -6,24 +6,19 @@ use Rattle.replica_world.specs.Stands.{kept_at}
 use Rattle.replica_world.proofs.Worlds.{no_replica, refused_as, send_ran_out, sent_whole, kept_here}
 use Rattle.replica_world.proofs.world.World.send.Goals as goal
 
-pub returns-in_default-clause-steps : goal.returns-in_default-clause-steps
-returns-in_default-clause-steps c = no_replica c.args.self.now c.len.result _ (search rules) (search rules)
+pub returns-in_err-place-clause-steps : goal.returns-in_err-place-clause-steps
+returns-in_err-place-clause-steps c = no_replica c.args.self.now _ _ _ _ c.in_err-place.ensures.none (search rules) (search rules)
 
 pub returns-in_err-text-clause-steps : goal.returns-in_err-text-clause-steps
-returns-in_err-text-clause-steps c =
-    let below : c.in-Some.place < length c.args.self.now.replicas = search rules in
-    refused_as c.args.self.now _ _ _ _ (send_ran_out c.args.self.now c.args.number c.in-Some.place c.in-Some.ensures.found.0 below) (search rules) (search rules)
+returns-in_err-text-clause-steps c = refused_as c.args.self.now _ _ _ _ (send_ran_out c.args.self.now c.args.number c.in_ok-place.place c.in_ok-place.ensures.found) (search rules) (search rules)
 
 pub returns-in_err-count-clause-steps : goal.returns-in_err-count-clause-steps
-returns-in_err-count-clause-steps c =
-    let below : c.in-Some.place < length c.args.self.now.replicas = search rules in
-    refused_as c.args.self.now _ _ _ _ (send_ran_out c.args.self.now c.args.number c.in-Some.place c.in-Some.ensures.found.0 below) (search rules) (search rules)
+returns-in_err-count-clause-steps c = refused_as c.args.self.now _ _ _ _ (send_ran_out c.args.self.now c.args.number c.in_ok-place.place c.in_ok-place.ensures.found) (search rules) (search rules)
 
 pub returns-clause-steps : goal.returns-clause-steps
 returns-clause-steps c =
-    let below : c.in-Some.place < length c.args.self.now.replicas = search rules in
-    let same : c.index.result.now ≡ kept_at c.args.self.now c.in-Some.place = kept_here c.args.self.now c.in-Some.place c.index.result.now below (search rules) in
-    sent_whole c.args.self.now _ c.args.number c.in-Some.place c.in_ok-count.count c.in_ok-text.text.items c.in-Some.ensures.found.0 below
+    let same : c.index.result.now ≡ kept_at c.args.self.now c.in_ok-place.place = kept_here c.args.self.now c.in_ok-place.place c.index.result.now c.in_ok-place.ensures.found.within (search rules) in
+    sent_whole c.args.self.now _ c.args.number c.in_ok-place.place c.in_ok-count.count c.in_ok-text.text.items c.in_ok-place.ensures.found
     (c.in_ok-text.ensures.written ∙ ap (λ (k : KeptReplica). delta_text (delta_from k.stamped None)) same)
     (subst (λ (k : KeptReplica). IsDelta (delta_from k.stamped None)) same c.in_ok-text.ensures.fits)
     (record { base = c.push_message.ensures.base; replicas = c.push_message.ensures.replicas; last = c.push_message.ensures.last; messages = c.in_ok-count.ensures.messages; counted = c.in_ok-count.ensures.count })
