@@ -21,12 +21,8 @@ pub use replaying::laws::{
 pub use replaying::run::replay;
 pub use replaying::watched::Watched;
 pub use replica_events::{
-<<<<<<< HEAD
     Answer, Event, Refused, Said, cursors_are_kept, deliveries_in_any_order, incarnations_are_new,
-    one_outcome, replicas_agree, replies_are_of_merges, what_cursors_are, what_replicas_have_taken,
-=======
-    Answer, Event, Refused, Said, cursors_are_kept, deliveries_in_any_order, one_outcome,
-    refusals_have_causes, replicas_agree, replies_are_of_merges, what_replicas_have_taken,
->>>>>>> t4
+    one_outcome, refusals_have_causes, replicas_agree, replies_are_of_merges, what_cursors_are,
+    what_replicas_have_taken,
 };
 pub use world::World;
