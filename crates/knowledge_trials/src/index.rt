@@ -178,17 +178,9 @@ fn indexed_copy(alloc: Global, merge: &Merge) -> Result<Index> {
     Ok(index)
 }
 
-fn state_of_two(alloc: Global, one: &Harvest, other: &Harvest) -> Result<State> {
-    let mut state = State::new(alloc);
-    state.merge(one)?;
-    state.merge(other)?;
-    Ok(state)
-}
-
 fn merge_of_two_archives(alloc: Global) -> Result<Merge> {
-    let second = harvest(alloc, b"b1", ROOT, 1, mementos(alloc, &[SECOND])?)?;
-    let first = harvest(alloc, b"a1", ROOT, 1, mementos(alloc, &[FIRST])?)?;
-    Ok(Merge::State(state_of_two(alloc, &second, &first)?))
+    let index = indexed(alloc, &[(b"b1", 1, &[SECOND]), (b"a1", 1, &[FIRST])])?;
+    Ok(Merge::State(index.state().try_clone()?))
 }
 
 #[test]
@@ -358,14 +350,24 @@ fn some_harvest(alloc: Global, generator: &mut Generator) -> Result<Harvest> {
     harvest(alloc, name, original, revision, list)
 }
 
+fn merge_some(alloc: Global, generator: &mut Generator, state: &mut State) -> Result<()> {
+    state.merge(&some_harvest(alloc, generator)?)?;
+    Ok(())
+}
+
+fn state_of_some(alloc: Global, generator: &mut Generator) -> Result<State> {
+    let mut state = State::new(alloc);
+    merge_some(alloc, generator, &mut state)?;
+    merge_some(alloc, generator, &mut state)?;
+    Ok(state)
+}
+
 // A harvest, or a state of two.
 fn some_merge(alloc: Global, generator: &mut Generator) -> Result<Merge> {
-    let one = some_harvest(alloc, generator)?;
     if generator.below(3) > 0 {
-        return Ok(Merge::Harvest(one));
+        return Ok(Merge::Harvest(some_harvest(alloc, generator)?));
     }
-    let other = some_harvest(alloc, generator)?;
-    Ok(Merge::State(state_of_two(alloc, &one, &other)?))
+    Ok(Merge::State(state_of_some(alloc, generator)?))
 }
 
 fn absorb_in_both(index: &mut Index, plain: &mut Plain, merge: &Merge) -> Result<()> {
