@@ -98,7 +98,7 @@ fn ended(alloc: Global, script: &[u8], wanted: &[u8]) -> Option<Result<(), Repla
     let mut reader = Watched::new(script);
     let mut writer = Watched::new(Vec::new(alloc));
     let result = replay(alloc, &mut reader, &mut writer);
-    if writer.device.as_slice() == wanted {
+    if writer.device().as_slice() == wanted {
         Some(result)
     } else {
         None
@@ -144,7 +144,7 @@ fn replay_by_bytes(alloc: Global, rest: &[u8], reads: usize) -> (Result<(), Repl
     let mut reader = Watched::new(FailingReader { rest, reads });
     let mut writer = Watched::new(Vec::new(alloc));
     let result = replay(alloc, &mut reader, &mut writer);
-    (result, writer.device.len())
+    (result, writer.device().len())
 }
 
 // A reader may give a byte at a time for as long as it likes, below the limit of a thousand million reads.
