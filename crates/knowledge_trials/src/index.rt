@@ -170,12 +170,17 @@ fn the_ends_of_revisions_and_seconds(rt: HostRuntime) -> Result<()> {
     Ok(())
 }
 
-// An index of a copy of a merge.
-fn indexed_copy(alloc: Global, merge: &Merge) -> Result<Index> {
+// Takes a copy of a merge.
+fn take_copy(index: &mut Index, merge: &Merge) -> Result<()> {
     let copy = merge.try_clone()?;
+    absorb(index, &copy)
+}
+
+// Whether an index of a copy of a merge lists these of the root, and has so many entries.
+fn copy_makes(alloc: Global, merge: &Merge, captures: &[Capture], entries: usize) -> Result<bool> {
     let mut index = Index::new(alloc);
-    absorb(&mut index, &copy)?;
-    Ok(index)
+    take_copy(&mut index, merge)?;
+    Ok(lists(alloc, &index, captures)? && index.state().len() == entries)
 }
 
 fn merge_of_two_archives(alloc: Global) -> Result<Merge> {
@@ -184,13 +189,16 @@ fn merge_of_two_archives(alloc: Global) -> Result<Merge> {
 }
 
 #[test]
-fn merges_are_copied(rt: HostRuntime) -> Result<()> {
+fn a_merge_of_a_harvest_is_copied(rt: HostRuntime) -> Result<()> {
     let alloc = rt.alloc();
-    let of_harvest = indexed_copy(alloc, &merge(alloc, b"a1", ROOT, 7, &[FIRST])?)?;
-    assert!(rt; lists(alloc, &of_harvest, &[FIRST])?);
-    let of_state = indexed_copy(alloc, &merge_of_two_archives(alloc)?)?;
-    assert!(rt; lists(alloc, &of_state, &[FIRST, SECOND])?);
-    assert!(rt; of_state.state().len() == 2);
+    assert!(rt; copy_makes(alloc, &merge(alloc, b"a1", ROOT, 7, &[FIRST])?, &[FIRST], 1)?);
+    Ok(())
+}
+
+#[test]
+fn a_merge_of_a_state_is_copied(rt: HostRuntime) -> Result<()> {
+    let alloc = rt.alloc();
+    assert!(rt; copy_makes(alloc, &merge_of_two_archives(alloc)?, &[FIRST, SECOND], 2)?);
     Ok(())
 }
 
