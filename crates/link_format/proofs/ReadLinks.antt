@@ -2,14 +2,16 @@
 use Rattle.std.proofs.Common.{◌≡◌, ℕ, zero, suc, ◌-◌, ◌+◌, ◌≤◌, List, [], ◌∷◌, ◌++◌, length, take, drop, get_or, Option, Some, None, Ok, Err, refl, sym, ap, subst, ◌∙◌, arith, inl, inr}
 use Rattle.std.specs.Prelude.{MatchOption}
 use Rattle.std.specs.List.{slice_get, AllByRecursion}
+use Rattle.std.proofs.lemmas.List.{append-nil, length-append}
 use Rattle.std.proofs.lemmas.Option.{same_Some}
 use Rattle.link_format.specs.Grammar.{Link, Reading}
 use Rattle.link_format.specs.Limits.{IsAnswer, FewParams, ShortTargets}
-use Rattle.link_format.specs.Reader.{reading_left, with_left, IsSamePlace, IsWithin, StandBefore, IsReadTo}
+use Rattle.link_format.specs.Reader.{reading_left, with_left, BeginsWith, IsSamePlace, IsWithin, StandBefore, StandsBehind, IsReadTo}
 use Rattle.link_format.specs.Scan.{reading_of}
 use Rattle.link_format.specs.Walk.{in_list, left_by}
 use Rattle.link_format.specs.declared.fault.LinkFault.TheVariants.{NotLinkFormat}
 use Rattle.link_format.proofs.Answer.{stopped}
+use Rattle.link_format.proofs.Begins.{up_to_more}
 use Rattle.link_format.proofs.Complete.{reading_complete}
 use Rattle.link_format.proofs.Sound.{bind_some, reading_sound}
 use Rattle.link_format.proofs.Steps.{option_cases}
@@ -99,9 +101,19 @@ same_place text rest None e is = tt
 same_place text rest (Some more) e is = is ∙ e
 
 -- one link more is read
+-- the link that the rest begins with stands behind those that are read
+pub stands_behind : (text rest : List ℕ) (after : Option (List ℕ)) (count : ℕ) (link : Link) → IsReadTo text (Some rest) count → BeginsWith rest after (link ∷ []) → StandsBehind count text link
+stands_behind text rest after count link is begins =
+    (is.given.0, after, up_to_more text rest after is.given.0 (link ∷ []) is.given.1 begins, is.given.2)
+
 pub read_on : (text rest : List ℕ) (after : Option (List ℕ)) (count : ℕ) (link : Link) → IsReadTo text (Some rest) count → with_left (link ∷ []) after ≡ reading_of rest
-    → IsSamePlace rest after → IsWithin count link → IsReadTo text after (count + 1)
-read_on text rest after count link is found place (few, params, target) = record {
+    → BeginsWith rest after (link ∷ []) → IsSamePlace rest after → IsWithin count link → IsReadTo text after (count + 1)
+read_on text rest after count link is found begins place (few, params, target) = record {
+  given = (
+    is.given.0 ++ link ∷ [],
+    inr (up_to_more text rest after is.given.0 (link ∷ []) is.given.1 begins),
+    omega (arith, length-append is.given.0 (link ∷ []), is.given.2),
+  );
   links = elim (option_cases (reading_of text)) [
     | inl none ↦
         let before : reading_of rest ≡ None = subst (λ (o : Option (List Link)). MatchOption o (reading_of rest ≡ None) (StandBefore (Some rest) count)) none is.links in
@@ -136,6 +148,19 @@ at_end text rest count is end =
             d.0,
           )
     ]
+
+-- then nothing is left
+pub read_to_end : (text : List ℕ) (rest : Option (List ℕ)) (count : ℕ) → IsReadTo text rest count → reading_left rest ≡ Some [] → IsReadTo text None count
+read_to_end text rest count is end =
+    let all = at_end text rest count is end in
+    let found = reading_complete all.1.0 in
+    let stand = stand_of text rest count all.0 is found in
+    record {
+      given = (all.0, inr (text, sym (append-nil text), all.1.0), all.2);
+      links = rw found (record { left = sym end ∙ stand.left; within = stand.within; params = stand.params; targets = stand.targets });
+      place = tt;
+      few = is.few;
+    }
 
 -- where the rest has no reading, the text has none
 pub at_fault : (text rest : List ℕ) (count left at : ℕ) → IsReadTo text (Some rest) count → reading_of rest ≡ None → left ≡ left_by in_list rest → at ≡ length text - left

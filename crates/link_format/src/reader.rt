@@ -4,7 +4,7 @@ ghost use Rattle.std.specs.Prelude.{IfOk, IfErr, IfSome, IfNone, IsTrue, option_
 ghost use Rattle.std.specs.List.{slice_get};
 ghost use Rattle.link_format.specs.Grammar.{Link, Reading};
 ghost use Rattle.link_format.specs.Limits.{IsAnswer};
-ghost use Rattle.link_format.specs.Reader.{IsSamePlace, IsWithin, with_left};
+ghost use Rattle.link_format.specs.Reader.{BeginsWith, IsSamePlace, IsWithin, StandsBehind, with_left};
 ghost use Rattle.link_format.specs.Scan.{reading_of};
 ghost use Rattle.link_format.specs.Spans.{link_of};
 ghost use Rattle.link_format.specs.Walk.{in_list, left_by};
@@ -21,6 +21,8 @@ use std::marker::Model;
 fn next_span(text: &[u8]) -> Result<Option<(LinkSpan<'_>, Option<&[u8]>)>, usize>
     ensures some { IfOk result (λ found. IfSome found (λ x.
         with_left (link_of x.0 ∷ []) (option_map (λ rest. rest.now) x.1) ≡ reading_of text.now)) }
+    ensures begins { IfOk result (λ found. IfSome found (λ x.
+        BeginsWith text.now (option_map (λ rest. rest.now) x.1) (link_of x.0 ∷ []))) }
     ensures none { IfOk result (λ found. IfNone found (reading_of text.now ≡ Some [])) }
     ensures place { IfOk result (λ found. IfSome found (λ x.
         IsSamePlace text.now (option_map (λ rest. rest.now) x.1))) }
@@ -91,14 +93,18 @@ impl<'a> LinkReader<'a> {
 
     /// The next link; None where there is no more.
     ///
+    /// A link is given before what follows it is looked at. So it is a link of the text whether or not the text has a
+    /// reading: with those before it, it is the reading of a beginning that ends at a comma or with the text (`begins`).
+    ///
     /// A fault is the text's, as `read_links` tells it, and leaves the reader as it was. It is told once reading comes
     /// to it: the links before it are read. A link that passes a limit has the whole text read, to tell the first fault.
     pub fn read(&mut self) -> Result<Option<LinkRef<'a>>, LinkFault>
         ensures link { IfOk result (λ found. IfSome found (λ link.
             (links : List Link) → Reading self.old.text links → slice_get links self.old.count ≡ Some link)) }
+        ensures begins { IfOk result (λ found. IfSome found (StandsBehind self.old.count self.old.text)) }
         ensures count { IfOk result (λ found. IfSome found (λ link.
             self.new ≡ record { text = self.old.text; count = 1 + self.old.count })) }
-        ensures most { IfOk result (λ found. IfSome found (λ link. self.old.count < 200000)) }
+        ensures within { IfOk result (λ found. IfSome found (λ link. IsWithin self.old.count link)) }
         ensures end { IfOk result (λ found. IfNone found
             ((links : List Link) × IsAnswer self.old.text (Ok links) × (length links ≡ self.old.count))) }
         ensures fault { IfErr result (λ fault. IsAnswer self.old.text (Err fault)) }

@@ -1,7 +1,7 @@
 -- A publish is the events of its batch, and an entry is an Ask.
 use Rattle.std.proofs.Common.{◌≡◌, ℕ, zero, suc, List, [], ◌∷◌, ◌++◌, map, length, ◌+◌, ◌≤◌, arith, All, Some, Ok, Option, MatchOption, refl, sym, ap, ◌∙◌, subst, inl, append_assoc, append-nil}
 use Rattle.std.specs.Prelude.{slice_get, slice_set}
-use Rattle.std.proofs.lemmas.List.{set-set, length_push}
+use Rattle.std.proofs.lemmas.List.{set-set, length-append, length_push}
 use Rattle.std.proofs.lemmas.List.Elements.{All-head, All-tail}
 use Rattle.memento_index.specs.declared.merge.Merge.{Merge}
 use Rattle.memento_index.specs.declared.merge.Merge.TheVariants.{Harvest, State}
@@ -16,7 +16,9 @@ use Rattle.replica_events.specs.declared.event.Event.TheVariants.{Ask}
 use Rattle.replica_events.specs.declared.event.Said.TheVariants.{Replied}
 use Rattle.replica_events.specs.World.{World, Replica, Step, Run, Knowledge, replica, with_replica, taking, last_number, replica_reply}
 use Rattle.published_index.specs.Batches.{Batch, fold_of, harvests_of, merges_of}
-use Rattle.published_index.specs.Events.{event_of, answer_to, IsReceivable, merging}
+use Rattle.published_index.specs.Cursors.{with_publish}
+use Rattle.published_index.specs.Events.{AreNumbered, RunsAsEvents, event_of, answer_to, IsReceivable, merging}
+use Rattle.published_index.specs.Views.{MergerView}
 use Rattle.published_index.specs.Replies.{IsReplyFrom}
 use Rattle.published_index.proofs.Folding.{fold-batch, merges-append}
 
@@ -67,7 +69,7 @@ takes base w i r (Harvest h) there fits left = inl (at_replica w i r _ _ there (
 takes base w i r (State s) there fits left = inl (at_replica w i r _ _ there (inl (s, record { state = fits.0; text = refl; within = fits.1 }, inl (left, (refl, refl)))))
 
 -- a batch is its events, one after the other
-pub batch_runs : (base : List ℕ) (w : World) (i : ℕ) (r : Replica) (batch : Batch) → replica w i ≡ Some r → All IsReceivable batch → length r.merges + length batch ≤ last_number
+batch_runs : (base : List ℕ) (w : World) (i : ℕ) (r : Replica) (batch : Batch) → replica w i ≡ Some r → All IsReceivable batch → length r.merges + length batch ≤ last_number
     → Run base w (map (event_of i) batch) (map answer_to batch) (with_replica w i (merging r batch))
 batch_runs base w i r [] there fits left = ap (with_replica w i) (merge_nothing r) ∙ put_same w i r there
 batch_runs base w i r (m ∷ ms) there fits left =
@@ -79,12 +81,16 @@ batch_runs base w i r (m ∷ ms) there fits left =
     let later : length next.merges + length ms ≤ last_number = omega (arith, count, left) in
     (mid, takes base w i r m there (All-head IsReceivable m ms fits) first, subst (Run base mid (map (event_of i) ms) (map answer_to ms)) end (batch_runs base mid i next ms (put_there w i r _ there) (All-tail IsReceivable m ms fits) later))
 
--- and takes what the published list has with it
-pub batch_taken : (list : List Batch) (batch : Batch) (r : Replica) → r.taken ≡ fold_of list → (merging r batch).taken ≡ fold_of (list ++ batch ∷ [])
-batch_taken list batch r is = ap (λ (k : Knowledge). k ++ harvests_of batch) is ∙ sym (fold-batch list batch)
+pub publish_runs : (m : MergerView) → AreNumbered (with_publish m).published → RunsAsEvents m.published m.pending
+publish_runs m numbered base w i r there merges fits =
+    batch_runs base w i r m.pending there fits (omega (arith, ap length merges, ap length (merges-append m.published m.pending), length-append (merges_of m.published) m.pending, numbered))
 
-pub batch_merged : (list : List Batch) (batch : Batch) (r : Replica) → r.merges ≡ merges_of list → (merging r batch).merges ≡ merges_of (list ++ batch ∷ [])
-batch_merged list batch r is = ap (λ (ms : Batch). ms ++ batch) is ∙ sym (merges-append list batch)
+-- and takes what the published list has with it
+pub publish_taken : (m : MergerView) (r : Replica) → r.taken ≡ fold_of m.published → (merging r m.pending).taken ≡ fold_of (with_publish m).published
+publish_taken m r is = ap (λ (k : Knowledge). k ++ harvests_of m.pending) is ∙ sym (fold-batch m.published m.pending)
+
+pub publish_merged : (m : MergerView) (r : Replica) → r.merges ≡ merges_of m.published → (merging r m.pending).merges ≡ merges_of (with_publish m).published
+publish_merged m r is = ap (λ (ms : Batch). ms ++ m.pending) is ∙ sym (merges-append m.published m.pending)
 
 -- an entry is an Ask at its front
 pub entry_asks : (base : List ℕ) (w : World) (i : ℕ) (r : Replica) (front : List Batch) (q : Request) (made : Reply) → replica w i ≡ Some r → r.taken ≡ fold_of front → r.merges ≡ merges_of front

@@ -14,3 +14,5 @@ pub mod Agreeing
 pub mod Stamping
 pub mod Reaching
 pub mod EventLemmas
+pub mod Handing
+pub mod Following

@@ -3,7 +3,9 @@ use Rattle.std.proofs.Common.{◌≡◌, ◌⊎◌, inl, inr, ⊎_elim, List, []
 use mathlib.Core.List.{IsPrefix}
 use Rattle.published_index.specs.Batches.{Batch}
 use Rattle.published_index.specs.Calls.{Call, Learn, Answer, Refusal, Leads, Calls}
-use Rattle.published_index.specs.Passes.{Pass, Advances}
+use Rattle.published_index.specs.Passes.{Pass, Advances, AfterFault}
+use Rattle.published_index.specs.declared.faults.GateFault.{GateFault}
+use Rattle.published_index.specs.declared.faults.GateFault.TheVariants.{NoMemory, Closed}
 use Rattle.published_index.proofs.Fronts.{prefix_self, prefix_trans}
 
 -- the list begins the pass's front, or the longest list that it was told
@@ -23,7 +25,11 @@ holds_on list old (Learn told) new learns =
     ⊎_elim (λ (seen : IsPrefix list old.front). inl (along list old.front new.front learns.front seen)) (λ (was : IsPrefix list old.told). inr (prefix_trans list old.told new.told was learns.before))
 holds_on list old (Answer front) new answers = λ here. inl (to_front list old new answers.0 here)
 holds_on list old Refusal new refused = λ here.
-    ⊎_elim (λ (same : new ≡ old). subst (Holds list) (sym same) here) (λ (advances : Advances old new). inl (to_front list old new advances here)) refused
+    after_fault refused.0 refused.1 here
+  where
+    after_fault : (fault : GateFault) → AfterFault fault old new → Holds list old → Holds list new
+    after_fault NoMemory advances was = inl (to_front list old new advances was)
+    after_fault Closed same was = subst (Holds list) (sym same) was
 
 -- a run is a beginning and what follows it
 parts : (start end : Pass) (before after : List Call) → Calls start (before ++ after) end → (mid : Pass) × Calls start before mid × Calls mid after end

@@ -1,7 +1,8 @@
 -- The calls of one gate, one after the other, and what they make of its pass.
-use Rattle.std.specs.Prelude.{◌≡◌, ◌⊎◌, List, [], ◌∷◌}
+use Rattle.std.specs.Prelude.{◌≡◌, List, [], ◌∷◌}
+use Rattle.published_index.specs.declared.faults.GateFault.{GateFault}
 use Rattle.published_index.specs.Batches.{Batch}
-use Rattle.published_index.specs.Passes.{Pass, Advances, Learns}
+use Rattle.published_index.specs.Passes.{Pass, Advances, AfterFault, Learns}
 
 -- a receipt of a list was learnt; a reply was made from a front; or an answer was refused
 pub data Call : Type 0 where
@@ -13,7 +14,7 @@ pub data Call : Type 0 where
 abbrev pub Leads : Pass → Call → Pass → Type 0
 Leads old (Learn list) new = Learns old list new
 Leads old (Answer front) new = Advances old new × (new.front ≡ front)
-Leads old Refusal new = (new ≡ old) ⊎ Advances old new
+Leads old Refusal new = (fault : GateFault) × AfterFault fault old new
 
 -- what the calls make of it, one after the other
 abbrev pub Calls : Pass → List Call → Pass → Type 0

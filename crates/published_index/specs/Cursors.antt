@@ -9,7 +9,7 @@ use Rattle.replica_exchange.specs.declared.delta.Delta.{Delta}
 use Rattle.replica_exchange.specs.Stamps.{StampedState, IsStamped, state_after}
 use Rattle.replica_exchange.specs.CursorRule.{delta_from, taken_from}
 use Rattle.published_index.specs.Batches.{merges_of}
-use Rattle.published_index.specs.Views.{MergerView}
+use Rattle.published_index.specs.Views.{MergerView, ReceiptView}
 
 -- ---- what calls make of a merger
 
@@ -28,6 +28,32 @@ with_delta m peer d = record m {
 abbrev pub with_publish : MergerView → MergerView
 with_publish m = record m { published = m.published ++ m.pending ∷ []; pending = [] }
 
+-- a call of a merger that wasn't refused
+pub data MergerCall : Type 0 where
+  Append : Merge → MergerCall
+  AppendDelta : ℕ → Delta → MergerCall
+  Publish : MergerCall
+
+-- what it makes of the merger
+abbrev pub after_call : MergerView → MergerCall → MergerView
+after_call m (Append merge) = with_merge m merge
+after_call m (AppendDelta peer d) = with_delta m peer d
+after_call m Publish = with_publish m
+
+-- the merges that are handed in by it
+abbrev pub handed_by : MergerCall → List Merge
+handed_by (Append merge) = merge ∷ []
+handed_by (AppendDelta peer d) = State d.state ∷ []
+handed_by Publish = []
+
+-- the merges that were published, and behind them those that are pending
+abbrev pub merges_with_pending : MergerView → List Merge
+merges_with_pending m = merges_of m.published ++ m.pending
+
+-- what a merger tells of its published list
+abbrev pub receipt_of : MergerView → ReceiptView
+receipt_of m = record { opening = m.opening; batches = m.published }
+
 -- ---- what cursors say
 
 -- the merges of each incarnation of each peer, in order
@@ -44,7 +70,7 @@ pub record IsDeltaOf (histories : Histories) (peer : ℕ) (d : Delta) : Type 0 w
 
 -- the state of all that was published or is pending
 abbrev pub state_of : MergerView → Entries
-state_of m = state_after (merges_of m.published ++ m.pending)
+state_of m = state_after (merges_with_pending m)
 
 -- for each held cursor the merger has at least what the first so many merges of that peer's incarnation made
 abbrev pub HasReached : Histories → MergerView → Type 0

@@ -1,24 +1,28 @@
 //! What follows for one gate from its calls, and for the replies of two.
-ghost use Rattle.std.specs.Prelude.{◌≡◌, ℕ, ◌+◌, ◌≤◌, [], ◌∷◌, ◌++◌, true, length, List, All, Contains, Some};
-ghost use Rattle.std.specs.Prelude.{Ok, fold, map};
+ghost use Rattle.std.specs.Prelude.{◌≡◌, ℕ, ◌≤◌, [], ◌∷◌, ◌++◌, true, List, Contains, Some};
+ghost use Rattle.std.specs.Prelude.{IfSome, Ok, Option, fold};
+ghost use Rattle.std.specs.List.{flat_map};
 ghost use Rattle.std.specs.FinMap as finite;
 ghost use mathlib.Core.List.{IsPrefix};
 ghost use Rattle.memento_index.specs.declared.merge.Merge.{Merge};
 ghost use Rattle.harvest_lattice.specs.Knowledge.{Harvested, lat};
+ghost use Rattle.replica_exchange.specs.declared.cursor.Cursor.{Cursor};
 ghost use Rattle.replica_exchange.specs.declared.delta.Delta.{Delta};
-ghost use Rattle.replica_exchange.specs.CursorRule.{fits};
+ghost use Rattle.replica_exchange.specs.CursorRule.{delta_from, fits};
+ghost use Rattle.replica_exchange.specs.Stamps.{StampedState};
 ghost use Rattle.memento_index.specs.Merges.{adds_of};
 ghost use Rattle.timegate.specs.Reply.{reply};
 ghost use Rattle.timegate.specs.declared.request.Request.{Request};
 ghost use Rattle.timegate.specs.declared.reply.Reply.{Reply};
 ghost use Rattle.replica_events.specs.declared.event.Event.TheVariants.{Ask};
 ghost use Rattle.replica_events.specs.declared.event.Said.TheVariants.{Replied};
-ghost use Rattle.replica_events.specs.World.{World, Replica, Run, Step, replica, with_replica, last_number};
+ghost use Rattle.replica_events.specs.World.{World, Replica, Step, replica};
 ghost use Rattle.published_index.specs.Batches.{Batch, fold_of, merges_of};
 ghost use Rattle.published_index.specs.Calls.{Call, Learn, Answer, Calls};
 ghost use Rattle.published_index.specs.Cursors.{Histories, HasReached, IsDeltaOf};
-ghost use Rattle.published_index.specs.Cursors.{with_delta, with_merge, with_publish};
-ghost use Rattle.published_index.specs.Events.{answer_to, event_of, IsReceivable, merging};
+ghost use Rattle.published_index.specs.Cursors.{MergerCall, Publish, after_call, handed_by, merges_with_pending};
+ghost use Rattle.published_index.specs.Cursors.{receipt_of, with_delta, with_merge, with_publish};
+ghost use Rattle.published_index.specs.Events.{AreNumbered, RunsAsEvents, merging};
 ghost use Rattle.published_index.specs.Replies.{IsReplyFrom};
 ghost use Rattle.published_index.specs.Passes.{Pass};
 ghost use Rattle.published_index.specs.Views.{MergerView};
@@ -30,7 +34,7 @@ pub fn answers_never_go_back()
 {}
 
 /// A gate that learnt a receipt serves each merge in it: each later reply is made from a front that begins with the
-/// receipt's list, and so has each of its merges and of its harvests.
+/// receipt's list, and so has each of its merges and of its harvests. In a publish's receipt is each merge of its batch.
 pub fn what_is_learnt_is_served()
     ensures front { (start end : Pass) (before between after : List Call) (list front : List Batch)
         → Calls start (before ++ Learn list ∷ (between ++ Answer front ∷ after)) end → IsPrefix list front }
@@ -38,25 +42,37 @@ pub fn what_is_learnt_is_served()
         → Contains (merges_of front) m }
     ensures harvests { (list front : List Batch) → IsPrefix list front → (h : Harvested) → Contains (fold_of list) h
         → Contains (fold_of front) h }
+    ensures published { (m : MergerView) (merge : Merge) → Contains m.pending merge
+        → Contains (merges_of (receipt_of (with_publish m)).batches) merge }
+{}
+
+/// Whatever a merger was called: what it published, and behind it what is pending, is each merge that it was handed, once
+/// and in the order of the calls. After a publish all of that is published, and what was published stays at the start.
+pub fn each_merge_is_published_once()
+    ensures handed { (m : MergerView) (calls : List MergerCall)
+        → merges_with_pending (fold after_call m calls) ≡ merges_with_pending m ++ flat_map handed_by calls }
+    ensures published { (m : MergerView) (calls : List MergerCall)
+        → merges_of (fold after_call m (calls ++ Publish ∷ [])).published
+        ≡ merges_with_pending m ++ flat_map handed_by calls }
+    ensures start { (m : MergerView) (calls : List MergerCall) → IsPrefix m.published (fold after_call m calls).published }
 {}
 
 /// A publish adds what the merges of its batch add, one after the other, with nothing between.
 pub fn a_publish_adds_its_batch()
-    ensures { (list : List Batch) (batch : Batch)
-        → fold_of (list ++ batch ∷ []) ≡ fold (λ taken merge. taken ++ adds_of merge) (fold_of list) batch }
+    ensures { (m : MergerView) → fold_of (with_publish m).published
+        ≡ fold (λ taken merge. taken ++ adds_of merge) (fold_of m.published) m.pending }
 {}
 
 /// A publish is the events of its batch at this replica, in order, with nothing between: each harvest is taken, and
-/// each state is received as its text. `run` asks that each text may be received, and that the replica's merges can be
-/// numbered, without which a publish is refused; `a_publish_adds_its_batch` says the same of states of any size.
+/// each state is received as its text. `run` asks that all merges that are then published have numbers, which
+/// `Merger::publish` ensures where it succeeds (`numbered`), and that each text may be received;
+/// `a_publish_adds_its_batch` says the same of states of any size.
 pub fn a_publish_is_events()
-    ensures run { (base : List ℕ) (w : World) (i : ℕ) (r : Replica) (batch : Batch) → replica w i ≡ Some r
-        → All IsReceivable batch → length r.merges + length batch ≤ last_number
-        → Run base w (map (event_of i) batch) (map answer_to batch) (with_replica w i (merging r batch)) }
-    ensures taken { (list : List Batch) (batch : Batch) (r : Replica) → r.taken ≡ fold_of list
-        → (merging r batch).taken ≡ fold_of (list ++ batch ∷ []) }
-    ensures merges { (list : List Batch) (batch : Batch) (r : Replica) → r.merges ≡ merges_of list
-        → (merging r batch).merges ≡ merges_of (list ++ batch ∷ []) }
+    ensures run { (m : MergerView) → AreNumbered (with_publish m).published → RunsAsEvents m.published m.pending }
+    ensures taken { (m : MergerView) (r : Replica) → r.taken ≡ fold_of m.published
+        → (merging r m.pending).taken ≡ fold_of (with_publish m).published }
+    ensures merges { (m : MergerView) (r : Replica) → r.merges ≡ merges_of m.published
+        → (merging r m.pending).merges ≡ merges_of (with_publish m).published }
 {}
 
 /// An entry is an Ask of this replica, where it has taken what the front holds, by the front's merges.
@@ -84,4 +100,16 @@ pub fn held_cursors_are_reached()
         → HasReached histories (with_merge m merge) }
     ensures publish { (histories : Histories) (m : MergerView) → HasReached histories m
         → HasReached histories (with_publish m) }
+{}
+
+/// Deltas that are asked for from the held cursor follow each other: each fits, and once one is appended the next that
+/// this incarnation of the peer makes begins no earlier than where that one ended, unless the cursor was beyond what the
+/// peer has. The cursors of other peers stay.
+pub fn deltas_follow_each_other()
+    ensures fits { (s : StampedState) (held : Option Cursor) → fits held (delta_from s held) ≡ true }
+    ensures next { (m : MergerView) (peer : ℕ) (d : Delta) (s : StampedState) → s.incarnation ≡ d.incarnation
+        → d.end ≤ s.number → IfSome (finite.get m.cursors peer) (λ c. c.number ≤ s.number)
+        → d.end ≤ (delta_from s (finite.get (with_delta m peer d).cursors peer)).start }
+    ensures others { (m : MergerView) (peer other : ℕ) (d : Delta) → ¬ (other ≡ peer)
+        → finite.get (with_delta m peer d).cursors other ≡ finite.get m.cursors other }
 {}

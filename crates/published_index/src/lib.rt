@@ -22,7 +22,8 @@ pub use faults::{GateFault, OpenFault, PublishRefused};
 pub use gates::Gate;
 pub use laws::{
     a_publish_adds_its_batch, a_publish_is_events, an_entry_is_an_ask, answers_never_go_back,
-    held_cursors_are_reached, same_state_same_reply, what_is_learnt_is_served,
+    deltas_follow_each_other, each_merge_is_published_once, held_cursors_are_reached,
+    same_state_same_reply, what_is_learnt_is_served,
 };
 pub use mergers::Merger;
 pub use openings::{MOST_GATES, open};

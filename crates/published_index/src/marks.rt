@@ -2,6 +2,34 @@
 //!
 //! The log holds what contracts know of the published list: each publish notes its batch before the batch is shown, and
 //! its success once it is. When the program runs there is the log's length alone, so that nothing of it takes memory.
+//!
+//! An example. A merger was opened, and is handed the merges a and b. Beside each step stand the log as it is then, and
+//! four marks by their numbers of entries: the merger's `mark`, its `last_success`, the mark of the copy that is shown,
+//! and that of a receipt.
+//!
+//! | Step | Log | `mark` | `last_success` | shown | receipt |
+//! |---|---|---|---|---|---|
+//! | `open` | nothing | 0 | 0 | 0 | |
+//! | `append` of a, and of b | nothing | 0 | 0 | 0 | |
+//! | `publish` notes the batch (`offer`) | Attempt [a, b] | 1 | 0 | 0 | |
+//! | it shows the copy with a, b and this mark (`show`) | Attempt [a, b] | 1 | 0 | 1 | |
+//! | it notes the success (`record_success`) | Attempt [a, b], Success | 2 | 2 | 1 | |
+//! | it gives a receipt | Attempt [a, b], Success | 2 | 2 | 1 | 2 |
+//!
+//! What a mark says depends on whose it is. Of the merger and of a receipt it says which batches were published, so an
+//! attempt at its end doesn't count (`successes`): none up to the fourth step, and then [a, b]. A copy that is shown
+//! has all that was attempted, so there the last attempt counts (`successes_with_last`): the copy with 1 entry has
+//! [a, b], and a gate that enters it between the fourth step and the fifth answers from that front.
+//!
+//! A gate that learnt the receipt, of 2 entries, meets the copy with 1 entry: that copy has all that was told, since
+//! the entry behind an attempt can only be its success. This is why `precedes` allows one entry more. The copy from
+//! before the publish has 0 entries, and 2 is more than 1: that gate doesn't answer from it.
+//!
+//! Had the copy not been shown, as memory was refused, the log would have stayed Attempt [a, b], `mark` at 1 and
+//! `last_success` at 0. With c handed in as well, the next publish notes Attempt [a, b, c]: 2 entries, and 3 with its
+//! success. The first attempt published nothing, as no success follows it, and the published list is the one batch
+//! [a, b, c]. Receipts are made from `last_success`, not from `mark`: after two attempts that failed a receipt of 2
+//! entries would keep a gate from the copy that is shown, which is still at 0.
 ghost use Rattle.std.specs.Prelude.{◌≡◌, ◌⊎◌, ◌∷◌, ◌++◌, [], IfSome, IsTrue, length};
 ghost use mathlib.Core.List.{IsPrefix};
 

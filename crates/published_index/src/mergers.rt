@@ -2,7 +2,8 @@
 ghost use Rattle.std.specs.Prelude.{◌≡◌, ◌∷◌, [], ◌++◌, true, IfOk, IfErr, OnOk, OnErr};
 ghost use Rattle.std.specs.FinMap as map;
 ghost use Rattle.replica_exchange.specs.CursorRule as rule;
-ghost use Rattle.published_index.specs.Cursors.{with_merge, with_delta, with_publish};
+ghost use Rattle.published_index.specs.Cursors.{receipt_of, with_merge, with_delta, with_publish};
+ghost use Rattle.published_index.specs.Events.{AreNumbered, RunsAsEvents};
 
 use crate::faults::PublishRefused;
 use crate::marks::{Head, Mark};
@@ -34,7 +35,7 @@ pub struct Merger {
 
 impl Model for Merger {
     ghost use Rattle.std.specs.Prelude.{◌≡◌, drop};
-    ghost use Rattle.published_index.specs.Changes.{merges_in, batches_of, book_of};
+    ghost use Rattle.published_index.specs.Changes.{IsWhole, merges_in, batches_of, book_of};
     ghost use Rattle.published_index.specs.Marks.{successes, head_of};
     ghost use Rattle.published_index.specs.Passes.{opening_of};
     ghost use Rattle.published_index.specs.Views.{MergerView, coded_held};
@@ -55,6 +56,7 @@ impl Model for Merger {
     ghost invariant = { λ m. (m.head ≡ head_of m.mark.seen.book)
         × (book_of m.writer.desk.shown.value ≡ m.mark.seen.book)
         × (batches_of m.writer.desk.shown.value ≡ successes m.mark.seen.log)
+        × IsWhole m.writer.desk.shown.value
         × (m.last_success.seen.book ≡ m.mark.seen.book)
         × (successes m.last_success.seen.log ≡ successes m.mark.seen.log) };
 }
@@ -84,7 +86,7 @@ impl Merger {
         let (Ok(state), Ok(mut moved)) = (delta.state.try_clone(), self.cursors.try_clone()) else {
             return Err(TakeFault::NoMemory);
         };
-        moved.take(peer, delta)?;
+        moved.advance(peer, delta)?;
         // What is appended can't be taken back, so the cursors move last.
         let Ok(()) = add(&mut self.writer, Merge::State(state)) else {
             return Err(TakeFault::NoMemory);
@@ -101,18 +103,17 @@ impl Merger {
     }
 
     /// Makes all that is pending one batch at the end of the published list, perhaps an empty one, and gives a receipt
-    /// of the whole list. Gates show all of the batch or nothing of it.
+    /// of the whole list. Gates show all of the batch or nothing of it. The batch is the events of its merges
+    /// (`a_publish_is_events`), for which numbers are left.
     ///
     /// It is refused where a growth is, and where the merges are more than a number of 64 bits counts. It may wait for
     /// gates that are about to answer from what was published before. Takes time in what is pending and in what the
     /// publish before took.
     pub fn publish<R: Wait>(&mut self, rt: &R) -> Result<Receipt, PublishRefused>
         ensures ok { OnOk result (self.new ≡ with_publish self.old) }
-        ensures receipt { IfOk result
-            (λ told. told ≡ record {
-              opening = self.old.opening;
-              batches = self.old.published ++ self.old.pending ∷ [];
-            }) }
+        ensures receipt { IfOk result (λ told. told ≡ receipt_of self.new) }
+        ensures numbered { OnOk result (AreNumbered self.new.published) }
+        ensures events { OnOk result (RunsAsEvents self.old.published self.old.pending) }
         ensures err { OnErr result (self.new ≡ self.old) }
     {
         if offer::<Brand>(&mut self.writer, &self.head, &mut self.mark).is_err() {
@@ -129,7 +130,7 @@ impl Merger {
     /// A receipt of the whole published list.
     pub fn tell(&mut self) -> Receipt
         ensures same { self.new ≡ self.old }
-        ensures receipt { result ≡ record { opening = self.old.opening; batches = self.old.published } }
+        ensures receipt { result ≡ receipt_of self.old }
     {
         Receipt {
             mark: self.last_success.copy(),

@@ -1,6 +1,7 @@
 //! Steps of the merger's writer, over its log and its view.
-ghost use Rattle.std.specs.Prelude.{◌≡◌, [], ◌∷◌, ◌++◌, drop, fold, IfOk, MatchResult};
+ghost use Rattle.std.specs.Prelude.{◌≡◌, ◌≤◌, [], ◌∷◌, ◌++◌, drop, fold, IfOk, MatchResult};
 ghost use Rattle.left_right.specs.Sides.{view as view_of};
+ghost use Rattle.replica_events.specs.World.{last_number};
 ghost use Rattle.published_index.specs.declared.editions.Change.TheVariants.{Add, Reach};
 ghost use Rattle.published_index.specs.declared.marks.LogEntry.TheVariants.{Attempt};
 ghost use Rattle.published_index.specs.Changes.{merges_in, after_change, batches_of, book_of};
@@ -77,7 +78,7 @@ pub(crate) fn show<R: Wait>(
 ) -> (EditionWriter, Result<(), AllocError>)
     requires { IsReady writer.desk.shown.value
         (fold after_change writer.desk.shown.value (drop writer.behind writer.log.items)) }
-    ensures { MatchResult result.1
+    ensures shown { MatchResult result.1
         (λ _. (result.0.desk.shown.value
         ≡ fold after_change writer.desk.shown.value (drop writer.behind writer.log.items))
         × (view_of result.0.desk.place ≡ view_at result.0.desk.shown.value)
@@ -85,6 +86,10 @@ pub(crate) fn show<R: Wait>(
         (λ _. (result.0.desk.shown.value ≡ writer.desk.shown.value)
         × (view_of result.0.desk.place ≡ view_of writer.desk.place)
         × (drop result.0.behind result.0.log.items ≡ drop writer.behind writer.log.items)) }
+    ensures number { result.0.desk.shown.value.stamped.number ≤ last_number }
 {
-    writer.publish_as::<Publication, R>(rt)
+    let (writer, shown) = writer.publish_as::<Publication, R>(rt);
+    // It fits a number of 64 bits, since it is one.
+    let _number = writer.published().stamped.number();
+    (writer, shown)
 }

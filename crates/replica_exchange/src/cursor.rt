@@ -5,7 +5,7 @@ ghost use Rattle.replica_exchange.specs.CursorRule as rule;
 
 use crate::delta::Delta;
 use memento_time::NoMemory;
-use std::alloc::{AllocFailed, Global};
+use std::alloc::Global;
 use std::collections::BTreeMap;
 use std::error::Error;
 use std::fmt;
@@ -40,12 +40,12 @@ impl fmt::Display for TakeFault {
 
 impl Error for TakeFault {}
 
-impl<T: Drop> From<AllocFailed<T>> for TakeFault {
+impl From<NoMemory> for TakeFault {
     ghost use Rattle.replica_exchange.specs.declared.cursor.TakeFault.TheVariants.{NoMemory as OutOfMemory};
 
     ghost from_gives = { λ _ fault. fault ≡ OutOfMemory };
 
-    fn from(_refused: AllocFailed<T>) -> TakeFault {
+    fn from(_refused: NoMemory) -> TakeFault {
         TakeFault::NoMemory
     }
 }
@@ -138,10 +138,21 @@ impl Cursors {
         ensures cause { IfErr result (λ fault. rule.IsTakeCause fault (map.get self.old peer) delta.now) }
         ensures err { OnErr result (self.new ≡ self.old) }
     {
-        let held = self.held(peer);
         if !self.fits(peer, delta) {
+            let held = self.held(peer);
             return Err(TakeFault::Gap { held });
         }
+        self.advance(peer, delta)?;
+        Ok(())
+    }
+
+    /// Does the same for a delta of which `fits` was asked.
+    pub fn advance(&mut self, peer: u64, delta: &Delta) -> Result<(), NoMemory>
+        requires { rule.fits (map.get self.old peer) delta.now ≡ true }
+        ensures taken { OnOk result (self.new ≡ rule.taken_from self.old peer delta.now) }
+        ensures err { OnErr result (self.new ≡ self.old) }
+    {
+        let held = self.held(peer);
         self.known.insert(peer, moved(held, delta))?;
         Ok(())
     }

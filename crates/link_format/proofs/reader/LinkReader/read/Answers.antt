@@ -3,12 +3,12 @@ use Rattle.std.specs.Prelude.{option_map}
 use Rattle.std.proofs.lemmas.Bool.{true≢false}
 use Rattle.link_format.specs.Grammar.{Link, Reading}
 use Rattle.link_format.specs.Limits.{IsAnswer}
-use Rattle.link_format.specs.Reader.{IsReadTo, IsSamePlace, Progress, with_left}
+use Rattle.link_format.specs.Reader.{BeginsWith, IsReadTo, IsSamePlace, Progress, StandsBehind, with_left}
 use Rattle.link_format.specs.Scan.{reading_of}
 use Rattle.link_format.specs.Spans.{link_of}
 use Rattle.std.specs.List.{slice_get}
 use Rattle.link_format.specs.declared.fault.LinkFault.TheVariants.{NotLinkFormat}
-use Rattle.link_format.proofs.ReadLinks.{at_end, at_fault, link_here, read_on, within}
+use Rattle.link_format.proofs.ReadLinks.{at_end, at_fault, link_here, read_on, read_to_end, stands_behind, within}
 use Rattle.link_format.proofs.reader.LinkReader.read.Goals as goal
 
 -- how far the fields of a reader say that its text is read
@@ -36,8 +36,9 @@ invariant_of-self c =
     let is : IsReadTo reader.text.now (Some c.in-Some.rest.now) reader.count = subst (λ (r : Option (Bor (List ℕ))). FieldsReadTo reader.text.now r reader.count) c.in-Some.is c.self.invariant in
     let after : Option (List ℕ) = option_map (λ (r : Bor (List ℕ)). r.now) c.in-Ok-Some.after in
     let found : with_left (link_of c.in-Ok-Some.span ∷ []) after ≡ reading_of c.in-Some.rest.now = rw c.in-Ok-Some.field-0-is at c.in-Ok-Some.ensures.some in
+    let begins : BeginsWith c.in-Some.rest.now after (link_of c.in-Ok-Some.span ∷ []) = rw c.in-Ok-Some.field-0-is at c.in-Ok-Some.ensures.begins in
     let place : IsSamePlace c.in-Some.rest.now after = rw c.in-Ok-Some.field-0-is at c.in-Ok-Some.ensures.place in
-    read_on reader.text.now c.in-Some.rest.now after reader.count (link_of c.in-Ok-Some.span) is found place (c.is_within.ensures.0 c.if-not-is_within.false)
+    read_on reader.text.now c.in-Some.rest.now after reader.count (link_of c.in-Ok-Some.span) is found begins place (c.is_within.ensures.0 c.if-not-is_within.false)
 
 pub returns-in-Ok-None-clause-end : goal.returns-in-Ok-None-clause-end
 returns-in-Ok-None-clause-end c =
@@ -60,3 +61,18 @@ returns-else-not-is_within-clause-link c =
     let found : with_left (link_of c.in-Ok-Some.span ∷ []) after ≡ reading_of c.in-Some.rest.now = rw c.in-Ok-Some.field-0-is at c.in-Ok-Some.ensures.some in
     let here = link_here reader.text.now c.in-Some.rest.now after reader.count (link_of c.in-Ok-Some.span) is found in
     subst (λ (p : Progress). (links : List Link) → Reading p.text links → slice_get links p.count ≡ Some (link_of c.in-Ok-Some.span)) c.self.view_is here
+
+pub returns-else-not-is_within-clause-begins : goal.returns-else-not-is_within-clause-begins
+returns-else-not-is_within-clause-begins c =
+    let reader = c.self.inside in
+    let is : IsReadTo reader.text.now (Some c.in-Some.rest.now) reader.count = subst (λ (r : Option (Bor (List ℕ))). FieldsReadTo reader.text.now r reader.count) c.in-Some.is c.self.invariant in
+    let after : Option (List ℕ) = option_map (λ (r : Bor (List ℕ)). r.now) c.in-Ok-Some.after in
+    let begins : BeginsWith c.in-Some.rest.now after (link_of c.in-Ok-Some.span ∷ []) = rw c.in-Ok-Some.field-0-is at c.in-Ok-Some.ensures.begins in
+    subst (λ (p : Progress). StandsBehind p.count p.text (link_of c.in-Ok-Some.span)) c.self.view_is (stands_behind reader.text.now c.in-Some.rest.now after reader.count (link_of c.in-Ok-Some.span) is begins)
+
+pub invariant_of-self-in-Ok-None : goal.invariant_of-self-in-Ok-None
+invariant_of-self-in-Ok-None c =
+    let reader = c.self.inside in
+    let is : IsReadTo reader.text.now (Some c.in-Some.rest.now) reader.count = subst (λ (r : Option (Bor (List ℕ))). FieldsReadTo reader.text.now r reader.count) c.in-Some.is c.self.invariant in
+    let end : reading_of c.in-Some.rest.now ≡ Some [] = rw c.in-Ok-None.field-0-is at c.in-Ok-None.ensures.none in
+    read_to_end reader.text.now (Some c.in-Some.rest.now) reader.count is end
