@@ -82,7 +82,8 @@ pub fn an_entry_is_an_ask()
         → IsReplyFrom base r.incarnation front q made → Step base w (Ask i q) (Ok (Replied made)) w }
 {}
 
-/// Gates of two replicas with one base, whose fronts have the same state, give the same replies.
+/// Gates of two replicas with one base, whose fronts have the same state, give the same replies, but to requests for
+/// deltas: what these are answered also tells of the merges, and `reply` has for them a delta that tells of none.
 pub fn same_state_same_reply()
     ensures { (base : List ℕ) (first second : List Batch) (q : Request) → lat (fold_of first) ≡ lat (fold_of second)
         → reply base (fold_of first) q ≡ reply base (fold_of second) q }

@@ -40,7 +40,7 @@ pub record WasBrought (count : ℕ) (history : History) (i peer : ℕ) (end : Cu
   pub delivered : history ≡ before ++ (Deliver i message, Ok Joined) ∷ after
   pub no_restart : NoRestart after i
 
--- the replica was brought this end, and all that it was brought of the peer since then is of the same incarnation
+-- the replica was brought this end, and each that it was brought of the peer since then is of the same incarnation
 pub record IsRecent (count : ℕ) (history : History) (i peer : ℕ) (end : Cursor) : Type 0 where
   pub after : History
   pub brought : WasBrought count history i peer end after

@@ -19,9 +19,9 @@ pub fn cursors_are_kept()
         (peer : ℕ) (c : Cursor) → map.get r.cursors peer ≡ Some c → IsReached course peer c (lat r.taken) }
 {}
 
-/// Which cursors a replica holds follows from the accepted events alone. Of a peer by which it was brought nothing since
-/// its last restart it holds none; and else the end of what it was brought: where ends of several incarnations of the
-/// peer were brought, those since the last change of the incarnation count, and of them the furthest.
+/// Which cursor a replica holds for a peer follows from the accepted events alone. It holds none where it was delivered
+/// no message of the peer since its last restart. Else it holds the furthest end of these messages' deltas; but once a
+/// delta of another incarnation of the peer comes, those before it no longer count.
 pub fn what_cursors_are()
     ensures held { (base : List ℕ) (course : Course base) (i : ℕ) (r : Replica) → replica course.world i ≡ Some r →
         (peer : ℕ) (c : Cursor) →

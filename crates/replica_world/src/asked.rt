@@ -17,8 +17,8 @@ pub struct Asked {
     pub second: Answer,
 }
 
-/// Runs these events in a new world, and then asks two replicas the same. Where both have learnt the same harvests,
-/// their replies are the same: the headline, through the code.
+/// Runs these events in a new world, and then asks two replicas the same. Where both have learnt the same harvests and
+/// no delta is asked for, their replies are the same: the headline, through the code.
 pub fn asked_after(
     alloc: Global,
     replicas: usize,
