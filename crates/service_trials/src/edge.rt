@@ -150,14 +150,23 @@ fn asks_for_no_coding(head: &str) -> bool {
     true
 }
 
+const NOTHING: &str = "HTTP/1.1 200 OK\r\nContent-Length: 0\r\n\r\n";
+
 #[test]
-fn codings_are_not_asked_for_and_are_told(rt: HostRuntime) -> Result<()> {
-    let (asked, fetched) = fetch_fixed(
-        &rt,
-        "HTTP/1.1 200 OK\r\nContent-Type: a/b\r\nContent-Encoding: gzip\r\nVary: c\r\nContent-Encoding: br\r\nContent-Length: 2\r\n\r\nok",
-    )?;
+fn no_coding_is_asked_for(rt: HostRuntime) -> Result<()> {
+    let (asked, fetched) = fetch_fixed(&rt, NOTHING)?;
+    assert!(rt; fetched.is_ok());
     assert!(rt; asked.starts_with("GET /x HTTP/1.1\n"));
     assert!(rt; asks_for_no_coding(&asked));
+    Ok(())
+}
+
+const CODED: &str =
+    "HTTP/1.1 200 OK\r\nContent-Type: a/b\r\nContent-Encoding: gzip\r\nVary: c\r\nContent-Encoding: br\r\nContent-Length: 2\r\n\r\nok";
+
+#[test]
+fn codings_of_an_answer_are_told(rt: HostRuntime) -> Result<()> {
+    let (_asked, fetched) = fetch_fixed(&rt, CODED)?;
     let answer = fetched?;
     let codings = answer.encoding.as_slice();
     assert_eq!(rt; codings.len(), 2);

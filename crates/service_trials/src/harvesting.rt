@@ -1,6 +1,5 @@
 //! Walks over archives in memory: which pages are fetched and in which order, where a walk ends, and that the workers of
 //! a round run at once.
-use crate::makers::{archive, clean, octets, original};
 use anyhow::{Result, bail};
 use harvest_lattice::Harvest;
 use harvester::{
@@ -15,6 +14,7 @@ use std::sync::Wait;
 use std::sync::atomic::{AtomicU64, Ordering};
 use std::thread::{self, Threads};
 use std::time::{Clock, Duration};
+use text_trials::makers::{archive, clean, octets, original};
 
 const ALL: &str =
     "<http://arc.example/i>;rel=timemap,<http://arc.example/p1>;rel=timemap,<http://arc.example/p2>;rel=timemap";
@@ -185,14 +185,6 @@ fn pages_in_order(rt: HostRuntime) -> Result<()> {
 }
 
 #[test]
-fn a_page_that_is_missing(rt: HostRuntime) -> Result<()> {
-    let table = three_pages(rt.alloc(), 200, "", 404)?;
-    let counts = walk_counts(&rt, &table, "http://arc.example/i")?;
-    assert_eq!(rt; counts, (Err(WalkFault::Status(404)), 3));
-    Ok(())
-}
-
-#[test]
 fn an_archive_without_the_original(rt: HostRuntime) -> Result<()> {
     let table = three_pages(rt.alloc(), 404, "", 200)?;
     let first = "http://arc.example/i";
@@ -201,18 +193,19 @@ fn an_archive_without_the_original(rt: HostRuntime) -> Result<()> {
 }
 
 #[test]
-fn another_coding(rt: HostRuntime) -> Result<()> {
-    let table = three_pages(rt.alloc(), 200, "gzip", 200)?;
-    let counts = walk_counts(&rt, &table, "http://arc.example/i")?;
-    assert_eq!(rt; counts, (Err(WalkFault::Encoded), 2));
-    Ok(())
-}
-
-#[test]
-fn a_url_that_fails(rt: HostRuntime) -> Result<()> {
-    let table = three_pages(rt.alloc(), 200, "", 200)?;
-    let counts = walk_counts(&rt, &table, "http://arc.example/other")?;
-    assert_eq!(rt; counts, (Err(WalkFault::Fetch(FetchFault::Failed)), 0));
+fn where_walks_fail(rt: HostRuntime) -> Result<()> {
+    let index = "http://arc.example/i";
+    let other = "http://arc.example/other";
+    let cases = [
+        ("", 404, index, WalkFault::Status(404), 3),
+        ("gzip", 200, index, WalkFault::Encoded, 2),
+        ("", 200, other, WalkFault::Fetch(FetchFault::Failed), 0),
+    ];
+    for (coding, last, first, fault, fetched) in cases {
+        let table = three_pages(rt.alloc(), 200, coding, last)?;
+        let counts = walk_counts(&rt, &table, first)?;
+        assert_eq!(rt; counts, (Err(fault), fetched));
+    }
     Ok(())
 }
 
@@ -282,43 +275,40 @@ fn push_mementos(body: &mut String, alloc: Global, from: u64, to: u64) -> Result
     Ok(())
 }
 
-/// Adds a page of the mementos from one number up to another, with a link to the next page.
+/// Adds a page of the mementos from one number up to another, with a link to the page behind it.
 fn add_mementos(
     table: &mut MemoryFetch,
     alloc: Global,
-    url: &str,
+    page: u64,
     from: u64,
     to: u64,
-    next: &str,
 ) -> Result<()> {
-    let mut body = format!(in alloc; "<{next}>;rel=timemap")?;
+    let next = page.saturating_add(1);
+    let mut body = format!(in alloc; "<http://arc.example/{next}>;rel=timemap")?;
     push_mementos(&mut body, alloc, from, to)?;
-    add(table, alloc, url, 200, "", &body)
+    let url = format!(in alloc; "http://arc.example/{page}")?;
+    add(table, alloc, &url, 200, "", &body)
 }
 
-fn add_repeating_pages(table: &mut MemoryFetch, alloc: Global, count: u64) -> Result<()> {
-    let first = "http://arc.example/1";
-    let second = "http://arc.example/2";
-    let third = "http://arc.example/3";
-    add_mementos(table, alloc, first, 0, 50_000, second)?;
-    add_mementos(table, alloc, second, 0, 50_000, third)?;
-    add_mementos(table, alloc, third, 50_000, count, first)
-}
-
-/// Three pages, of which the second repeats the first, with this number of distinct mementos.
-fn repeating_pages(alloc: Global, count: u64) -> Result<MemoryFetch> {
+/// Five pages in a row, each of which lists the next, and the last nothing: the first has one memento, and those from the second on, which
+/// repeat some, as many others as a harvest may have.
+fn many_mementos(alloc: Global) -> Result<MemoryFetch> {
     let mut table = MemoryFetch::new(alloc);
-    add_repeating_pages(&mut table, alloc, count)?;
+    add_mementos(&mut table, alloc, 1, 100_000, 100_001)?;
+    add_mementos(&mut table, alloc, 2, 0, 50_000)?;
+    add_mementos(&mut table, alloc, 3, 0, 10)?;
+    add_mementos(&mut table, alloc, 4, 50_000, 100_000)?;
+    add(&mut table, alloc, "http://arc.example/5", 200, "", "")?;
     Ok(table)
 }
 
 #[test]
 fn as_many_mementos_as_may_be(rt: HostRuntime) -> Result<()> {
-    let first = "http://arc.example/1";
-    let most = walk_counts(&rt, &repeating_pages(rt.alloc(), 100_000)?, first)?;
-    assert_eq!(rt; most, (Ok(Harvest::MAX_MEMENTOS), 3));
-    let many = walk_counts(&rt, &repeating_pages(rt.alloc(), 100_001)?, first)?;
-    assert_eq!(rt; many, (Err(WalkFault::TooManyMementos), 3));
+    let table = many_mementos(rt.alloc())?;
+    let most = walk_counts(&rt, &table, "http://arc.example/2")?;
+    assert_eq!(rt; most, (Ok(Harvest::MAX_MEMENTOS), 4));
+    let many = walk_counts(&rt, &table, "http://arc.example/1")?;
+    assert_eq!(rt; many, (Err(WalkFault::TooManyMementos), 4));
     Ok(())
 }
 

@@ -11,8 +11,6 @@ mod harvesting;
 #[cfg(test)]
 mod loopback;
 #[cfg(test)]
-mod makers;
-#[cfg(test)]
 mod publishing;
 #[cfg(test)]
 mod runtimes;

@@ -1,10 +1,10 @@
 //! A server of the trials' own: it answers with fixed bytes, whatever it is asked.
-use crate::makers::clean;
 use anyhow::Result;
 use memento_time::Clean;
 use std::alloc::Global;
 use std::io::{self, BufRead, BufReader, Write};
 use std::net::{TcpListener, TcpStream};
+use text_trials::makers::clean;
 
 /// The head of the request that came over a stream, a line for each of its lines.
 pub(crate) fn head_of(alloc: Global, stream: &TcpStream) -> io::Result<String> {

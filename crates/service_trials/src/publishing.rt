@@ -2,9 +2,9 @@
 //! closed once its merger is and not before.
 ghost use Rattle.std.specs.Prelude.{◌≡◌, IfSome};
 
-use crate::makers::{FIRST_DAY, THIRD_DAY, get, harvest, location, mementos, merge, service};
 use anyhow::{Context, Result, bail};
 use harvest_lattice::State;
+use knowledge_trials::makers::{get, harvest, location, merge};
 use memento_index::Merge;
 use published_index::{Gate, GateFault, Merger, Receipt, ask_both, open};
 use replica_exchange::{Cursor, Delta, TakeFault, read_delta};
@@ -13,6 +13,7 @@ use std::sync::Wait;
 use std::sync::atomic::{AtomicU64, Ordering};
 use std::thread::{self, join};
 use std::time::{Clock, Duration};
+use text_trials::makers::{FIRST_DAY, THIRD_DAY, mementos, service};
 use timegate::{Reply, Request};
 use timemap_writer::Service;
 

@@ -1,10 +1,10 @@
 //! Over loopback: what a replica's gate tells its peers, and which answers are no delta.
 use crate::loopback::{answer_one, url_at};
-use crate::makers::{FIRST_DAY, clean, merge, service};
 use crate::runtimes::TrialRuntime;
 use anyhow::{Context, Result};
 use crossbeam_channel::{Receiver, Sender, bounded};
 use hyper_edge::{GateService, PullFault, bind, pull_state, serve_gate};
+use knowledge_trials::makers::merge;
 use memento_time::Clean;
 use published_index::{Gate, Merger, open};
 use replica_exchange::{Cursor, Delta, TakeFault};
@@ -14,6 +14,7 @@ use std::random::RandomSource;
 use std::sync::Wait;
 use std::thread::{self, Threads};
 use std::time::Clock;
+use text_trials::makers::{FIRST_DAY, clean, service};
 
 /// The incarnation of the replica that is pulled.
 const INCARNATION: u64 = 7;

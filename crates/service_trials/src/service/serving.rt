@@ -1,11 +1,11 @@
 //! The whole service over loopback: archives, rounds, and what readers and peers are told.
 use crate::loopback::head_of;
-use crate::makers::{FIRST_DAY, clean, merge, service};
 use crate::runtimes::TrialRuntime;
 use aggregator_service::{ServeFault, read_settings, serve_settings};
 use anyhow::{Context, Result};
 use crossbeam_channel::{Receiver, Sender, bounded};
 use hyper_edge::{GateService, bind, pull_state, serve_gate};
+use knowledge_trials::makers::merge;
 use published_index::{Gate, Merger, open};
 use replica_exchange::write_state;
 use std::alloc::{AllocGlobal, Global};
@@ -15,6 +15,7 @@ use std::random::RandomSource;
 use std::sync::Wait;
 use std::thread::{self, Threads};
 use std::time::{Clock, SystemTime, UNIX_EPOCH};
+use text_trials::makers::{FIRST_DAY, clean, service};
 
 const MEMENTO: &str = "http://arc.example/web/20000101000000/http://a.example/";
 
