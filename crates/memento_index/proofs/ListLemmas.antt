@@ -1,5 +1,5 @@
 -- The lists of an index.
-use Rattle.std.proofs.Common.{◌≡◌, ℕ, ◌+◌, ◌≤◌, true, false, ◌||◌, cond, length, List, [], ◌∷◌, Option, Some, None, is_some, IsSome, IfSome, ◌⊎◌, inl, inr, refl, sym, ap, subst, ◌∙◌, arith}
+use Rattle.std.proofs.Common.{◌≡◌, ℕ, ◌+◌, ◌≤◌, true, false, ◌||◌, cond, length, List, [], ◌∷◌, Option, Some, None, is_some, IfSome, ◌⊎◌, inl, inr, refl, sym, ap, subst, ◌∙◌, arith}
 use Rattle.std.specs.Map.{lookup, keys_of}
 use Rattle.std.specs.Set.{is_member}
 use Rattle.std.specs.List.Sorted.{IsStrictlySortedBy}

@@ -5,9 +5,10 @@ ghost use Rattle.std.specs.FinMap as map;
 ghost use Rattle.memento_time.specs.Mementos.{text_cmp};
 ghost use Rattle.memento_sets.specs.Sets as set;
 ghost use Rattle.harvest_lattice.specs.Lattice.{join};
+ghost use Rattle.harvest_lattice.specs.News.{IsNews};
 ghost use Rattle.harvest_lattice.specs.Knowledge.{Harvested, lat, shown, shown_of};
 ghost use Rattle.memento_index.specs.Choice.{nearest, last};
-ghost use Rattle.memento_index.specs.Lists.{Grows, AreFirst, HaveRoom};
+ghost use Rattle.memento_index.specs.Lists.{Grows, AreFirst, HaveRoom, AreNews};
 
 use crate::gather::gather_steps;
 use crate::last::last_of;
@@ -71,7 +72,24 @@ impl Index {
             → OnOk result (self.new ≡ lat (hs ++ adds_of merge.now)) }
         ensures err { OnErr result (self.new ≡ self.old) }
     {
-        let changes = merge.changes(&self.state)?;
+        let changes = self.changes(merge)?;
+        self.put(changes)
+    }
+
+    /// What comes with a merge and is news to this index. Nothing here is changed.
+    pub fn changes(&self, merge: &Merge) -> Result<Changes, NoMemory>
+        ensures news { IfOk result (IsNews self.now (lat (adds_of merge.now))) }
+        ensures fit { IfOk result (AreNews self.now) }
+    {
+        merge.changes(&self.state)
+    }
+
+    /// Takes in what is news to this index, as `changes` gives it, in the time and memory that `absorb` says.
+    pub fn put(&mut self, changes: Changes) -> Result<(), NoMemory>
+        requires { AreNews self.old changes }
+        ensures ok { OnOk result (self.new ≡ join self.old changes) }
+        ensures err { OnErr result (self.new ≡ self.old) }
+    {
         let steps = gather_steps(self.alloc, &self.state, &self.lists, &changes)?;
         let mut lifted = Tally::new(self.alloc);
         let taken = put_with_room(

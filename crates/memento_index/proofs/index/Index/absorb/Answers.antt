@@ -1,34 +1,12 @@
-use Rattle.std.proofs.Common.{refl, sym, ap, subst, ◌∙◌}
-use Rattle.std.specs.FinMap as map
+use Rattle.std.proofs.Common.{◌≡◌, ◌++◌, OnOk, sym, ap, subst, ◌∙◌}
 use Rattle.harvest_lattice.specs.Lattice.{Entries, join}
 use Rattle.harvest_lattice.specs.Knowledge.{lat}
 use Rattle.harvest_lattice.proofs.Knowledge.{lat-append}
 use Rattle.memento_index.specs.Merges.{adds_of}
-use Rattle.memento_index.specs.Lists.{IsListed}
-use Rattle.memento_index.proofs.Gathering.{are_news}
-use Rattle.memento_index.proofs.ListLemmas.{tally_made, can_count, counted_after, fewer_keys_all}
 use Rattle.memento_index.proofs.index.Index.absorb.Goals as goal
 
-pub gather_steps-requires : goal.gather_steps-requires
-gather_steps-requires c = are_news c.self.inside.state (lat (adds_of c.args.merge.now)) c.in_ok-changes.changes c.in_ok-changes.ensures
-
-pub recount_all-requires-clause-tally : goal.recount_all-requires-clause-tally
-recount_all-requires-clause-tally c = tally_made c.self.inside.state c.in_ok-changes.changes c.in_ok-steps.steps c.self.inside.lists c.put_with_room-taken.new.lists c.self.invariant c.in_ok-steps.ensures.gathered c.put_with_room-taken.ensures.grow
-
-pub recount_all-requires-clause-can : goal.recount_all-requires-clause-can
-recount_all-requires-clause-can c = can_count c.self.inside.state c.in_ok-changes.changes c.in_ok-steps.steps c.self.inside.lists c.put_with_room-taken.new.lists c.self.invariant c.in_ok-steps.ensures.gathered c.put_with_room-taken.ensures.grow (map.len c.self.inside.state) c.put_with_room-taken.new.lifted.room refl c.in-Ok.ensures.few c.in-Ok.ensures.made
-
-pub recount_all-requires-clause-room : goal.recount_all-requires-clause-room
-recount_all-requires-clause-room c = fewer_keys_all (map.len c.self.inside.state) c.in_ok-steps.steps c.put_with_room-taken.new.lists c.put_with_room-taken.new.lifted.room c.in-Ok.ensures.made
-
-pub recount_all-requires-clause-listed : goal.recount_all-requires-clause-listed
-recount_all-requires-clause-listed c o none = subst IsListed (sym (c.put_with_room-taken.ensures.others o none)) (c.self.invariant.listed o)
-
-pub invariant_of-self : goal.invariant_of-self
-invariant_of-self c = counted_after c.self.inside.state c.in_ok-changes.changes c.in_ok-steps.steps c.self.inside.lists c.put_with_room-taken.new.lists c.self.invariant c.in_ok-steps.ensures.gathered c.put_with_room-taken.ensures.grow c.put_with_room-taken.new.state c.recount_all.new.lists c.in-Ok.ensures.ok c.recount_all.ensures.recounted c.recount_all.ensures.listed
-
-pub returns-in-Ok-clause-ok : goal.returns-in-Ok-clause-ok
-returns-in-Ok-clause-ok c = c.in-Ok.ensures.ok ∙ (c.in_ok-changes.ensures.whole ∙ ap (λ (x : Entries). join x (lat (adds_of c.args.merge.now))) c.self.view_is)
-
-pub returns-in-Ok-clause-stands : goal.returns-in-Ok-clause-stands
-returns-in-Ok-clause-stands c hs is = returns-in-Ok-clause-ok c ∙ (ap (λ (x : Entries). join x (lat (adds_of c.args.merge.now))) is ∙ sym (lat-append hs (adds_of c.args.merge.now)))
+pub returns-clause-stands : goal.returns-clause-stands
+returns-clause-stands c hs is =
+    let more = lat (adds_of c.args.merge.now) in
+    let whole : join c.args.self.now c.in_ok-changes.changes ≡ lat (hs ++ adds_of c.args.merge.now) = c.in_ok-changes.ensures.news.whole ∙ (ap (λ (x : Entries). join x more) is ∙ sym (lat-append hs (adds_of c.args.merge.now))) in
+    subst (λ (x : Entries). OnOk c.put.result (c.put.new.self ≡ x)) whole c.put.ensures.ok
