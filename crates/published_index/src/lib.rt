@@ -1,4 +1,4 @@
-//! One merger publishes batches of merges, and any number of gates answer from what is published without waiting.
+//! One merger publishes batches of merges, and up to `MOST_GATES` gates answer from what is published without waiting.
 //!
 //! `open` gives both. What a gate has seen never goes back, and a gate that learnt a receipt of a publish serves each
 //! merge of it from then on.
