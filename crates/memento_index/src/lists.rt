@@ -1,6 +1,6 @@
 // The lists of an index.
-ghost use Rattle.std.specs.Prelude.{◌≡◌, ◌↔◌, ◌+◌, ◌≤◌, ℕ, List, [], true, false, IsTrue, IfOk, IfSome, IsSome, OnOk, None};
-ghost use Rattle.std.specs.Prelude.{length};
+ghost use Rattle.std.specs.Prelude.{◌≡◌, ◌↔◌, ◌+◌, ◌≤◌, ℕ, List, [], true, false, IsTrue, IfOk, IfSome, IsSome, OnOk};
+ghost use Rattle.std.specs.Prelude.{None, length};
 ghost use Rattle.std.specs.BTreeMap as tree;
 ghost use Rattle.std.specs.Ordering.{eq_by_cmp};
 ghost use Rattle.memento_time.specs.Mementos.{text_cmp};
@@ -21,8 +21,8 @@ pub type Lists = BTreeMap<Original, Listing>;
 pub type StepLists = BTreeMap<Original, Steps>;
 
 // Makes room in the list of each original for its steps, and room to lift the longest of these lists. What comes first
-// wants an empty list, and no room. No count of the keys and the steps is too large. Where memory is refused, empty lists
-// may have been made.
+// wants an empty list, and no room. No count of the keys and the steps is too large. Where memory is refused, lists may
+// have been made that are empty.
 pub fn make_rooms(
     lists: &mut Lists,
     lifted: &mut Tally,
