@@ -9,6 +9,7 @@ mod binding;
 mod exchanges;
 mod faults;
 mod fetching;
+mod laws;
 #[cfg(test)]
 mod pull_tests;
 mod pulls;
@@ -25,6 +26,7 @@ pub use answers::Answers;
 pub use binding::{Bound, bind};
 pub use faults::{EdgeFault, FormFault, PullFault, RespondFault};
 pub use fetching::HyperFetch;
+pub use laws::targets_by_example;
 pub use pulls::pull_delta;
 pub use requests::request_of;
 pub use responses::form;

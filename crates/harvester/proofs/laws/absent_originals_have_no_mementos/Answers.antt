@@ -1,9 +1,9 @@
-use Rattle.std.proofs.Common.{◌≡◌, List, [], ◌∷◌, length, inr, refl, ap, arith}
+use Rattle.std.proofs.Common.{◌≡◌, [], ◌∷◌, length, inr, refl, ap, arith}
 use Rattle.std.specs.List.Sorted.{IsStrictlySortedBy}
 use Rattle.memento_sets.proofs.Ordered.{items_in_order}
 use Rattle.harvester.specs.declared.fetches.Answer.{Answer}
 use Rattle.harvester.specs.declared.jobs.Job.{Job}
-use Rattle.harvester.specs.Answers.{Entry, empty_page, first_url}
+use Rattle.harvester.specs.Answers.{empty_page, first_url}
 use Rattle.harvester.specs.Walks.{FewMementos, IsAtItsEnd, IsReached, mementos_of}
 use Rattle.harvester.proofs.Closed.{complete}
 use Rattle.harvester.proofs.Reach.{goes_on, reached_more, reached_none, stands_first}

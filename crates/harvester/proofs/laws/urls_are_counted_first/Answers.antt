@@ -1,5 +1,4 @@
 use Rattle.std.proofs.Common.{◌≡◌, length, ap, arith}
-use Rattle.timemap_reader.specs.declared.page.Page.{Page}
 use Rattle.harvester.specs.Walks as walks
 use Rattle.harvester.proofs.Said.{one_say}
 use Rattle.harvester.proofs.laws.urls_are_counted_first.Goals as goal
