@@ -1,10 +1,11 @@
 -- How much a job may take.
 use Rattle.std.specs.Prelude.{ℕ}
+use Rattle.harvest_lattice.specs.declared.harvest.TheConstants.Harvest.{MAX_MEMENTOS}
 
 -- the most URLs of a job that are known
 abbrev pub max_pages : ℕ
 max_pages = 64
 
--- the most distinct mementos of a job's pages
+-- the most distinct mementos of a job's pages: those that a harvest may have
 abbrev pub max_mementos : ℕ
-max_mementos = 100000
+max_mementos = MAX_MEMENTOS

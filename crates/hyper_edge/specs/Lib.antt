@@ -2,3 +2,6 @@ pub mod Faults
 pub mod Requests
 pub mod Responses
 pub mod Gates
+pub mod Targets
+pub mod Exchanges
+pub mod Pulls

@@ -1,5 +1,9 @@
 //! One request over a fresh connection, and its answer.
-ghost use Rattle.std.specs.Prelude.{◌≤◌, IfOk, IfSome, length};
+ghost use Rattle.std.specs.Prelude.{◌≡◌, ◌≤◌, ◌<◌, ◌⊎◌, ◌↔◌, Ok, Err, IfOk, IfErr, IfSome, alloc_error, length};
+ghost use Rattle.http_body_util.specs.Collected.{collected_bytes};
+ghost use Rattle.hyper.specs.Error.{kind_of};
+ghost use Rattle.hyper.specs.declared.error.Kind.TheVariants.{OutOfMemory as HyperOutOfMemory};
+ghost use Rattle.hyper_edge.specs.Exchanges.{IsAnswerOf, IsRequestFor};
 
 use crate::targets::target_of;
 use bytes::Bytes;
@@ -46,19 +50,29 @@ fn fault_of(error: &io::Error) -> FetchFault {
     }
 }
 
-// The request for a URL. Its target is the URL's own text, since dot segments in an archived address must stay.
-fn request_for(
-    alloc: Global,
-    url: &str,
-    address: &Url,
-) -> Result<Request<Empty<Bytes>>, FetchFault> {
+// What an error of a connection is: want of memory below is want of memory here.
+fn fault_of_hyper(error: &hyper::Error) -> FetchFault
+    ensures memory { (result ≡ FetchFault.NoMemory) ↔ (kind_of error.now ≡ HyperOutOfMemory) }
+    ensures either { (result ≡ FetchFault.NoMemory) ⊎ (result ≡ FetchFault.Failed) }
+{
+    if error.is_out_of_memory() {
+        FetchFault::NoMemory
+    } else {
+        FetchFault::Failed
+    }
+}
+
+// The request for a URL.
+fn request_for(alloc: Global, url: &str, address: &Url) -> Result<Request<Empty<Bytes>>, FetchFault>
+    ensures { IfOk result (IsRequestFor url.now address.now) }
+{
     let target = match target_of(alloc, url) {
         Ok(Some(target)) => target,
         Ok(None) => return Err(FetchFault::Failed),
         Err(_) => return Err(FetchFault::NoMemory),
     };
     let host = address.slice(Position::BeforeHost, Position::AfterPort);
-    let builder = Request::get(alloc, target.as_str())
+    let builder = Request::get(alloc, target.as_slice())
         .header(header::HOST, host)
         .header(header::ACCEPT_ENCODING, "identity")
         .header(header::CONNECTION, "close");
@@ -136,18 +150,19 @@ where
 {
     let alloc = rt.alloc();
     let keys = RandomState::new(rt).map_err(|error| fault_of(&error))?;
-    let Ok((mut sender, connection)) = handshake(alloc, keys, stream) else {
-        return Err(FetchFault::Failed);
+    let (mut sender, connection) = match handshake(alloc, keys, stream) {
+        Ok(ends) => ends,
+        Err(error) => return Err(fault_of_hyper(&error)),
     };
     let response = sender.send_request(request);
     drop(sender);
     let (response, connection) = while_connected(rt, runtime, response, Some(connection)).map_err(
         |error| fault_of(&error),
     )?;
-    let Ok(response) = response else {
-        return Err(FetchFault::Failed);
+    let (head, body) = match response {
+        Ok(response) => response.into_parts(),
+        Err(error) => return Err(fault_of_hyper(&error)),
     };
-    let (head, body) = response.into_parts();
     let body = Limited::new(body, most).collect(alloc);
     let (collected, _connection) = while_connected(rt, runtime, body, connection).map_err(
         |error| fault_of(&error),
@@ -155,12 +170,15 @@ where
     match collected {
         Ok(collected) => within(answer_of(alloc, &head, collected), most),
         Err(LimitedError::LengthLimit) => Err(FetchFault::TooLong),
-        Err(LimitedError::Body(_)) => Err(FetchFault::Failed),
+        Err(LimitedError::Body(error)) => Err(fault_of_hyper(&error)),
     }
 }
 
 fn within(answer: Result<Answer, AllocError>, most: usize) -> Result<Answer, FetchFault>
-    ensures { IfOk result (λ answer. length answer.body ≤ most) }
+    ensures ok { IfOk result (λ taken. (answer ≡ Ok taken) × (length taken.body ≤ most)) }
+    ensures long { result ≡ Err FetchFault.TooLong → IfOk answer (λ taken. most < length taken.body) }
+    ensures memory { result ≡ Err FetchFault.NoMemory → answer ≡ Err alloc_error }
+    ensures never { ¬ (result ≡ Err FetchFault.Failed) }
 {
     match answer {
         Ok(answer) if answer.body.as_slice().len() <= most => Ok(answer),
@@ -173,7 +191,9 @@ fn answer_of(
     alloc: Global,
     head: &http::response::Parts,
     collected: Collected,
-) -> Result<Answer, AllocError> {
+) -> Result<Answer, AllocError>
+    ensures { IfOk result (IsAnswerOf head.now (collected_bytes collected)) }
+{
     let mut encoding = Vec::new(alloc);
     for value in head.headers.get_all("content-encoding") {
         let value = value.as_bytes().to_vec(alloc)?;
@@ -188,7 +208,9 @@ fn answer_of(
 }
 
 // The bytes of a body: its own block, where nobody else holds it.
-fn body_of(alloc: Global, collected: Collected) -> Result<Vec<u8>, AllocError> {
+fn body_of(alloc: Global, collected: Collected) -> Result<Vec<u8>, AllocError>
+    ensures { IfOk result (λ body. body.items ≡ collected_bytes collected) }
+{
     let bytes = collected.to_bytes()?;
     match bytes.try_into_mut() {
         Ok(own) => Ok(own.into_vec()?),

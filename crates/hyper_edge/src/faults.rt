@@ -5,7 +5,6 @@ ghost use Rattle.hyper_edge.specs.Faults.{edge_words, form_words, pull_words, re
 use harvester::FetchFault;
 use http_header::{HeaderMapError, HeaderNameError, HeaderValueError};
 use memento_time::NoMemory;
-use replica_exchange::StateFault;
 use std::alloc::{AllocError, AllocFailed};
 use std::error::Error;
 use std::{fmt, io};
@@ -210,20 +209,6 @@ impl From<FetchFault> for PullFault {
             FetchFault::Failed => PullFault::Failed,
             FetchFault::TooLong => PullFault::BadState,
             FetchFault::NoMemory => PullFault::NoMemory,
-        }
-    }
-}
-
-impl From<StateFault> for PullFault {
-    ghost use Rattle.std.specs.Prelude.{◌≢◌};
-    ghost use Rattle.hyper_edge.specs.declared.faults.PullFault.TheVariants.{Status};
-
-    ghost from_gives = { λ _ fault. fault ≢ Status 200 };
-
-    fn from(fault: StateFault) -> PullFault {
-        match fault {
-            StateFault::TooLong | StateFault::NotState => PullFault::BadState,
-            StateFault::NoMemory => PullFault::NoMemory,
         }
     }
 }

@@ -18,9 +18,10 @@ const MAX_BODY: usize = 8_388_608;
 pub struct HyperFetch;
 
 impl Fetch for HyperFetch {
-    ghost use Rattle.std.specs.Prelude.{⊤, ◌≤◌, length};
+    ghost use Rattle.std.specs.Prelude.{⊤};
+    ghost use Rattle.timemap_reader.specs.Answer.{IsShort};
 
-    ghost answers = { λ _ _ answer. length answer.body ≤ 8388608 };
+    ghost answers = { λ _ _ answer. IsShort answer.body };
 
     ghost faults = { λ _ _ _. ⊤ };
 

@@ -1,12 +1,15 @@
 //! Pulls what peers have learnt.
 ghost use Rattle.std.specs.Prelude.{◌≡◌, ◌≢◌, ◌≤◌, ◌++◌, IfErr, IfOk, length, string_bytes};
 ghost use Rattle.replica_exchange.specs.DeltaText.{IsDelta, delta_text};
+ghost use Rattle.replica_exchange.specs.Faults.{longest_text};
 ghost use Rattle.timegate.specs.Route.{delta_target};
+ghost use Rattle.hyper_edge.specs.Pulls.{Brings, IsRefusedFor};
 
 use crate::exchanges::get;
 use crate::faults::PullFault;
+use harvester::Answer;
 use memento_time::Clean;
-use replica_exchange::{Cursor, Delta, read_delta};
+use replica_exchange::{Cursor, Delta, StateFault, read_delta};
 use std::alloc::{AllocGlobal, Global};
 use std::net::{Net, TcpListener, TcpStream};
 use std::random::RandomSource;
@@ -22,17 +25,28 @@ pub fn pull_state<R>(rt: &R, peer: &Clean, cursor: Option<Cursor>) -> Result<Del
 where
     R: Wait + Clock + Net<Listener = TcpListener, Stream = TcpStream> + RandomSource + AllocGlobal,
     ensures delta { IfOk result IsDelta }
-    ensures bounded { IfOk result (λ delta. length (delta_text delta) ≤ 268435456) }
+    ensures bounded { IfOk result (λ delta. length (delta_text delta) ≤ longest_text) }
     ensures status { IfErr result (λ fault. fault ≢ PullFault.Status 200) }
 {
     let alloc = rt.alloc();
     let url = delta_url(alloc, peer, cursor)?;
     let answer = get(rt, url.as_str(), MAX_DELTA)?;
+    delta_in(alloc, &answer)
+}
+
+// The delta that a peer's answer brings, or why it brings none.
+fn delta_in(alloc: Global, answer: &Answer) -> Result<Delta, PullFault>
+    ensures ok { IfOk result (Brings answer.now) }
+    ensures err { IfErr result (IsRefusedFor answer.now) }
+{
     if answer.status != 200 {
         return Err(PullFault::Status(answer.status));
     }
-    let delta = read_delta(alloc, answer.body.as_slice())?;
-    Ok(delta)
+    match read_delta(alloc, answer.body.as_slice()) {
+        Ok(delta) => Ok(delta),
+        Err(StateFault::NoMemory) => Err(PullFault::NoMemory),
+        Err(StateFault::TooLong | StateFault::NotState) => Err(PullFault::BadState),
+    }
 }
 
 // The address of the delta under the peer's base.
