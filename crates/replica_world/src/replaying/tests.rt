@@ -238,10 +238,10 @@ fn scripts(rt: HostRuntime) -> Result<(), Fail> {
 fn bad_line(rt: &HostRuntime, script: &[u8], wanted: &[u8]) -> Option<u64> {
     let mut reader = Watched::new(script);
     let mut writer = Watched::new(Vec::new(rt.alloc()));
-    match replay(rt.alloc(), &mut reader, &mut writer) {
-        Err(ReplayFault::BadLine { number }) if writer.device().as_slice() == wanted => Some(
-            number,
-        ),
+    let result = replay(rt.alloc(), &mut reader, &mut writer);
+    let is_wanted = writer.device().as_slice() == wanted;
+    match result {
+        Err(ReplayFault::BadLine { number }) if is_wanted => Some(number),
         _ => None,
     }
 }
