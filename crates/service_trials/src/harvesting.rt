@@ -290,8 +290,8 @@ fn add_mementos(
     add(table, alloc, &url, 200, "", &body)
 }
 
-/// Five pages in a row, each of which lists the next, and the last nothing: the first has one memento, and those from the second on, which
-/// repeat some, as many others as a harvest may have.
+/// Five pages in a row, each of which lists the next, and the last nothing: the first has one memento, and those from
+/// the second on, which repeat some, as many others as a harvest may have.
 fn many_mementos(alloc: Global) -> Result<MemoryFetch> {
     let mut table = MemoryFetch::new(alloc);
     add_mementos(&mut table, alloc, 1, 100_000, 100_001)?;
@@ -304,10 +304,14 @@ fn many_mementos(alloc: Global) -> Result<MemoryFetch> {
 
 #[test]
 fn as_many_mementos_as_may_be(rt: HostRuntime) -> Result<()> {
-    let table = many_mementos(rt.alloc())?;
-    let most = walk_counts(&rt, &table, "http://arc.example/2")?;
+    let most = walk_counts(&rt, &many_mementos(rt.alloc())?, "http://arc.example/2")?;
     assert_eq!(rt; most, (Ok(Harvest::MAX_MEMENTOS), 4));
-    let many = walk_counts(&rt, &table, "http://arc.example/1")?;
+    Ok(())
+}
+
+#[test]
+fn one_memento_more_than_may_be(rt: HostRuntime) -> Result<()> {
+    let many = walk_counts(&rt, &many_mementos(rt.alloc())?, "http://arc.example/1")?;
     assert_eq!(rt; many, (Err(WalkFault::TooManyMementos), 4));
     Ok(())
 }
