@@ -7,6 +7,7 @@ generate.py keys N     a script that takes one memento for each of N originals, 
 generate.py world N    a script of N events over 16 replicas
 generate.py state N    a state's text with N mementos, 100 in each entry
 generate.py hostile N  a state's text with N entries of nothing, each of another archive and another original
+generate.py revisions N  a state's text with one entry of N part revisions, each of another memento
 """
 import sys
 from email.utils import formatdate
@@ -88,16 +89,21 @@ def main():
         world(count, write)
     elif kind == "state":
         entries = count // 100
-        write(f"memento-state 1\nentries {entries}\n")
+        write(f"memento-state 2\nentries {entries}\n")
         for e in range(entries):
-            write(f"entry arc.example 1 100 http://a.example/{e:07d}\n")
+            write(f"entry arc.example 1 1 http://a.example/{e:07d}\nat 1 100\n")
             for k in range(100):
                 write(f"{FIRST + k} http://m.example/{e:07d}/{k:03d}\n")
         write("end\n")
     elif kind == "hostile":
-        write(f"memento-state 1\nentries {count}\n")
+        write(f"memento-state 2\nentries {count}\n")
         for e in range(count):
-            write(f"entry a{e:06d} 1 0 http://a.example/{e:06d}\n")
+            write(f"entry a{e:06d} 1 1 http://a.example/{e:06d}\nat 1 0\n")
+        write("end\n")
+    elif kind == "revisions":
+        write(f"memento-state 2\nentries 1\nentry a1 - {count} http://a.example/\n")
+        for revision in range(count):
+            write(f"at {revision} 1\n{FIRST} http://m.example/{revision}\n")
         write("end\n")
     else:
         sys.exit(__doc__)
