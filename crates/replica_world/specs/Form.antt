@@ -8,7 +8,7 @@ use Rattle.text_fields.specs.Parts.{Lacks, space, parted}
 use Rattle.replica_world.specs.Fields.{◌>>=◌, field, number_field, word_field, is_visible}
 
 -- `take I ARCHIVE REVISION PAGEURL LENGTH ORIGINAL`, which takes a whole harvest, or the same behind `takepart`, which
--- takes a part of one
+-- takes a part harvest
 pub record TakeForm : Type 0 where
   pub is_whole : Bool
   pub replica : ℕ
@@ -45,7 +45,7 @@ most_asked = 16
 
 -- ---- how it is written
 
--- the word that takes a whole harvest, or a part of one
+-- the word that takes a whole harvest, or a part harvest
 abbrev pub take_word : Bool → List ℕ
 take_word true = codes "take"
 take_word false = codes "takepart"

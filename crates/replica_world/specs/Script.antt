@@ -11,7 +11,7 @@ use Rattle.replica_world.specs.Fields.{lines_of}
 use Rattle.replica_world.specs.Form as form
 use Rattle.replica_world.specs.Form.{Form, TakeForm, form_of}
 
--- the body of a page at an address, to be read and taken as a whole harvest or as a part of one
+-- the body of a page at an address, to be read and taken as a whole harvest or as a part harvest
 pub record Taking : Type 0 where
   pub is_whole : Bool
   pub replica : ℕ

@@ -21,7 +21,7 @@ pub enum Command<'a> {
     Step(Event),
 }
 
-/// The body of an archive's page, and the harvest that it is to make: a whole one, or a part of one.
+/// The body of an archive's page, and the harvest that it is to make: a whole one, or a part.
 #[derive(Clone, Copy, Debug)]
 pub struct Taking<'a> {
     pub is_whole: bool,

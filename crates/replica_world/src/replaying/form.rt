@@ -29,7 +29,7 @@ pub enum Form<'a> {
 }
 
 /// `take I ARCHIVE REVISION PAGEURL LENGTH ORIGINAL`, which takes a whole harvest, or the same behind `takepart`, which
-/// takes a part of one.
+/// takes a part harvest.
 #[derive(Clone, Copy, Debug)]
 pub struct TakeForm<'a> {
     pub is_whole: bool,

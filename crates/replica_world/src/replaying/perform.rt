@@ -65,7 +65,7 @@ fn happen(
     answer_text(alloc, accepted, answer)
 }
 
-/// The harvest that mementos make: a whole one, or a part of one.
+/// The harvest that mementos make: a whole one, or a part.
 fn harvest_of(
     taking: &Taking<'_>,
     archive: ArchiveName,
