@@ -6,7 +6,7 @@ use Rattle.std.proofs.lemmas.List.Elements.{Contains-append_left, Contains-appen
 use Rattle.harvest_lattice.specs.Lattice.{Entries}
 use Rattle.harvest_lattice.specs.Knowledge.{Harvested, adds}
 use Rattle.replica_exchange.specs.StateText.{IsTextOf}
-use Rattle.replica_exchange.proofs.StateLemmas.{one_state_of_a_text}
+use Rattle.replica_exchange.proofs.OneReading.{one_state_of_a_text}
 use Rattle.timegate.specs.declared.reply.Reply.{Reply}
 use Rattle.timegate.specs.declared.request.Request.{Request}
 use Rattle.replica_events.specs.declared.event.Event.{Event}

@@ -6,7 +6,7 @@ use Rattle.harvest_lattice.specs.Lattice.{Entries}
 use Rattle.replica_exchange.specs.declared.cursor.Cursor.{Cursor}
 use Rattle.replica_exchange.specs.Stamps.{StampedState}
 use Rattle.replica_exchange.specs.CursorRule.{fits}
-use Rattle.replica_exchange.proofs.StateLemmas.{one_state_of_a_text}
+use Rattle.replica_exchange.proofs.OneReading.{one_state_of_a_text}
 use Rattle.replica_exchange.proofs.StampLemmas.{one_stamped}
 use Rattle.replica_events.specs.declared.event.Event.{Event}
 use Rattle.replica_events.specs.declared.event.Event.TheVariants.{Take, Send, SendFrom, Deliver, Receive, Restart, Ask}

@@ -21,7 +21,7 @@ use Rattle.replica_exchange.specs.Stamps.{StampedState, IsStamped}
 use Rattle.replica_exchange.specs.DeltaText.{delta_text, IsDelta, IsDeltaText}
 use Rattle.replica_exchange.specs.CursorRule.{Held, delta_from, fits, taken_from}
 use Rattle.replica_exchange.proofs.StampLemmas.{absorbed_is_stamped}
-use Rattle.replica_exchange.proofs.DeltaLemmas.{one_delta_of_a_text}
+use Rattle.replica_exchange.proofs.OneReading.{one_delta_of_a_text}
 use Rattle.timegate.specs.declared.request.Request.{Request}
 use Rattle.timegate.specs.declared.reply.Reply.{Reply}
 use Rattle.timegate.specs.Reply.{reply_of}
