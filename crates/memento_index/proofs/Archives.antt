@@ -159,8 +159,8 @@ archives_counted x o m =
       record {
         once = each_once es o m (fmap.entries_sorted x);
         each = λ archive. (
-            λ c. All-contains (IsShowing x o m) (archives_in es o m) archive (All-from_recursion (IsShowing x o m) (archives_in es o m) (all_show x es o m (all_stand x))) c,
-            stands_there x o m archive,
+          λ c. All-contains (IsShowing x o m) (archives_in es o m) archive (All-from_recursion (IsShowing x o m) (archives_in es o m) (all_show x es o m (all_stand x))) c,
+          stands_there x o m archive,
         );
       },
       counted es o m,
