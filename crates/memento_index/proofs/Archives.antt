@@ -1,7 +1,7 @@
 -- The count of a memento is the number of archives that show it.
-use Rattle.std.proofs.Common.{◌≡◌, ℕ, ◌+◌, ◌<◌, Bool, true, false, cond, ◌&&◌, ◌||◌, map, length, get_or, List, [], ◌∷◌, Option, Some, None, refl, sym, ap, subst, ◌∙◌, arith}
-use Rattle.std.specs.Prelude.{T, IsTrue, ◌↔◌, slice_get}
-use Rattle.std.specs.List.{list_any, filter, All, AllByRecursion, Contains}
+use Rattle.std.proofs.Common.{◌≡◌, ℕ, ◌+◌, Bool, true, false, cond, ◌&&◌, ◌||◌, map, length, get_or, List, [], ◌∷◌, Option, Some, None, refl, sym, ap, subst, ◌∙◌, arith}
+use Rattle.std.specs.Prelude.{T, IsTrue, ◌↔◌}
+use Rattle.std.specs.List.{list_any, filter, AllByRecursion, Contains}
 use Rattle.std.specs.List.Sorted.{IsStrictlySortedBy}
 use Rattle.std.specs.declared.cmp.Ordering.TheVariants.{Less, Equal, Greater}
 use Rattle.std.specs.Ordering.{eq_by_cmp, is_lt, is_eq, ordering_then}
@@ -21,7 +21,7 @@ use Rattle.memento_sets.specs.MementoSets.{Mementos}
 use Rattle.memento_sets.proofs.Sets.{two_parts, less_from}
 use Rattle.harvest_lattice.specs.Lattice.{Key, key_cmp, Kept, Entries, held}
 use Rattle.harvest_lattice.specs.Knowledge.{mementos_of, shown_of}
-use Rattle.harvest_lattice.proofs.Knowledge.{has_at, in_entry, out_entry, contains-shown_of, same_key, key_itself}
+use Rattle.harvest_lattice.proofs.Knowledge.{has_at, in_entry, out_entry, contains-shown_of, same_key}
 use Rattle.harvest_lattice.proofs.ShelfLemmas.{same_text}
 use Rattle.harvest_lattice.proofs.Walked.{value_at}
 use Rattle.memento_index.specs.Showing.{showing_by, showing, IsShowing, AreShowing}
@@ -159,8 +159,8 @@ archives_counted x o m =
       record {
         once = each_once es o m (fmap.entries_sorted x);
         each = λ archive. (
-            λ c. All-contains (IsShowing x o m) (archives_in es o m) archive (All-from_recursion (IsShowing x o m) (archives_in es o m) (all_show x es o m (all_stand x))) c,
-            stands_there x o m archive,
+          λ c. All-contains (IsShowing x o m) (archives_in es o m) archive (All-from_recursion (IsShowing x o m) (archives_in es o m) (all_show x es o m (all_stand x))) c,
+          stands_there x o m archive,
         );
       },
       counted es o m,

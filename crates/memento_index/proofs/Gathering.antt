@@ -1,5 +1,5 @@
 -- The steps of a state's changes.
-use Rattle.std.proofs.Common.{◌≡◌, ℕ, zero, suc, ◌+◌, ◌<◌, ◌≤◌, Bool, true, false, cond, ◌||◌, map, take, length, get_or, List, [], ◌∷◌, ◌++◌, Option, Some, None, IfSome, inl, inr, refl, sym, ap, subst, ◌∙◌, arith}
+use Rattle.std.proofs.Common.{◌≡◌, ℕ, zero, suc, ◌+◌, ◌<◌, ◌≤◌, Bool, true, false, cond, ◌||◌, map, take, length, get_or, List, [], ◌∷◌, ◌++◌, Option, Some, None, IfSome, refl, sym, ap, subst, ◌∙◌, arith}
 use Rattle.std.specs.List.{AllByRecursion}
 use Rattle.std.specs.List.Sorted.{IsStrictlySortedBy}
 use Rattle.std.specs.Ordering.{eq_by_cmp, is_eq, nat_cmp}
@@ -7,7 +7,6 @@ use Rattle.std.specs.declared.cmp.Ordering.TheVariants.{Less}
 use Rattle.std.specs.FinMap as fmap
 use Rattle.std.specs.BTreeMap as tree
 use Rattle.std.specs.BTreeMap.{is_at}
-use Rattle.std.specs.Option.{MatchOption}
 use Rattle.std.specs.Cmp.{eq_by_cmp_equiv, Equal-is, tied_itself}
 use Rattle.std.specs.Cmp.Lexicographic.{nat_list_cmp_total}
 use Rattle.std.proofs.lemmas.List.{take_more}
@@ -19,7 +18,7 @@ use Rattle.memento_time.proofs.MementoLemmas.{memento_cmp_exact}
 use Rattle.memento_sets.specs.Sets as set
 use Rattle.memento_sets.specs.MementoSets.{Mementos}
 use Rattle.memento_sets.proofs.Sets.{items_sorted}
-use Rattle.harvest_lattice.specs.Lattice.{Key, Revisions, Kept, Entries, held, IsAtMostAt, KeptAtMost, is_whole-kept_from, join_kept, join_at, same_parts}
+use Rattle.harvest_lattice.specs.Lattice.{Key, Kept, Entries, held, IsAtMostAt, KeptAtMost, is_whole-kept_from, join_kept, join_at, same_parts}
 use Rattle.harvest_lattice.specs.Knowledge.{mementos_of}
 use Rattle.harvest_lattice.specs.News.{AreApart, IsFresh, IsNews}
 use Rattle.harvest_lattice.specs.Parts.{kept_in, AreOfOne}

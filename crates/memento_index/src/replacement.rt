@@ -1,4 +1,4 @@
-// What an entry that comes changes of the list that its archive shows.
+// What an entry that comes changes of what its archive shows.
 ghost use Rattle.std.specs.Prelude.{◌≡◌, IsTrue, IfOk};
 ghost use Rattle.std.specs.Arc.{arc_value};
 ghost use Rattle.memento_sets.specs.Sets as set;
@@ -13,8 +13,9 @@ use memento_sets::Mementos;
 use memento_time::{Memento, NoMemory};
 use std::sync::Arc;
 
-// Of the mementos that an archive shows, `after` come in the place of `before`: of none, where they come beside what it
-// shows. In which of its revisions a memento stands makes no difference. Lists of one revision are shared.
+// Of what an archive shows of an original, the mementos `after` come in the place of those `before`. There are none
+// before where they come beside what the archive shows. In how many of its revisions a memento stands makes no
+// difference. The list of an entry of one revision is shared and not copied.
 #[derive(Debug, Drop)]
 pub struct Replacement {
     before: Option<Arc<Mementos>>,
@@ -83,7 +84,7 @@ fn are_of_one(left: &Entry, right: &Entry) -> bool
     left.revision(0) == right.revision(0)
 }
 
-// What both show together. Where the first has nothing that the second doesn't replace, the second's list is shared.
+// What both show together: the second's own list, where nothing of the first stays beside it.
 fn shown_together(standing: &Entry, entry: &Entry) -> Result<Arc<Mementos>, NoMemory>
     ensures { IfOk result (λ list. arc_value list ≡ mementos_of (join_kept standing.now entry.now)) }
 {

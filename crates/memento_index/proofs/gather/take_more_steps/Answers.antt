@@ -1,4 +1,4 @@
-use Rattle.std.proofs.Common.{◌≡◌, List, [], Option, None, sym, ap, subst, ◌∙◌}
+use Rattle.std.proofs.Common.{◌≡◌, List, Option, None, sym, ap, subst, ◌∙◌}
 use Rattle.std.specs.Arc.{arc_value}
 use Rattle.std.specs.BTreeMap as tree
 use Rattle.memento_time.specs.Mementos.{text_cmp}
@@ -6,7 +6,7 @@ use Rattle.memento_sets.specs.Sets as set
 use Rattle.harvest_lattice.specs.Rows.{row_entry}
 use Rattle.memento_index.specs.declared.counted.Step.{Step}
 use Rattle.memento_index.specs.declared.counted.Steps.{Steps}
-use Rattle.memento_index.specs.Lists.{shared_mementos, each_begins, steps_of, steps_or_none, IsReplaced, IsShifted}
+use Rattle.memento_index.specs.Lists.{shared_mementos, each_begins, steps_or_none, IsReplaced, IsShifted}
 use Rattle.memento_index.proofs.Gathering.{none_gone, shifted_first}
 use Rattle.memento_index.proofs.gather.take_more_steps.Goals as goal
 

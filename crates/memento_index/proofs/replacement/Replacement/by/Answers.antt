@@ -1,4 +1,4 @@
-use Rattle.std.proofs.Common.{◌≡◌, [], Option, Some, None, refl, sym, ap, subst, ◌∙◌}
+use Rattle.std.proofs.Common.{◌≡◌, [], Some, None, refl, sym, ap, subst, ◌∙◌}
 use Rattle.std.specs.Arc.{arc_value}
 use Rattle.std.specs.Option.{option_copied}
 use Rattle.std.specs.FinMap as fmap
@@ -13,10 +13,12 @@ use Rattle.memento_index.proofs.replacement.Replacement.by.Goals as goal
 
 pub returns-in_default : goal.returns-in_default
 returns-in_default c =
-    let h = c.in_default.is in
-    let g = c.in_default.not-Some in
-    let f = c.in_ok-shown.ensures in
-    ?
+    let x = c.args.state.now in
+    let row = c.args.row.now in
+    let list = c.in_ok-shown.field-0 in
+    let none : fmap.get x (row_key row) ≡ None = (λ i. fmap.get x (sym c.archive.ensures i, sym c.original.ensures i)) ∙ (sym c.entry.ensures ∙ ap option_copied c.in_default.is) in
+    comes_alone x (row_entry row) [] (set.items (arc_value list)) none refl
+    (ap (λ (s : Mementos). set.items s) (c.in_ok-shown.ensures ∙ ap (λ (k : Kept). mementos_of k) c.entry-entry.ensures))
 
 pub returns-then-are_of_one : goal.returns-then-are_of_one
 returns-then-are_of_one c =
