@@ -35,7 +35,7 @@ message_of (Receive i bytes) = None
 message_of (Restart i) = None
 message_of (Ask i q) = None
 
--- the event brings bytes that are no state's text, in neither format, or more than 268,435,456
+-- the event brings bytes that are the text of no state in either format, or more than 268,435,456
 abbrev pub IsBadState : World → Event → Type 0
 IsBadState w (Take i h) = ⊥
 IsBadState w (Send i) = ⊥

@@ -160,7 +160,7 @@ abbrev pub IfFits : Option Cursor → Delta → Outcome → Outcome → Outcome
 IfFits held d happens otherwise answer new =
     ((fits held d ≡ true) × happens answer new) ⊎ ((fits held d ≡ false) × otherwise answer new)
 
--- the bytes are the text of a state, in either format, and at most 268,435,456
+-- the bytes are the text of a state in either format, and at most 268,435,456
 pub record IsText (bytes : List ℕ) (s : Entries) : Type 0 where
   pub text : IsTextOf bytes s
   pub within : length bytes ≤ longest_text

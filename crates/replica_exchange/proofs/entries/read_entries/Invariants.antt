@@ -4,7 +4,7 @@ use Rattle.std.proofs.Common.{map}
 use Rattle.harvest_lattice.specs.Rows.{row_entry}
 use Rattle.replica_exchange.specs.Spelling.{Begins}
 use Rattle.replica_exchange.specs.Parts.{many, entry}
-use Rattle.replica_exchange.proofs.reading.read_entries.Given as goal
+use Rattle.replica_exchange.proofs.entries.read_entries.Given as goal
 
 abbrev pub invariant-loop : goal.invariant-loop
 invariant-loop l = record {

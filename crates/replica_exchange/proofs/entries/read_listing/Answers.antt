@@ -5,7 +5,7 @@ use Rattle.replica_exchange.specs.Parts.{entry, many, listing}
 use Rattle.replica_exchange.proofs.Sequences.{passed_on_whole, refused_whole, malformed_whole}
 use Rattle.replica_exchange.proofs.StateLemmas.{listing_has_front, listing_leaves_count, listing_leaves_entries, listing_unended, listing_found}
 use Rattle.replica_exchange.proofs.EndLemmas.{end_after, end_behind}
-use Rattle.replica_exchange.proofs.reading.read_listing.Goals as goal
+use Rattle.replica_exchange.proofs.entries.read_listing.Goals as goal
 
 pub returns-in_err-rest-clause-refused : goal.returns-in_err-rest-clause-refused
 returns-in_err-rest-clause-refused c =

@@ -5,7 +5,7 @@ use Rattle.replica_exchange.specs.Parts.{entry, many}
 use Rattle.replica_exchange.proofs.Sequences.{passed_on, refused_with, many_more, many_leaves}
 use Rattle.replica_exchange.proofs.PartLemmas.{entry_once}
 use Rattle.replica_exchange.proofs.EndLemmas.{end_after}
-use Rattle.replica_exchange.proofs.reading.read_entries.Goals as goal
+use Rattle.replica_exchange.proofs.entries.read_entries.Goals as goal
 
 pub returns-in_err-row-clause-refused : goal.returns-in_err-row-clause-refused
 returns-in_err-row-clause-refused c =

@@ -5,7 +5,7 @@ use Rattle.replica_exchange.specs.Parts.{head, memento, entry, many}
 use Rattle.replica_exchange.proofs.Sequences.{passed_on, refused_with}
 use Rattle.replica_exchange.proofs.PartLemmas.{entry_leaves_head, entry_leaves_mementos, entry_unordered, entry_found}
 use Rattle.replica_exchange.proofs.EndLemmas.{end_after}
-use Rattle.replica_exchange.proofs.reading.read_entry.Goals as goal
+use Rattle.replica_exchange.proofs.entries.read_entry.Goals as goal
 
 pub returns-in_err-head-clause-refused : goal.returns-in_err-head-clause-refused
 returns-in_err-head-clause-refused c =

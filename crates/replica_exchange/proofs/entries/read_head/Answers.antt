@@ -7,7 +7,7 @@ use Rattle.replica_exchange.proofs.SpellingLemmas.{ended_found, ended_none, fiel
 use Rattle.replica_exchange.proofs.Sequences.{passed_on, refused_with, malformed}
 use Rattle.replica_exchange.proofs.PartLemmas.{head_has_front, head_without_archive, head_leaves_revision, head_leaves_count, head_leaves_original, head_found}
 use Rattle.replica_exchange.proofs.EndLemmas.{end_after, end_behind}
-use Rattle.replica_exchange.proofs.reading.read_head.Goals as goal
+use Rattle.replica_exchange.proofs.entries.read_head.Goals as goal
 
 pub returns-in_err-rest-clause-refused : goal.returns-in_err-rest-clause-refused
 returns-in_err-rest-clause-refused c =

@@ -2,7 +2,7 @@ use Rattle.std.specs.Arc.{arc_value}
 use Rattle.replica_exchange.specs.Ends.{IsEndOf}
 use Rattle.replica_exchange.specs.Spelling.{Begins}
 use Rattle.replica_exchange.specs.Parts.{many, memento}
-use Rattle.replica_exchange.proofs.reading.read_mementos.Given as goal
+use Rattle.replica_exchange.proofs.entries.read_mementos.Given as goal
 
 abbrev pub invariant-loop : goal.invariant-loop
 invariant-loop l = record {

@@ -2,7 +2,7 @@ use Rattle.replica_exchange.specs.Parts.{memento, many}
 use Rattle.replica_exchange.proofs.Sequences.{passed_on, refused_with, many_more, many_leaves}
 use Rattle.replica_exchange.proofs.PartLemmas.{memento_once}
 use Rattle.replica_exchange.proofs.EndLemmas.{end_after}
-use Rattle.replica_exchange.proofs.reading.read_mementos.Goals as goal
+use Rattle.replica_exchange.proofs.entries.read_mementos.Goals as goal
 
 pub returns-in_err-memento-clause-refused : goal.returns-in_err-memento-clause-refused
 returns-in_err-memento-clause-refused c =

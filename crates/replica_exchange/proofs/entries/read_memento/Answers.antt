@@ -4,7 +4,7 @@ use Rattle.replica_exchange.specs.Parts.{memento}
 use Rattle.replica_exchange.proofs.Sequences.{passed_on, refused_with}
 use Rattle.replica_exchange.proofs.PartLemmas.{memento_leaves_second, memento_leaves_uri, memento_too_late}
 use Rattle.replica_exchange.proofs.EndLemmas.{end_after}
-use Rattle.replica_exchange.proofs.reading.read_memento.Goals as goal
+use Rattle.replica_exchange.proofs.entries.read_memento.Goals as goal
 
 pub returns-in_err-second-clause-refused : goal.returns-in_err-second-clause-refused
 returns-in_err-second-clause-refused c =
