@@ -68,7 +68,7 @@ impl Round {
         round
     }
 
-    // Walks an archive for each original, a batch at a time.
+    /// Walks an archive for each original, a batch at a time.
     fn harvest<R>(
         &mut self,
         rt: &R,
@@ -90,7 +90,7 @@ impl Round {
         }
     }
 
-    // Walks the jobs, and appends their harvests.
+    /// Walks the jobs, and appends their harvests.
     fn append_harvests<R>(&mut self, rt: &R, merger: &mut Merger, jobs: &[Job], workers: usize)
     where
         R: SocketRuntime + Threads + Sync,
@@ -116,8 +116,8 @@ impl Round {
         }
     }
 
-    // Appends what the peer of this number has learnt since it was pulled last, where it answers with a delta that
-    // follows on the held cursor. Else the cursor stays, and the next round asks from it again.
+    /// Appends what the peer of this number has learnt since it was pulled last, where it answers with a delta that
+    /// follows on the held cursor. Else the cursor stays, and the next round asks from it again.
     fn pull<R>(&mut self, rt: &R, merger: &mut Merger, number: u64, peer: &Clean)
     where
         R: SocketRuntime,
@@ -133,7 +133,7 @@ impl Round {
     }
 }
 
-// The jobs of an archive for these originals, but for those that memory is refused for.
+/// The jobs of an archive for these originals, but for those that memory is refused for.
 fn jobs_of(
     alloc: Global,
     archive: ArchiveName,
@@ -150,8 +150,8 @@ fn jobs_of(
     jobs
 }
 
-// The job of an archive for an original: its first URL is the archive's `timemap` with the original behind it. None
-// where memory is refused, or the URL is too long.
+/// The job of an archive for an original: its first URL is the archive's `timemap` with the original behind it. None
+/// where memory is refused, or the URL is too long.
 fn job_of(
     alloc: Global,
     archive: ArchiveName,
