@@ -7,7 +7,7 @@ ghost use Rattle.aggregator_service.specs.Pulls.{Pulls, PullsNothing};
 use crate::clocks::revision_now;
 use crate::runtimes::SocketRuntime;
 use crate::settings::Settings;
-use harvester::{Job, Outcome, have_first_urls, run_round};
+use harvester::{Job, MAX_WORKERS, Outcome, have_first_urls, run_round};
 use hyper_edge::{HyperFetch, pull_state};
 use memento_index::Merge;
 use memento_time::{ArchiveName, Clean, Original};
@@ -94,7 +94,7 @@ impl Round {
     fn append_harvests<R>(&mut self, rt: &R, merger: &mut Merger, jobs: &[Job], workers: usize)
     where
         R: SocketRuntime + Threads + Sync,
-        requires workers { 1 ≤ workers × workers ≤ 64 }
+        requires workers { 1 ≤ workers × workers ≤ MAX_WORKERS }
         requires first_urls { All HasFirstUrl jobs.now }
     {
         let Ok(outcomes) = run_round(rt, &HyperFetch, jobs, workers) else {
