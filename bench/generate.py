@@ -1,8 +1,9 @@
 #!/usr/bin/env python3
 """Writes the inputs of the benchmarks to standard output, always the same ones.
 
-generate.py page N     an archive's page of N mementos
-generate.py take N     a script that takes that page and asks for its TimeMap
+generate.py page N     an archive's page of N mementos, 61 seconds apart, with their parameters in one order
+generate.py mixed N    another one: captures days apart, at any time of the day, with their parameters in mixed order
+generate.py take N     a script that takes the first page and asks for its TimeMap
 generate.py keys N     a script that takes one memento for each of N originals, one by one
 generate.py world N    a script of N events over 16 replicas
 generate.py state N    a state's text with N mementos, 100 in each entry
@@ -26,6 +27,27 @@ def page(count):
         lines.append(
             f'<http://m.example/{k}>; rel="memento"; datetime="{date(FIRST + 61 * k)}",'
         )
+    return "\n".join(lines) + "\n"
+
+
+MIXED = (
+    'rel="memento"; datetime="{date}"',
+    'datetime="{date}"; rel="memento"',
+    'rel=memento; datetime="{date}"; type="text/html"',
+    'type="text/html"; datetime="{date}"; rel="memento"; license="http://m.example/{k}/license"',
+    'title="capture {k} of \\"a.example\\""; rel="memento"; datetime="{date}"',
+)
+
+
+def mixed_page(count):
+    """Captures 1 to 9 days apart: few share their day with the one before, so nearly every date is read whole."""
+    random = Random()
+    day = FIRST
+    lines = [f'<{ORIGINAL}>; rel="original",']
+    for k in range(count):
+        day += 86400 * (1 + random.below(9))
+        params = MIXED[random.below(len(MIXED))].format(date=date(day + random.below(86400)), k=k)
+        lines.append(f"<http://m.example/{k}>; {params},")
     return "\n".join(lines) + "\n"
 
 
@@ -77,6 +99,8 @@ def main():
     write = sys.stdout.write
     if kind == "page":
         write(page(count))
+    elif kind == "mixed":
+        write(mixed_page(count))
     elif kind == "take":
         write("replicas 1 http://agg.example\n")
         write(take(1, "arc.example", 1, ORIGINAL, page(count)))

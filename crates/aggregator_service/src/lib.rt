@@ -7,10 +7,12 @@
 
 mod clocks;
 mod gates;
+mod laws;
 mod rounds;
 mod runtimes;
 mod serving;
 mod settings;
 
+pub use laws::limits_by_example;
 pub use serving::{ServeFault, serve_settings};
 pub use settings::{Key, MAX_TEXT, Settings, SettingsFault, read_settings};

@@ -61,7 +61,7 @@ pub fn answer(
     reply_at(alloc, service, stamped, request, &route)
 }
 
-// The reply to what the request asks for.
+/// The reply to what the request asks for.
 fn reply_at(
     alloc: Global,
     service: &Service,
@@ -91,7 +91,7 @@ fn reply_at(
     }
 }
 
-// The redirect to a memento, if there is one.
+/// The redirect to a memento, if there is one.
 fn redirect(
     alloc: Global,
     service: &Service,
@@ -115,7 +115,7 @@ fn redirect(
     Ok(reply_with(request, 302, headers, Vec::new(alloc)))
 }
 
-// The TimeMap, if any memento is shown.
+/// The TimeMap, if any memento is shown.
 fn timemap(
     alloc: Global,
     service: &Service,
@@ -141,7 +141,7 @@ fn timemap(
     Ok(reply_with(request, 200, headers, text))
 }
 
-// The state bytes, which peers fetch.
+/// The state bytes, which peers fetch.
 fn state(alloc: Global, index: &Index, request: &Request) -> Result<Reply, NoMemory>
     ensures { IfOk result (λ answer. answer ≡ peer_reply request.now (state_text index.now)) }
 {
@@ -153,7 +153,7 @@ fn state(alloc: Global, index: &Index, request: &Request) -> Result<Reply, NoMem
     peer_reply(alloc, request, text)
 }
 
-// What the merges after a cursor changed, which peers fetch.
+/// What the merges after a cursor changed, which peers fetch.
 fn delta(
     alloc: Global,
     stamped: &Stamped,
@@ -171,7 +171,7 @@ fn delta(
     peer_reply(alloc, request, text)
 }
 
-// A text for peers.
+/// A text for peers.
 fn peer_reply(alloc: Global, request: &Request, text: Vec<u8>) -> Result<Reply, NoMemory>
     ensures { IfOk result (λ answer. answer ≡ peer_reply request.now text.items) }
 {
@@ -188,7 +188,7 @@ fn bad_method(alloc: Global, request: &Request) -> Result<Reply, NoMemory>
     short_reply(alloc, request, 405, headers, b"bad method\n")
 }
 
-// A short text, behind these headers.
+/// A short text, behind these headers.
 fn short_reply(
     alloc: Global,
     request: &Request,
@@ -205,7 +205,7 @@ fn short_reply(
     Ok(reply_with(request, status, headers, body))
 }
 
-// What a TimeGate says depends on the moment that is asked for.
+/// What a TimeGate says depends on the moment that is asked for.
 fn push_vary(
     alloc: Global,
     headers: &mut Vec<(Header, Octets)>,
@@ -219,7 +219,7 @@ fn push_vary(
     Ok(())
 }
 
-// HEAD is answered without the body.
+/// HEAD is answered without the body.
 fn reply_with(
     request: &Request,
     status: u16,

@@ -1,7 +1,8 @@
 //! What a request asks for.
-ghost use Rattle.std.specs.Prelude.{◌≡◌, IfOk, IfSome};
+ghost use Rattle.std.specs.Prelude.{◌≡◌, true, false, drop, length, IfOk, IfSome, IfNone};
 ghost use Rattle.timegate.specs.Route.{is_get, is_head, is_state, is_timegate, is_timemap, NamesItself, original_at};
 ghost use Rattle.timegate.specs.Route.{original_in, is_whole_delta, is_delta, cursor_at, delta_route};
+ghost use Rattle.timegate.specs.Route.{deltas, timegates, timemaps};
 ghost use Rattle.timegate.specs.Route.{timegate_route, route_of};
 
 use crate::request::Request;
@@ -11,15 +12,6 @@ use std::alloc::Global;
 use std::str;
 use text_fields::{read_decimal, split_once};
 use timemap_reader::{OriginalFault, read_original};
-
-/// The bytes of `/delta/`, behind which a cursor stands.
-const DELTA_PREFIX: usize = 7;
-
-/// The bytes of `/timegate/`, behind which an original stands.
-const TIMEGATE_PREFIX: usize = 10;
-
-/// The bytes of `/timemap/link/`, behind which an original stands.
-const TIMEMAP_PREFIX: usize = 14;
 
 /// What a request asks for, or why it is refused.
 #[derive(Debug, Drop)]
@@ -62,13 +54,16 @@ fn is_whole_delta(request: &Request) -> bool
     request.target.as_slice() == b"/delta".as_slice()
 }
 
-fn is_delta(request: &Request) -> bool
-    ensures { result ≡ is_delta request.now }
+/// What stands where a delta's cursor is to be, if the target is to be that of a delta from one.
+fn delta_part(request: &Request) -> Option<&[u8]>
+    ensures found { IfSome result (λ part. (is_delta request.now ≡ true)
+        × (part.now ≡ drop (length deltas) request.now.target)) }
+    ensures none { IfNone result (is_delta request.now ≡ false) }
 {
-    request.target.as_slice().starts_with(b"/delta/")
+    request.target.as_slice().strip_prefix(b"/delta/")
 }
 
-// The cursor that bytes name: its incarnation, a slash, and its number.
+/// The cursor that bytes name: its incarnation, a slash, and its number.
 fn cursor_at(bytes: &[u8]) -> Option<Cursor>
     ensures { result ≡ cursor_at bytes.now }
 {
@@ -79,7 +74,7 @@ fn cursor_at(bytes: &[u8]) -> Option<Cursor>
     })
 }
 
-// The delta from a cursor, if there is one.
+/// The delta from a cursor, if there is one.
 fn delta_route(cursor: Option<Cursor>) -> Route
     ensures { result ≡ delta_route cursor }
 {
@@ -89,19 +84,31 @@ fn delta_route(cursor: Option<Cursor>) -> Route
     }
 }
 
+/// What stands where a TimeGate's original is to be, if the target is a TimeGate's.
+fn timegate_part(request: &Request) -> Option<&[u8]>
+    ensures found { IfSome result (λ part. (is_timegate request.now ≡ true)
+        × (part.now ≡ drop (length timegates) request.now.target)) }
+    ensures none { IfNone result (is_timegate request.now ≡ false) }
+{
+    request.target.as_slice().strip_prefix(b"/timegate/")
+}
+
 pub fn is_timegate(request: &Request) -> bool
     ensures { result ≡ is_timegate request.now }
 {
-    request.target.as_slice().starts_with(b"/timegate/")
+    timegate_part(request).is_some()
 }
 
-fn is_timemap(request: &Request) -> bool
-    ensures { result ≡ is_timemap request.now }
+/// What stands where a TimeMap's original is to be, if the target is a TimeMap's.
+fn timemap_part(request: &Request) -> Option<&[u8]>
+    ensures found { IfSome result (λ part. (is_timemap request.now ≡ true)
+        × (part.now ≡ drop (length timemaps) request.now.target)) }
+    ensures none { IfNone result (is_timemap request.now ≡ false) }
 {
-    request.target.as_slice().starts_with(b"/timemap/link/")
+    request.target.as_slice().strip_prefix(b"/timemap/link/")
 }
 
-// The original that bytes name.
+/// The original that bytes name.
 fn original_at(alloc: Global, bytes: &[u8]) -> Result<Option<Original>, NoMemory>
     ensures read { IfOk result (λ original. original ≡ original_at bytes.now) }
     ensures kept { IfOk result (λ original. IfSome original NamesItself) }
@@ -116,7 +123,7 @@ fn original_at(alloc: Global, bytes: &[u8]) -> Result<Option<Original>, NoMemory
     }
 }
 
-// The TimeGate of the original, by the values of `Accept-Datetime`.
+/// The TimeGate of the original, by the values of `Accept-Datetime`.
 fn timegate_route(asked: &[Octets], original: Original) -> Route
     ensures route { result ≡ timegate_route asked.now original }
     ensures original { IfSome (original_in result) (λ o. o ≡ original) }
@@ -146,18 +153,17 @@ pub fn route_of(alloc: Global, request: &Request) -> Result<Route, NoMemory>
     if is_whole_delta(request) {
         return Ok(Route::Delta(None));
     }
-    let target = request.target.as_slice();
-    if is_delta(request) {
-        return Ok(delta_route(cursor_at(&target[DELTA_PREFIX..])));
+    if let Some(cursor) = delta_part(request) {
+        return Ok(delta_route(cursor_at(cursor)));
     }
-    if is_timegate(request) {
-        return match original_at(alloc, &target[TIMEGATE_PREFIX..])? {
+    if let Some(part) = timegate_part(request) {
+        return match original_at(alloc, part)? {
             None => Ok(Route::BadOriginal),
             Some(original) => Ok(timegate_route(request.asked.as_slice(), original)),
         };
     }
-    if is_timemap(request) {
-        return match original_at(alloc, &target[TIMEMAP_PREFIX..])? {
+    if let Some(part) = timemap_part(request) {
+        return match original_at(alloc, part)? {
             None => Ok(Route::BadOriginal),
             Some(original) => Ok(Route::TimeMap(original)),
         };
