@@ -1,9 +1,7 @@
 -- A URL whose answer is good isn't lost.
-use Rattle.std.proofs.Common.{◌≡◌, ◌⊎◌, ℕ, List, [], ◌∷◌, ◌++◌, Contains, Result, Ok, Err, ⊎_elim, refl, sym, ap, subst, ◌∙◌, append-nil}
+use Rattle.std.proofs.Common.{◌≡◌, ℕ, List, [], ◌∷◌, ◌++◌, Contains, Result, Ok, Err, ⊎_elim, sym, ap, subst, ◌∙◌, append-nil}
 use Rattle.std.proofs.lemmas.List.Elements.{Contains-append_cases}
-use Rattle.memento_time.specs.declared.mementos.Memento.{Memento}
 use Rattle.timemap_reader.specs.declared.page.Page.{Page}
-use Rattle.memento_sets.specs.Sets as set
 use Rattle.harvest_lattice.specs.Knowledge.{Harvested}
 use Rattle.harvester.specs.declared.faults.FetchFault.{FetchFault}
 use Rattle.harvester.specs.declared.faults.WalkFault.{WalkFault}

@@ -1,5 +1,5 @@
 -- What tries give: a record, lost URLs and pages.
-use Rattle.std.proofs.Common.{◌≡◌, ◌⊎◌, ℕ, ◌≤◌, Bool, true, false, List, [], ◌∷◌, ◌++◌, length, bytes_eq, Contains, inl, inr, ⊎_elim, refl, sym, ap, subst, ◌∙◌, arith, append_assoc, append-nil}
+use Rattle.std.proofs.Common.{◌≡◌, ◌⊎◌, ℕ, ◌≤◌, false, List, [], ◌∷◌, ◌++◌, length, bytes_eq, Contains, inl, inr, ⊎_elim, refl, sym, ap, subst, ◌∙◌, append-nil}
 use Rattle.std.specs.List.{flat_map, IsDistinct, AllByRecursion}
 use Rattle.std.proofs.lemmas.Cmp.{nat_list_eq_equiv}
 use Rattle.std.proofs.lemmas.Grind.{flat_map-append}
@@ -11,10 +11,7 @@ use Rattle.std.proofs.lemmas.Map.Views.{list_any-from_Contains, Contains-from_an
 use Rattle.timemap_reader.specs.Firsts.{firsts}
 use Rattle.timemap_reader.specs.declared.page.Page.{Page}
 use Rattle.timemap_reader.proofs.FirstLaws.{firsts_distinct, from_firsts, same_text}
-use Rattle.harvester.specs.declared.faults.FetchFault.{FetchFault}
-use Rattle.harvester.specs.declared.faults.WalkFault.{WalkFault}
 use Rattle.harvester.specs.declared.faults.WalkFault.TheVariants.{Fetch}
-use Rattle.harvester.specs.declared.fetches.Answer.{Answer}
 use Rattle.harvester.specs.Answers.{Entry}
 use Rattle.harvester.specs.Closure.{Lost, urls}
 use Rattle.harvester.specs.Tries.{Came, Try, answer_of, loss_of, page_of, answers_of, losses_of, pages_of}

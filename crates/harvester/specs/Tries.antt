@@ -1,5 +1,5 @@
 -- The URLs of a job that a walk has tried, and what came of each.
-use Rattle.std.specs.Prelude.{◌≡◌, ◌≢◌, ℕ, List, [], ◌∷◌}
+use Rattle.std.specs.Prelude.{◌≢◌, ℕ, List, [], ◌∷◌}
 use Rattle.std.specs.List.{flat_map}
 use Rattle.timemap_reader.specs.declared.page.Page.{Page}
 use Rattle.harvester.specs.declared.faults.FetchFault.{FetchFault}

@@ -9,7 +9,7 @@ use Rattle.harvester.specs.Tries.{Try}
 use Rattle.harvester.specs.Tries.Came.{Good}
 use Rattle.harvester.specs.Walks.{FewMementos, GoesOn, IsAtItsEnd, IsReached, mementos_of}
 use Rattle.harvester.proofs.Closed.{complete}
-use Rattle.harvester.proofs.Reach.{reached_more, reached_none, stands_first}
+use Rattle.harvester.proofs.Reach.{few_of_none, reached_more, reached_none}
 use Rattle.harvester.proofs.laws.absent_originals_have_no_mementos.Goals as goal
 
 -- the first URL was answered so
@@ -18,10 +18,6 @@ missing job answer = (first_url job, Good answer empty_page)
 
 says_nothing : (job : Job) (answer : Answer) → answer.status ≡ 404 → Says job (first_url job, answer) empty_page
 says_nothing job answer is = inr (record { first = refl; status = is; nothing = refl })
-
-few_of_none : FewMementos []
-unfolding mementos_of IsStrictlySortedBy
-few_of_none = omega (arith, ap length (items_in_order [] tt))
 
 few_of_one : FewMementos (empty_page ∷ [])
 unfolding mementos_of IsStrictlySortedBy
