@@ -17,7 +17,8 @@ pub fn replies_from_state()
 {}
 
 /// The same harvests, in any order and however often, give every request that asks for no delta the same reply. What a
-/// delta is answered also tells of the merges by which the harvests came; `reply` has for it a delta that tells of none.
+/// delta is answered also tells of the merges by which the harvests came; `reply` has for it a delta that tells of
+/// none.
 pub fn same_harvests_same_reply()
     ensures { (base : List ℕ) (known others : List Harvested) → ((h : Harvested) → Contains known h ↔ Contains others h)
         → (q : Request) → reply base known q ≡ reply base others q }
