@@ -19,14 +19,16 @@ use Rattle.harvester.proofs.Reach.{came, fresh, same_try}
 use Rattle.harvester.proofs.Tried.{entry_of, try_answered, try_lost, loss_tried}
 
 -- of one URL there is no good answer and a loss
-good_or_loss : (faults : List ℕ → FetchFault → Type 0) (job : Job) (u : List ℕ) (c : Came) (e : Entry) (page : Page) (l : Lost) → HasCome faults job u c → Contains (answer_of u c) e → Says job e page → Contains (loss_of u c) l → ⊥
+good_or_loss : (faults : List ℕ → FetchFault → Type 0) (job : Job) (u : List ℕ) (c : Came) (e : Entry) (page : Page) (l : Lost) → HasCome faults job u c → Contains (answer_of u c) e
+    → Says job e page → Contains (loss_of u c) l → ⊥
 good_or_loss faults job u (Good a p) e page l h c says d = no_element l d
 good_or_loss faults job u (Failing a f) e page l h c says d =
     let here : (u, a) ≡ e = ⊎_elim (λ at. at) (λ none. absurd (no_element e none)) (Contains-cases (u, a) [] e c) in
     says_or_fails job (u, a) page f (subst (λ (x : Entry). Says job x page) (sym here) says) h.1
 good_or_loss faults job u (Unanswered f) e page l h c says d = no_element e c
 
-good_is_kept : (faults : List ℕ → FetchFault → Type 0) (job : Job) (ts : List Try) → IsReached faults job ts → (e : Entry) (page : Page) → Contains (answers_of ts) e → Says job e page → Contains (urls (losses_of ts)) e.0 → ⊥
+good_is_kept : (faults : List ℕ → FetchFault → Type 0) (job : Job) (ts : List Try) → IsReached faults job ts → (e : Entry) (page : Page) → Contains (answers_of ts) e → Says job e page
+    → Contains (urls (losses_of ts)) e.0 → ⊥
 good_is_kept faults job ts r e page c says lost =
     let t = try_answered ts e c in
     let l = entry_of (losses_of ts) e.0 lost in

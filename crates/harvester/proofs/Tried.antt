@@ -104,8 +104,10 @@ in_both ts u c =
     let t = entry_of ts u c in
     subst (λ v. Contains (urls (answers_of ts) ++ urls (losses_of ts)) v) t.2
     (⊎_elim
-    (λ a. subst (λ v. Contains (urls (answers_of ts) ++ urls (losses_of ts)) v) a.2 (Contains-append_left (urls (answers_of ts)) (urls (losses_of ts)) a.0.0 (url_taken (answers_of ts) a.0 (answer_taken ts t.0 a.0 t.1 a.1))))
-    (λ l. subst (λ v. Contains (urls (answers_of ts) ++ urls (losses_of ts)) v) l.2 (Contains-append_right (urls (answers_of ts)) (urls (losses_of ts)) l.0.0 (url_taken (losses_of ts) l.0 (loss_taken ts t.0 l.0 t.1 l.1))))
+    (λ a. subst (λ v. Contains (urls (answers_of ts) ++ urls (losses_of ts)) v) a.2 (Contains-append_left (urls (answers_of ts)) (urls (losses_of ts)) a.0.0 (url_taken
+    (answers_of ts) a.0 (answer_taken ts t.0 a.0 t.1 a.1))))
+    (λ l. subst (λ v. Contains (urls (answers_of ts) ++ urls (losses_of ts)) v) l.2 (Contains-append_right (urls (answers_of ts)) (urls (losses_of ts)) l.0.0 (url_taken
+    (losses_of ts) l.0 (loss_taken ts t.0 l.0 t.1 l.1))))
     (answered_or_lost t.0.0 t.0.1))
 
 pub answer_tried : (ts : List Try) (u : List ℕ) → Contains (urls (answers_of ts)) u → Contains (urls ts) u

@@ -10,7 +10,7 @@ use Rattle.harvester.specs.declared.jobs.Job.{Job}
 use Rattle.harvester.specs.Answers.{Entry, FailsBy, Says, first_url}
 use Rattle.harvester.specs.Closure.{Lost}
 
--- what came of a URL: an answer that says a page, an answer that fails by a fault, or no answer, for a fault of the fetch
+-- what came of a URL: an answer that says a page, an answer that fails by a fault, or none for a fault of the fetch
 pub data Came : Type 0 where
   Good : Answer → Page → Came
   Failing : Answer → WalkFault → Came
@@ -52,8 +52,8 @@ pages_of tries = flat_map (λ t. page_of t.1) tries
 
 -- what a fetch may give in place of an answer: of a URL, faults
 module _ (faults : List ℕ → FetchFault → Type 0) where
-  -- This came of the URL: a good answer says its page, and any other fails by its fault. A URL that gives no page is lost,
-  -- and the first can't be.
+  -- This came of the URL: a good answer says its page, and any other fails by its fault. A URL that gives no page is
+  -- lost, and the first can't be.
   abbrev pub HasCome : Job → List ℕ → Came → Type 0
   HasCome job url (Good answer page) = Says job (url, answer) page
   HasCome job url (Failing answer fault) = (url ≢ first_url job) × FailsBy job (url, answer) fault

@@ -10,6 +10,7 @@ use crate::jobs::Job;
 use harvest_lattice::{Harvest, HarvestFault};
 use memento_time::Memento;
 
+/// The job's harvest, by its mark.
 fn make(job: &Job, is_whole: bool, mementos: Vec<Memento>) -> Result<Harvest, HarvestFault>
     ensures kept { IfOk result
         (λ h. h ≡ record {

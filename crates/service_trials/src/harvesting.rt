@@ -116,10 +116,8 @@ fn has_fetched(outcome: &Outcome<'_>, urls: &[&str]) -> bool {
 fn has_lost(outcome: &Outcome<'_>, lost: &[(&str, WalkFault)]) -> bool {
     let losses = outcome.lost.as_slice();
     losses.len() == lost.len()
-        && losses
-            .iter()
-            .zip(lost)
-            .all(|(loss, (url, fault))| loss.0.as_bytes() == url.as_bytes() && loss.1 == *fault)
+        && losses.iter().zip(lost).all(|(loss, (url, fault))| loss.0.as_bytes() == url.as_bytes()
+            && loss.1 == *fault)
 }
 
 /// Whether the harvest is whole.
@@ -247,13 +245,7 @@ fn the_first_page_fails(rt: HostRuntime) -> Result<()> {
     let cases = [
         (500, "", index, WalkFault::Status(500), 1),
         (200, "gzip", p1, WalkFault::Encoded, 1),
-        (
-            200,
-            "",
-            other,
-            WalkFault::Fetch(FetchFault::Failed),
-            0,
-        ),
+        (200, "", other, WalkFault::Fetch(FetchFault::Failed), 0),
     ];
     for (status, coding, first, fault, fetched) in cases {
         let table = three_pages(rt.alloc(), status, coding, 200)?;
