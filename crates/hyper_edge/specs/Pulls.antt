@@ -1,18 +1,21 @@
 -- What a pull takes of a peer's answer.
-use Rattle.std.specs.Prelude.{◌≡◌, ◌≢◌, ◌≤◌, length}
+use Rattle.std.specs.Prelude.{◌≡◌, ◌≢◌, ◌≤◌, ℕ, List, length}
 use Rattle.replica_exchange.specs.declared.delta.Delta.{Delta}
-use Rattle.replica_exchange.specs.DeltaText.{IsDelta, delta_text}
+use Rattle.replica_exchange.specs.DeltaText.{IsDeltaText}
 use Rattle.replica_exchange.specs.Faults.{longest_text}
 use Rattle.harvester.specs.declared.fetches.Answer.{Answer}
 use Rattle.hyper_edge.specs.declared.faults.PullFault.{PullFault}
 use Rattle.hyper_edge.specs.declared.faults.PullFault.TheVariants.{Failed, Status, BadState, NoMemory}
 
--- the answer is 200 with the delta's text, which isn't too long
+-- the answer is 200 with the delta's text, in either format, which isn't too long
 pub record Brings (answer : Answer) (delta : Delta) : Type 0 where
   pub status : answer.status ≡ 200
-  pub numbers : IsDelta delta
-  pub text : answer.body ≡ delta_text delta
-  pub within : length (delta_text delta) ≤ longest_text
+  pub text : IsDeltaText answer.body delta
+  pub within : length answer.body ≤ longest_text
+
+-- some answer brings the delta: it has a text that isn't too long
+abbrev pub IsBrought : Delta → Type 0
+IsBrought delta = (answer : Answer) × Brings answer delta
 
 -- Why an answer brings no delta: first its status, and then its body. Memory is asked for only to read a body.
 abbrev pub IsRefusedFor : Answer → PullFault → Type 0

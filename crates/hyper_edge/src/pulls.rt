@@ -1,9 +1,7 @@
 //! Pulls what peers have learnt.
-ghost use Rattle.std.specs.Prelude.{◌≡◌, ◌≢◌, ◌≤◌, ◌++◌, IfErr, IfOk, length, string_bytes};
-ghost use Rattle.replica_exchange.specs.DeltaText.{IsDelta, delta_text};
-ghost use Rattle.replica_exchange.specs.Faults.{longest_text};
+ghost use Rattle.std.specs.Prelude.{◌≡◌, ◌≢◌, ◌++◌, IfErr, IfOk, string_bytes};
 ghost use Rattle.timegate.specs.Route.{delta_target};
-ghost use Rattle.hyper_edge.specs.Pulls.{Brings, IsRefusedFor};
+ghost use Rattle.hyper_edge.specs.Pulls.{Brings, IsBrought, IsRefusedFor};
 
 use crate::exchanges::get;
 use crate::faults::PullFault;
@@ -24,8 +22,7 @@ const MAX_DELTA: usize = 268_435_456;
 pub fn pull_state<R>(rt: &R, peer: &Clean, cursor: Option<Cursor>) -> Result<Delta, PullFault>
 where
     R: Wait + Clock + Net<Listener = TcpListener, Stream = TcpStream> + RandomSource + AllocGlobal,
-    ensures delta { IfOk result IsDelta }
-    ensures bounded { IfOk result (λ delta. length (delta_text delta) ≤ longest_text) }
+    ensures brought { IfOk result IsBrought }
     ensures status { IfErr result (λ fault. fault ≢ PullFault.Status 200) }
 {
     let alloc = rt.alloc();

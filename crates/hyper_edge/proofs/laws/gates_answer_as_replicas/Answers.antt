@@ -7,7 +7,7 @@ use Rattle.hyper_edge.proofs.laws.gates_answer_as_replicas.Goals as goal
 pub returns-clause-taken : goal.returns-clause-taken
 returns-clause-taken c = λ q made some taken.
     let known = flat_map adds_of some.merges in
-    (some.base, (known, some.is ∙ reply_from_state some.base known some.stamped q some.made_by.entries taken))
+    (some.base, known, some.is ∙ reply_from_state some.base known some.stamped q some.made_by.entries taken)
 
 pub returns-clause-each : goal.returns-clause-each
 returns-clause-each c = λ base merges s q made_by.
