@@ -23,12 +23,12 @@ use Rattle.url.specs.declared.host.Host.TheVariants.{Domain, Ipv4, Ipv6}
 use Rattle.url.specs.declared.scheme.SchemeType.{SchemeType}
 use Rattle.url.specs.declared.scheme.SchemeType.TheVariants.{SpecialNotFile, NotSpecial}
 use Rattle.url.specs.declared.error.ParseError.TheVariants.{EmptyHost}
-use Rattle.url.specs.declared.slicing.Position.TheVariants.{BeforeScheme, BeforeUsername, AfterPort, AfterQuery}
+use Rattle.url.specs.declared.slicing.Position.TheVariants.{BeforeScheme, BeforeUsername, AfterPort, AfterPath, AfterQuery}
 use Rattle.url.specs.Input.{is_empty, when, is_c0_control_or_space, is_tab_or_new_line, trim_c0_control_and_space, strip_tabs_and_new_lines, split_once, rsplit_once}
 use Rattle.url.specs.Scheme.{IsScheme, default_port, scheme_type, scheme_len, is_special, is_file, is_slash, is_scheme_byte}
 use Rattle.url.specs.Host.{host_text, parse_host, parse_special_host, is_forbidden_in_domain, IsDomain, IsOpaqueHost, IsHostOf}
 use Rattle.url.specs.Path.{segment_len, parse_path_start}
-use Rattle.url.specs.Parts.{Parts, kind_of, has_authority, has_credentials, host_or_empty, text_between, query_set, IsPortOf, IsValidHead, IsValid}
+use Rattle.url.specs.Parts.{Parts, kind_of, has_authority, has_credentials, host_or_empty, text_between, text_before, query_set, IsPortOf, IsValidHead, IsValid}
 use Rattle.url.specs.Head.{with_authority, head_only, without_tail}
 use Rattle.url.specs.Parser.{Parsed, and_then, split_port, parse_port, lacks_host, parse_authority, with_path, skip_slashes, after_double_slash, parse_body, with_tail, before_tail, parse_parts, base_for_scheme, split_scheme, parse_by_scheme, parse_url}
 use Rattle.url.proofs.InputLemmas.{IsNot, Passes, StopsAt, split_once_at, split_once_none, prefix_len_at, filter_all, is_empty_nonempty, list_any_none}
@@ -40,9 +40,10 @@ use Rattle.url.proofs.Theorems.{parse_url-serialize_special}
 use Rattle.url.proofs.PathLemmas.{rooted}
 use Rattle.url.proofs.ValidLemmas.{with_own_tail, segment_list_kept, path_kept, hierarchical, special_has_authority, base_from_authority}
 use Rattle.url.proofs.SetterLemmas.{own_credentials, host_is_some, own_host}
-use Rattle.url.proofs.TextLemmas.{All_one, All_kept, All_part, is_authority_byte, authority_bytes, query_byte}
-use Rattle.url.proofs.RoundTrip.{split_at_sign, split_own_scheme, parse_own_path, stays_unless_file, stops_at_path}
+use Rattle.url.proofs.TextLemmas.{body_bytes, is_body_byte, All_one, All_kept, All_part, is_authority_byte, authority_bytes, query_byte}
+use Rattle.url.proofs.RoundTrip.{All-query_text, split_at_sign, split_own_scheme, parse_own_path, stays_unless_file, stops_at_path}
 use Rattle.url.proofs.ParsedCanonical.{before_special}
+use Rattle.url_texts.specs.Followed.{begins_on_web, IsFollowed}
 use Rattle.timemap_reader.specs.declared.address.TheConstants.{ESCAPED}
 use Rattle.timemap_reader.specs.Address.{is_clean_byte, clean_byte_text, clean_text, is_http_scheme}
 use Rattle.timemap_reader.specs.declared.original.OriginalFault.TheVariants.{TooLong}
@@ -428,3 +429,32 @@ original_kept url original valid http read =
     let kept = limit_kept (nat_lt 4096 (length (clean_text (text_between url BeforeScheme AfterQuery)))) (clean_text (text_between url BeforeScheme AfterQuery)) original read in
     let back = host_back url (host_or_empty url) valid kind (host_is_some url own) host in
     subst (λ (t : List ℕ). original_reading t ≡ Ok t) kept.1 (read_again _ (bare url) kept.0 back http refl)
+
+-- ---- no number sign
+
+no_hash_before : (url : Parts) → IsValid url → All (IsNot 35) (text_between url BeforeScheme AfterQuery)
+no_hash_before url valid =
+    let body = All-weaker (Passes is_body_byte) (IsNot 35) (λ b passes e. grind (arith, nat_tests)) (text_before url AfterPath) (body_bytes url valid) in
+    All-query_text (IsNot 35) url valid body (λ e. omega arith) (λ b passes e. grind (arith, nat_tests))
+
+-- ---- the front
+
+begins_so : (url : Parts) → is_http_scheme url.scheme ≡ true → has_authority url ≡ true
+    → begins_on_web (clean_text (text_between url BeforeScheme AfterQuery)) ≡ true
+begins_so url http own =
+    ⊎_elim
+    (λ plain. rw ((bytes_eq-Decides url.scheme (codes "http")).0 plain, own) refl)
+    (λ other. rw ((bytes_eq-Decides url.scheme (codes "https")).0 (rw other at http), own) refl)
+    (cases_Bool (bytes_eq url.scheme (codes "http")))
+
+-- an original is followed as it stands
+pub original_followed : (url : Parts) (original : List ℕ) → IsValid url → is_http_scheme url.scheme ≡ true
+    → within_limit (clean_text (text_between url BeforeScheme AfterQuery)) ≡ Ok original → IsFollowed original
+original_followed url original valid http read =
+    let text = text_between url BeforeScheme AfterQuery in
+    let kept = limit_kept (nat_lt 4096 (length (clean_text text))) (clean_text text) original read in
+    let own = special_has_authority url valid.head (ap is_special (http_kind url.scheme http)) in
+    subst IsFollowed kept.1 (record {
+      web = begins_so url http own;
+      whole = All-clean_text (IsNot 35) (λ b escape e. grind (arith, nat_tests, escape, e)) text (no_hash_before url valid);
+    })
