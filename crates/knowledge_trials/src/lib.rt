@@ -16,6 +16,8 @@ mod index;
 mod lattice;
 pub mod makers;
 #[cfg(test)]
+mod pages;
+#[cfg(test)]
 mod plain;
 #[cfg(test)]
 mod sets;

@@ -11,6 +11,8 @@ mod harvesting;
 #[cfg(test)]
 mod loopback;
 #[cfg(test)]
+mod paged;
+#[cfg(test)]
 mod publishing;
 #[cfg(test)]
 mod runtimes;
