@@ -2,11 +2,13 @@
 use crate::captures::{Capture, FIRST, ROOT, SECOND, THIRD};
 use crate::makers::{location, merge, request};
 use anyhow::{Result, bail};
+use harvest_lattice::Harvest;
+use memento_index::Merge;
 use memento_time::Octets;
 use replica_exchange::Stamped;
 use std::alloc::Global;
 use std::test::*;
-use text_trials::makers::service;
+use text_trials::makers::{archive, mementos, original, service};
 use timegate::{Header, Reply, answer};
 
 const GATE: &str = "/timegate/http://a.example/";
@@ -304,13 +306,13 @@ fn other_targets(rt: HostRuntime) -> Result<()> {
 }
 
 const STATE: &str =
-    "Content-Type: text/plain\nmemento-state 1\nentries 1\nentry arc.example 7 1 http://a.example/\n946684800 http://m.example/1\nend\n";
+    "Content-Type: text/plain\nmemento-state 2\nentries 1\nentry arc.example 7 1 http://a.example/\nat 7 1\n946684800 http://m.example/1\nend\n";
 
 const DELTA: &str =
-    "Content-Type: text/plain\nmemento-delta 1\nfrom 1 0 1\nentries 1\nentry arc.example 7 1 http://a.example/\n946684800 http://m.example/1\nend\n";
+    "Content-Type: text/plain\nmemento-delta 2\nfrom 1 0 1\nentries 1\nentry arc.example 7 1 http://a.example/\nat 7 1\n946684800 http://m.example/1\nend\n";
 
 // The delta from the present.
-const NO_CHANGE: &str = "Content-Type: text/plain\nmemento-delta 1\nfrom 1 1 1\nentries 0\nend\n";
+const NO_CHANGE: &str = "Content-Type: text/plain\nmemento-delta 2\nfrom 1 1 1\nentries 0\nend\n";
 
 #[test]
 fn states_and_deltas(rt: HostRuntime) -> Result<()> {
@@ -330,6 +332,33 @@ fn states_and_deltas(rt: HostRuntime) -> Result<()> {
             ("HEAD", "/delta/1/1", 200, PLAIN),
         ],
     )
+}
+
+// Two parts alone, by revision.
+const PARTS: &str =
+    "Content-Type: text/plain\nmemento-state 2\nentries 1\nentry a1 - 2 http://a.example/\nat 2 1\n946857600 http://m.example/2\nat 3 1\n946684800 http://m.example/1\nend\n";
+
+fn part(alloc: Global, revision: u64, captures: &[Capture]) -> Result<Merge> {
+    let name = archive(b"a1")?;
+    let original = original(alloc, ROOT)?;
+    let mementos = mementos(alloc, captures)?;
+    Ok(Merge::Harvest(Harvest::new_part(name, &original, revision, mementos)?))
+}
+
+// A replica that has taken parts alone, the older one last.
+fn replica_of_parts(alloc: Global) -> Result<Stamped> {
+    let mut stamped = Stamped::new(alloc, 1);
+    stamped.absorb(&part(alloc, 3, &[FIRST])?)?;
+    stamped.absorb(&part(alloc, 2, &[SECOND])?)?;
+    Ok(stamped)
+}
+
+// Where no whole harvest is known, each part is written, and each is shown.
+#[test]
+fn parts_alone(rt: HostRuntime) -> Result<()> {
+    let replica = replica_of_parts(rt.alloc())?;
+    check_replies(rt.alloc(), &replica, &[("GET", "/state", 200, PARTS)])?;
+    check_choices(rt.alloc(), &replica, &[(MIDDLE, FIRST)])
 }
 
 #[test]

@@ -5,7 +5,7 @@ ghost use Rattle.memento_time.specs.Mementos.{memento_cmp};
 
 use crate::captures::{Capture, FIRST, ROOT, SECOND, THIRD, are, root};
 use crate::lattice::shows;
-use crate::makers::{harvest, merge};
+use crate::makers::{harvest, merge, part_harvest, part_merge};
 use crate::plain::Plain;
 use anyhow::{Context, Result};
 use harvest_lattice::{Harvest, State};
@@ -37,6 +37,12 @@ fn take_all(alloc: Global, index: &mut Index, harvests: &[(&[u8], u64, &[Capture
         take(alloc, index, *name, *revision, *captures)?;
     }
     Ok(())
+}
+
+// Takes a part of what archive a1 had of the root.
+fn take_part(alloc: Global, index: &mut Index, revision: u64, captures: &[Capture]) -> Result<()> {
+    let merge = part_merge(alloc, b"a1", ROOT, revision, captures)?;
+    absorb(index, &merge)
 }
 
 // An index of these harvests.
@@ -77,7 +83,7 @@ const MIDDLE: u64 = 946_771_200;
 const LAST: u64 = 253_402_300_799;
 
 #[test]
-fn only_the_greatest_revision_counts(rt: HostRuntime) -> Result<()> {
+fn only_the_greatest_whole_revision_counts(rt: HostRuntime) -> Result<()> {
     let alloc = rt.alloc();
     let mut index = indexed(alloc, &[(b"a1", 7, &[FIRST]), (b"a1", 3, &[SECOND])])?;
     assert!(rt; lists(alloc, &index, &[FIRST])?);
@@ -96,6 +102,110 @@ fn harvests_of_one_revision_are_united(rt: HostRuntime) -> Result<()> {
     assert!(rt; lists(alloc, &one, &[FIRST, SECOND, THIRD])?);
     let other = indexed(alloc, &[(b"a1", 1, &[THIRD, SECOND]), (b"a1", 1, &[FIRST])])?;
     assert!(rt; lists(alloc, &other, &[FIRST, SECOND, THIRD])?);
+    Ok(())
+}
+
+#[test]
+fn an_archive_counts_once_in_two_revisions(rt: HostRuntime) -> Result<()> {
+    let alloc = rt.alloc();
+    let mut index = indexed(alloc, &[(b"a1", 1, &[FIRST])])?;
+    take_part(alloc, &mut index, 2, &[FIRST])?;
+    assert!(rt; lists(alloc, &index, &[FIRST])?);
+    take(alloc, &mut index, b"a1", 3, &[])?;
+    assert!(rt; lists(alloc, &index, &[])?);
+    assert!(rt; is_nearest(alloc, &index, MIDDLE, None)?);
+    assert!(rt; is_latest(alloc, &index, None)?);
+    Ok(())
+}
+
+// The same, where the part comes first, and another archive shows the memento too.
+#[test]
+fn another_archive_counts_beside_two_revisions(rt: HostRuntime) -> Result<()> {
+    let alloc = rt.alloc();
+    let mut index = indexed(alloc, &[(b"b1", 1, &[FIRST])])?;
+    take_part(alloc, &mut index, 2, &[FIRST])?;
+    take(alloc, &mut index, b"a1", 1, &[FIRST, SECOND])?;
+    assert!(rt; lists(alloc, &index, &[FIRST, SECOND])?);
+    take(alloc, &mut index, b"a1", 3, &[])?;
+    assert!(rt; lists(alloc, &index, &[FIRST])?);
+    take(alloc, &mut index, b"b1", 2, &[])?;
+    assert!(rt; lists(alloc, &index, &[])?);
+    Ok(())
+}
+
+// Takes one of five harvests of archive a1.
+fn take_one_of_five(alloc: Global, index: &mut Index, which: u64) -> Result<()> {
+    match which {
+        0 => take(alloc, index, b"a1", 5, &[FIRST]),
+        1 => take_part(alloc, index, 7, &[SECOND]),
+        2 => take(alloc, index, b"a1", 6, &[THIRD]),
+        3 => take_part(alloc, index, 4, &[FIRST]),
+        _ => take(alloc, index, b"a1", 8, &[]),
+    }
+}
+
+#[test]
+fn parts_are_listed_beside_the_whole(rt: HostRuntime) -> Result<()> {
+    let alloc = rt.alloc();
+    let mut index = Index::new(alloc);
+    let courses: [(u64, &[Capture]); 5] = [
+        (0, &[FIRST]),
+        (1, &[FIRST, SECOND]),
+        (2, &[SECOND, THIRD]),
+        (3, &[SECOND, THIRD]),
+        (4, &[]),
+    ];
+    for (which, listed) in courses {
+        take_one_of_five(alloc, &mut index, which)?;
+        assert!(rt; lists(alloc, &index, listed)?, "after {which}");
+    }
+    Ok(())
+}
+
+// An index of the five harvests in the order that the digits of a number name, in base five: none where it names one
+// twice.
+fn index_of_order(alloc: Global, order: u64) -> Result<Option<Index>> {
+    let mut index = Index::new(alloc);
+    let mut named = [false; 5];
+    let mut rest = order;
+    for _ in 0..5 {
+        let which = rest % 5;
+        rest /= 5;
+        if named[which as usize] {
+            return Ok(None);
+        }
+        named[which as usize] = true;
+        take_one_of_five(alloc, &mut index, which)?;
+    }
+    Ok(Some(index))
+}
+
+#[test]
+fn every_order_of_wholes_and_parts_ends_the_same(rt: HostRuntime) -> Result<()> {
+    let alloc = rt.alloc();
+    let last = indexed(alloc, &[(b"a1", 8, &[])])?;
+    let mut orders = 0u64;
+    for order in 0..3_125 {
+        if let Some(index) = index_of_order(alloc, order)? {
+            assert!(rt; lists(alloc, &index, &[])?, "in order {order}");
+            assert!(rt; last.state().le(index.state()) && index.state().le(last.state()));
+            orders = orders.saturating_add(1);
+        }
+    }
+    assert!(rt; orders == 120);
+    Ok(())
+}
+
+#[test]
+fn parts_alone_are_listed(rt: HostRuntime) -> Result<()> {
+    let alloc = rt.alloc();
+    let mut index = Index::new(alloc);
+    take_part(alloc, &mut index, 3, &[FIRST])?;
+    take_part(alloc, &mut index, 2, &[SECOND])?;
+    assert!(rt; lists(alloc, &index, &[FIRST, SECOND])?);
+    assert!(rt; copy_shows(alloc, index.state(), &[FIRST, SECOND])?);
+    assert!(rt; is_nearest(alloc, &index, 0, Some(FIRST))?);
+    assert!(rt; is_latest(alloc, &index, Some(SECOND))?);
     Ok(())
 }
 
@@ -349,13 +459,18 @@ fn some_mementos(alloc: Global, generator: &mut Generator) -> Result<Vec<Memento
     Ok(list)
 }
 
-// What one of three archives had of one of two originals at a revision from 0 to 9: some of four mementos.
+// What one of three archives had of one of two originals at a revision from 0 to 9: some of four mementos, as a whole
+// harvest or as a part.
 fn some_harvest(alloc: Global, generator: &mut Generator) -> Result<Harvest> {
     let name = ARCHIVES[generator.below(3) as usize];
     let original = ORIGINALS[generator.below(2) as usize];
     let revision = generator.below(10);
     let list = some_mementos(alloc, generator)?;
-    harvest(alloc, name, original, revision, list)
+    if generator.below(2) == 0 {
+        part_harvest(alloc, name, original, revision, list)
+    } else {
+        harvest(alloc, name, original, revision, list)
+    }
 }
 
 fn merge_some(alloc: Global, generator: &mut Generator, state: &mut State) -> Result<()> {

@@ -7,7 +7,7 @@ use std::alloc::Global;
 use text_trials::makers as texts;
 use timegate::{Header, Reply, Request};
 
-/// What an archive had of an original at a revision.
+/// What an archive had of an original at a revision: all of it.
 pub fn harvest(
     alloc: Global,
     archive: &[u8],
@@ -20,7 +20,20 @@ pub fn harvest(
     Ok(Harvest::new(archive, &original, revision, mementos)?)
 }
 
-/// The merge of a harvest with mementos of these seconds at these addresses.
+/// What an archive had of an original at a revision: a part.
+pub fn part_harvest(
+    alloc: Global,
+    archive: &[u8],
+    original: &[u8],
+    revision: u64,
+    mementos: Vec<Memento>,
+) -> Result<Harvest> {
+    let archive = texts::archive(archive)?;
+    let original = texts::original(alloc, original)?;
+    Ok(Harvest::new_part(archive, &original, revision, mementos)?)
+}
+
+/// The merge of a whole harvest with mementos of these seconds at these addresses.
 pub fn merge(
     alloc: Global,
     archive: &[u8],
@@ -30,6 +43,18 @@ pub fn merge(
 ) -> Result<Merge> {
     let mementos = texts::mementos(alloc, captures)?;
     Ok(Merge::Harvest(harvest(alloc, archive, original, revision, mementos)?))
+}
+
+/// The merge of a part harvest with mementos of these seconds at these addresses.
+pub fn part_merge(
+    alloc: Global,
+    archive: &[u8],
+    original: &[u8],
+    revision: u64,
+    captures: &[(u64, &[u8])],
+) -> Result<Merge> {
+    let mementos = texts::mementos(alloc, captures)?;
+    Ok(Merge::Harvest(part_harvest(alloc, archive, original, revision, mementos)?))
 }
 
 fn items(alloc: Global, values: &[&[u8]]) -> Result<Items<Octets>> {

@@ -1,18 +1,16 @@
 -- The steps of a state's changes.
-use Rattle.std.proofs.Common.{◌≡◌, ℕ, zero, suc, ◌+◌, ◌<◌, ◌≤◌, Bool, true, false, cond, eqb, max, ◌&&◌, ◌||◌, map, take, length, get_or, List, [], ◌∷◌, ◌++◌, Option, Some, None, IfSome, inl, inr, refl, sym, ap, subst, ◌∙◌, arith}
+use Rattle.std.proofs.Common.{◌≡◌, ℕ, zero, suc, ◌+◌, ◌<◌, ◌≤◌, Bool, true, false, cond, ◌||◌, map, take, length, get_or, List, [], ◌∷◌, ◌++◌, Option, Some, None, IfSome, refl, sym, ap, subst, ◌∙◌, arith}
 use Rattle.std.specs.List.{AllByRecursion}
 use Rattle.std.specs.List.Sorted.{IsStrictlySortedBy}
-use Rattle.std.specs.Ordering.{eq_by_cmp, is_eq}
+use Rattle.std.specs.Ordering.{eq_by_cmp, is_eq, nat_cmp}
 use Rattle.std.specs.declared.cmp.Ordering.TheVariants.{Less}
 use Rattle.std.specs.FinMap as fmap
 use Rattle.std.specs.BTreeMap as tree
 use Rattle.std.specs.BTreeMap.{is_at}
-use Rattle.std.specs.Option.{MatchOption}
 use Rattle.std.specs.Cmp.{eq_by_cmp_equiv, Equal-is, tied_itself}
 use Rattle.std.specs.Cmp.Lexicographic.{nat_list_cmp_total}
-use Rattle.std.proofs.lemmas.Bool.{cases_lt}
-use Rattle.std.proofs.lemmas.Bool.Decides.{nat_tests}
 use Rattle.std.proofs.lemmas.List.{take_more}
+use Rattle.std.proofs.lemmas.Option.{same_Some}
 use Rattle.std.specs.List.{list_any, slice_get}
 use Rattle.memento_time.specs.Mementos.{text_cmp, memento_cmp}
 use Rattle.memento_time.specs.declared.mementos.Memento.{Memento}
@@ -20,11 +18,15 @@ use Rattle.memento_time.proofs.MementoLemmas.{memento_cmp_exact}
 use Rattle.memento_sets.specs.Sets as set
 use Rattle.memento_sets.specs.MementoSets.{Mementos}
 use Rattle.memento_sets.proofs.Sets.{items_sorted}
-use Rattle.harvest_lattice.specs.Lattice.{Key, Kept, Entries, IsAtMostAt, KeptAtMost, join_at}
+use Rattle.harvest_lattice.specs.Lattice.{Key, Kept, Entries, held, IsAtMostAt, KeptAtMost, is_whole-kept_from, join_kept, join_at, same_parts}
+use Rattle.harvest_lattice.specs.Knowledge.{mementos_of}
 use Rattle.harvest_lattice.specs.News.{AreApart, IsFresh, IsNews}
+use Rattle.harvest_lattice.specs.Parts.{kept_in, AreOfOne}
 use Rattle.harvest_lattice.specs.Rows.{row_entry}
 use Rattle.harvest_lattice.specs.declared.row.Row.{Row}
-use Rattle.harvest_lattice.proofs.Entries.{contains-join_kept}
+use Rattle.harvest_lattice.proofs.Entries.{unite, contains-union, revision_itself, join_from_at_most}
+use Rattle.harvest_lattice.proofs.Parts.{entries_in, entries_of_it, alone_joined}
+use Rattle.harvest_lattice.proofs.ShownLemmas.{shown_of_one}
 use Rattle.harvest_lattice.proofs.RowLemmas.{map_push}
 use Rattle.memento_index.proofs.Puts.{joined_there, joined_alone}
 use Rattle.harvest_lattice.proofs.ShelfLemmas.{same_text}
@@ -33,7 +35,7 @@ use Rattle.memento_index.specs.declared.counted.Step.{Step}
 use Rattle.memento_index.specs.declared.counted.Steps.{Steps}
 use Rattle.memento_index.specs.Counts.{once, occurrences, beginnings, endings}
 use Rattle.memento_index.specs.Showing.{shows_one, showing_by, shown_before, shown_after}
-use Rattle.memento_index.specs.Lists.{Lists, StepLists, each_begins, steps_in, steps_or_none, steps_of, tally_of, IsFirst, AreFirst, AreNews, IsNewsAt, IsShifted, AreGathered}
+use Rattle.memento_index.specs.Lists.{Lists, StepLists, each_begins, steps_in, steps_or_none, steps_of, tally_of, IsFirst, AreFirst, AreNews, IsNewsAt, IsReplaced, AreStepped, IsShifted, AreGathered}
 use Rattle.memento_index.proofs.Shared.{all_begin, none_ends}
 
 -- ---- a set's members in order stand once each
@@ -63,48 +65,113 @@ held_items s m = held_any (set.items s) (items_sorted memento_cmp s) m ∙ ap (�
 
 -- ---- what an entry makes of the one that stands at its key
 
-united : (a e : ℕ) (p q : Bool) → a ≡ e → ((eqb a (max a e) && p) || (eqb e (max a e) && q)) ≡ (p || q)
-united a e p q same = grind (arith, nat_tests)
+-- an entry of one revision is made of it
+kept_itself : (k : Kept) (p : ℕ × Mementos) → fmap.entries k.revisions ≡ p ∷ [] → kept_in k.is_whole p [] ≡ k
+kept_itself k p is =
+    let made : (kept_in k.is_whole p []).revisions ≡ k.revisions = fmap.same_entries_map _ _ (entries_in k.is_whole p [] tt ∙ sym is) in
+    same_parts _ _ (λ i. (is_whole-kept_from k.is_whole p.0 p.1 (fmap.from_entries []) i, made i))
 
-newer : (a e : ℕ) (p q : Bool) → a < e → ((eqb a (max a e) && p) || (eqb e (max a e) && q)) ≡ q
-newer a e true true lt = grind (arith, nat_tests)
-newer a e true false lt = grind (arith, nat_tests)
-newer a e false true lt = grind (arith, nat_tests)
-newer a e false false lt = grind (arith, nat_tests)
+-- two of one and the same revision are united there
+one_joined : (a e : Kept) (one : AreOfOne a e) → mementos_of (join_kept a e) ≡ unite one.1 one.2
+one_joined a e one =
+    let r = one.0 in
+    let s = one.1 in
+    let t = one.2 in
+    let joined = alone_joined a.is_whole e.is_whole (r, s) (r, t) [] [] a e (kept_itself a (r, s) one.3) (kept_itself e (r, t) one.4) tt tt one in
+    sym (shown_of_one (join_kept a e) (r, unite s t) (entries_of_it (a.is_whole || e.is_whole) (r, unite s t) [] (join_kept a e) joined.1 joined.0))
+
+held_one : (k : Kept) (r : ℕ) (s : Mementos) → fmap.entries k.revisions ≡ (r, s) ∷ [] → held k r ≡ Some s
+held_one k r s is = fmap.get-entries k.revisions r ∙ (ap (fmap.find nat_cmp r) is ∙ ap (λ b. cond b (Some s) None) (revision_itself r))
 
 -- beside what is held at its revision
-pub comes_beside : (x : Entries) (e : Key × Kept) (a : Kept) → fmap.get x e.0 ≡ Some a → a.revision ≡ e.1.revision → IsNewsAt x e → (m : Memento) → shows_one (Some (join_at x e)) m + 0 ≡ shows_one (fmap.get x e.0) m + occurrences (set.items e.1.mementos) m
-comes_beside x e a there same news m =
-    let joined : set.contains (join_at x e).mementos m ≡ (set.contains a.mementos m || set.contains e.1.mementos m) = ap (λ (k : Kept). set.contains k.mementos m) (joined_there x e a there) ∙ (contains-join_kept a e.1 m ∙ united a.revision e.1.revision (set.contains a.mementos m) (set.contains e.1.mementos m) same) in
-    let apart : AreApart a.mementos e.1.mementos = (subst (λ (o : Option Kept). IfSome o (λ k. k.revision ≡ e.1.revision → AreApart k.mementos e.1.mementos)) there news.1) same in
-    let after = ap (λ b. cond {A = ℕ} b 1 0) joined in
-    let before = ap (λ (o : Option Kept). shows_one o m) there in
-    let sums = sum_of (set.contains a.mementos m) (set.contains e.1.mementos m) (apart m) in
-    omega (arith, after, before, sums, held_items e.1.mementos m)
+pub comes_beside : (x : Entries) (e : Key × Kept) (a : Kept) (before after : List Memento) → fmap.get x e.0 ≡ Some a → AreOfOne a e.1 → IsNewsAt x e → before ≡ [] → after ≡ set.items (mementos_of e.1) → IsReplaced x e before after
+comes_beside x e a before after there one news none new = record {
+  shows = λ m. omega (arith, joins m, was m, come m, nothing m);
+  shown = λ m. omega (arith, nothing m);
+}
   where
+    apart : AreApart one.1 one.2
+    apart =
+        let at : IfSome (held a one.0) (λ s. IfSome (held e.1 one.0) (λ t. AreApart s t)) =
+        (subst (λ (o : Option Kept). IfSome o (λ k. (r : ℕ) → IfSome (held k r) (λ s. IfSome (held e.1 r) (λ t. AreApart s t)))) there news.1) one.0 in
+        subst (λ (v : Option Mementos). IfSome v (λ t. AreApart one.1 t)) (held_one e.1 one.0 one.2 one.4)
+        (subst (λ (v : Option Mementos). IfSome v (λ s. IfSome (held e.1 one.0) (λ t. AreApart s t))) (held_one a one.0 one.1 one.3) at)
+
     sum_of : (p q : Bool) → (p ≡ true → q ≡ true → ⊥) → cond {A = ℕ} (p || q) 1 0 ≡ cond {A = ℕ} p 1 0 + cond {A = ℕ} q 1 0
     sum_of true true apart = absurd (apart refl refl)
     sum_of true false apart = refl
     sum_of false q apart = omega arith
 
--- or in the place of what is held at a lesser one
-pub takes_place : (x : Entries) (e : Key × Kept) (a : Kept) → fmap.get x e.0 ≡ Some a → (a.revision ≡ e.1.revision → ⊥) → IsNewsAt x e → (m : Memento) → shows_one (Some (join_at x e)) m + occurrences (set.items a.mementos) m ≡ shows_one (fmap.get x e.0) m + occurrences (set.items e.1.mementos) m
-takes_place x e a there other news m =
-    let lt : a.revision < e.1.revision = elim (cases_lt a.revision e.1.revision) [
-      | inl lt ↦ lt
-      | inr ge ↦ absurd (news.0 (subst (λ (o : Option Kept). MatchOption o ⊥ (λ b. KeptAtMost e.1 b)) (sym there) (record { revision = ge; mementos = λ same. absurd (other (sym same)) })))
-    ] in
-    let joined : set.contains (join_at x e).mementos m ≡ set.contains e.1.mementos m = ap (λ (k : Kept). set.contains k.mementos m) (joined_there x e a there) ∙ (contains-join_kept a e.1 m ∙ newer a.revision e.1.revision (set.contains a.mementos m) (set.contains e.1.mementos m) lt) in
-    let after = ap (λ b. cond {A = ℕ} b 1 0) joined in
-    let before = ap (λ (o : Option Kept). shows_one o m) there in
-    omega (arith, after, before, held_items e.1.mementos m, held_items a.mementos m)
+    nothing : (m : Memento) → occurrences before m ≡ 0
+    nothing m = ap (λ (ms : List Memento). occurrences ms m) none
+
+    was : (m : Memento) → shows_one (fmap.get x e.0) m ≡ cond (set.contains one.1 m) 1 0
+    was m = ap (λ (o : Option Kept). shows_one o m) there ∙ ap (λ (s : Mementos). cond (set.contains s m) 1 0) (sym (shown_of_one a (one.0, one.1) one.3))
+
+    come : (m : Memento) → occurrences after m ≡ cond (set.contains one.2 m) 1 0
+    come m =
+        ap (λ (ms : List Memento). occurrences ms m) new
+        ∙ (held_items (mementos_of e.1) m ∙ ap (λ (s : Mementos). cond (set.contains s m) 1 0) (sym (shown_of_one e.1 (one.0, one.2) one.4)))
+
+    joins : (m : Memento) → shows_one (Some (join_at x e)) m ≡ cond (set.contains one.1 m) 1 0 + cond (set.contains one.2 m) 1 0
+    joins m =
+        ap (λ (k : Kept). shows_one (Some k) m) (joined_there x e a there)
+        ∙ (ap (λ (s : Mementos). cond (set.contains s m) 1 0) (one_joined a e.1 one)
+        ∙ (ap (λ b. cond b 1 0) (contains-union one.1 one.2 m) ∙ sum_of (set.contains one.1 m) (set.contains one.2 m) (apart m)))
+
+-- or in the place of all that is held
+pub takes_place : (x : Entries) (e : Key × Kept) (a : Kept) (before after : List Memento) → fmap.get x e.0 ≡ Some a → before ≡ set.items (mementos_of a) → after ≡ set.items (mementos_of (join_kept a e.1)) → IsReplaced x e before after
+takes_place x e a before after there old new = record {
+  shows = λ m. omega (arith, now m, was m, come m, gone m);
+  shown = λ m. omega (arith, was m, gone m);
+}
+  where
+    was : (m : Memento) → shows_one (fmap.get x e.0) m ≡ cond (set.contains (mementos_of a) m) 1 0
+    was m = ap (λ (o : Option Kept). shows_one o m) there
+
+    now : (m : Memento) → shows_one (Some (join_at x e)) m ≡ cond (set.contains (mementos_of (join_kept a e.1)) m) 1 0
+    now m = ap (λ (k : Kept). shows_one (Some k) m) (joined_there x e a there)
+
+    gone : (m : Memento) → occurrences before m ≡ cond (set.contains (mementos_of a) m) 1 0
+    gone m = ap (λ (ms : List Memento). occurrences ms m) old ∙ held_items (mementos_of a) m
+
+    come : (m : Memento) → occurrences after m ≡ cond (set.contains (mementos_of (join_kept a e.1)) m) 1 0
+    come m = ap (λ (ms : List Memento). occurrences ms m) new ∙ held_items (mementos_of (join_kept a e.1)) m
 
 -- or where nothing is held
-pub comes_alone : (x : Entries) (e : Key × Kept) → fmap.get x e.0 ≡ None → (m : Memento) → shows_one (Some (join_at x e)) m + 0 ≡ shows_one (fmap.get x e.0) m + occurrences (set.items e.1.mementos) m
-comes_alone x e none m =
-    let after : shows_one (Some (join_at x e)) m ≡ shows_one (Some e.1) m = ap (λ (k : Kept). shows_one (Some k) m) (joined_alone x e none) in
-    let before = ap (λ (o : Option Kept). shows_one o m) none in
-    omega (arith, after, before, held_items e.1.mementos m)
+pub comes_alone : (x : Entries) (e : Key × Kept) (before after : List Memento) → fmap.get x e.0 ≡ None → before ≡ [] → after ≡ set.items (mementos_of e.1) → IsReplaced x e before after
+comes_alone x e before after none nil new = record {
+  shows = λ m. omega (arith, now m, was m, come m, nothing m);
+  shown = λ m. omega (arith, nothing m);
+}
+  where
+    nothing : (m : Memento) → occurrences before m ≡ 0
+    nothing m = ap (λ (ms : List Memento). occurrences ms m) nil
+
+    was : (m : Memento) → shows_one (fmap.get x e.0) m ≡ 0
+    was m = ap (λ (o : Option Kept). shows_one o m) none
+
+    now : (m : Memento) → shows_one (Some (join_at x e)) m ≡ cond (set.contains (mementos_of e.1) m) 1 0
+    now m = ap (λ (k : Kept). shows_one (Some k) m) (joined_alone x e none)
+
+    come : (m : Memento) → occurrences after m ≡ cond (set.contains (mementos_of e.1) m) 1 0
+    come m = ap (λ (ms : List Memento). occurrences ms m) new ∙ held_items (mementos_of e.1) m
+
+-- where the one that stands is at most the other, both together are the other
+pub joins_to : (a e : Kept) → KeptAtMost a e → join_kept a e ≡ e
+joins_to a e le = join_from_at_most a e le
+
+-- a single revision, by how many there are and the first one
+only_one : (es : List (ℕ × Mementos)) (r : ℕ) → length es ≡ 1 → slice_get (map (λ e. e.0) es) 0 ≡ Some r → (s : Mementos) × (es ≡ (r, s) ∷ [])
+only_one [] r len first = absurd (omega arith)
+only_one (e ∷ []) r len first = (e.1, λ i. (same_Some e.0 r first i, e.1) ∷ [])
+only_one (e ∷ f ∷ es) r len first = absurd (omega arith)
+
+pub are_of_one : (a b : Kept) (m n r q : ℕ) → m ≡ fmap.len a.revisions → n ≡ fmap.len b.revisions → m ≡ 1 → n ≡ 1 → slice_get (fmap.keys a.revisions) 0 ≡ Some r → slice_get (fmap.keys b.revisions) 0 ≡ Some q → r ≡ q → AreOfOne a b
+are_of_one a b m n r q ma nb one1 one2 fa fb same =
+    let left = only_one (fmap.entries a.revisions) r (sym (fmap.len-entries a.revisions) ∙ (sym ma ∙ one1)) fa in
+    let right = only_one (fmap.entries b.revisions) q (sym (fmap.len-entries b.revisions) ∙ (sym nb ∙ one2)) fb in
+    (r, left.0, right.0, left.1, right.1 ∙ ap (λ p. (p, right.0) ∷ []) (sym same))
 
 -- ---- steps added
 
@@ -116,19 +183,25 @@ endings-append : (ss ts : List Step) (m : Memento) → endings (ss ++ ts) m ≡ 
 endings-append [] ts m = omega arith
 endings-append (s ∷ ss) ts m = let rest = endings-append ss ts m in omega (arith, rest)
 
-pub shifted : (x : Entries) (e : Key × Kept) (old more new : List Step) (before after : List Memento) → new ≡ old ++ more → ((m : Memento) → beginnings more m + occurrences before m ≡ endings more m + occurrences after m) → ((m : Memento) → endings more m ≤ occurrences before m) → ((m : Memento) → shows_one (Some (join_at x e)) m + occurrences before m ≡ shows_one (fmap.get x e.0) m + occurrences after m) → ((m : Memento) → occurrences before m ≤ shows_one (fmap.get x e.0) m) → IsShifted x e old new
-shifted x e old more new before after is counts shown replaced within = record {
-  counts = λ m. omega (arith, counts m, replaced m, within m, shown m, ap (λ (ss : List Step). beginnings ss m) is, ap (λ (ss : List Step). endings ss m) is, beginnings-append old more m, endings-append old more m);
-  shown = λ m. omega (arith, within m, shown m, ap (λ (ss : List Step). endings ss m) is, endings-append old more m);
+pub stepped : (before after : List Memento) (old more new : List Step) → new ≡ old ++ more → ((m : Memento) → beginnings more m + occurrences before m ≡ endings more m + occurrences after m) → ((m : Memento) → endings more m ≤ occurrences before m) → AreStepped before after old new
+stepped before after old more new is counts shown = record {
+  counts = λ m. omega (arith, counts m, shown m, ap (λ (ss : List Step). beginnings ss m) is, ap (λ (ss : List Step). endings ss m) is, beginnings-append old more m, endings-append old more m);
+  shown = λ m. omega (arith, shown m, ap (λ (ss : List Step). endings ss m) is, endings-append old more m);
+}
+
+-- the steps from what goes to what comes are those of the archive
+pub shifted : (x : Entries) (e : Key × Kept) (before after : List Memento) (old new : List Step) → IsReplaced x e before after → AreStepped before after old new → IsShifted x e old new
+shifted x e before after old new replaced steps = record {
+  counts = λ m. omega (arith, replaced.shows m, replaced.shown m, steps.counts m, steps.shown m);
+  shown = λ m. omega (arith, replaced.shown m, steps.shown m);
 }
 
 -- all of a list begins, where it replaces nothing
-pub shifted_first : (x : Entries) (e : Key × Kept) (before : List Memento) → length before ≡ 0 → ((m : Memento) → shows_one (Some (join_at x e)) m + occurrences before m ≡ shows_one (fmap.get x e.0) m + occurrences (set.items e.1.mementos) m) → IsShifted x e [] (each_begins (set.items e.1.mementos))
-shifted_first x e [] none replaced = record {
-  counts = λ m. omega (arith, replaced m, all_begin (set.items e.1.mementos) m, none_ends (set.items e.1.mementos) m);
-  shown = λ m. omega (arith, none_ends (set.items e.1.mementos) m);
+pub shifted_first : (x : Entries) (e : Key × Kept) (before : List Memento) (after : Mementos) → IsReplaced x e before (set.items after) → before ≡ [] → IsShifted x e [] (each_begins (set.items after))
+shifted_first x e before after replaced none = record {
+  counts = λ m. omega (arith, replaced.shows m, ap (λ (ms : List Memento). occurrences ms m) none, all_begin (set.items after) m, none_ends (set.items after) m);
+  shown = λ m. omega (arith, none_ends (set.items after) m);
 }
-shifted_first x e (m ∷ ms) none replaced = absurd (omega arith)
 
 -- ---- steps taken out and put back
 

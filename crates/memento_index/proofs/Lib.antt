@@ -9,3 +9,4 @@ pub mod Listed
 pub mod Shared
 pub mod Columns
 pub mod Gathering
+pub mod Archives

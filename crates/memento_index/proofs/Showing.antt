@@ -10,11 +10,15 @@ use Rattle.std.proofs.lemmas.Bool.{true≢false}
 use Rattle.memento_time.specs.Mementos.{text_cmp, memento_cmp}
 use Rattle.memento_time.specs.declared.mementos.Memento.{Memento}
 use Rattle.memento_sets.specs.Sets as set
+use Rattle.memento_sets.specs.MementoSets.{Mementos}
 use Rattle.memento_sets.proofs.Sets.{two_parts, both_parts, less_from, contains-empty}
 use Rattle.harvest_lattice.specs.Lattice.{Key, key_cmp, Kept, Entries, join}
-use Rattle.harvest_lattice.specs.Knowledge.{shown_of}
+use Rattle.harvest_lattice.specs.Knowledge.{mementos_of, shown_of}
+use Rattle.harvest_lattice.specs.Parts.{kept_in}
 use Rattle.harvest_lattice.proofs.Entries.{key_cmp_total, key_cmp_exact}
 use Rattle.harvest_lattice.proofs.Knowledge.{contains-shown_of, below_none}
+use Rattle.harvest_lattice.proofs.Parts.{entries_in}
+use Rattle.harvest_lattice.proofs.ShownLemmas.{shown_of_one}
 use Rattle.memento_index.proofs.Puts.{put_all, or_else, joined_with, get-put_all, put_joined, joined_sorted}
 use Rattle.memento_index.specs.Showing.{shows_one, showing_by, showing, shown_before, shown_after}
 
@@ -88,8 +92,16 @@ join_shows x y o m =
 
 -- ---- what showed before
 
+-- an entry that shows nothing
+nothing : Kept
+nothing = kept_in false (0, set.empty) []
+
+shows_nothing : (m : Memento) → set.contains (mementos_of nothing) m ≡ false
+unfolding nothing
+shows_nothing m = ap (λ (s : Mementos). set.contains s m) (sym (shown_of_one nothing (0, set.empty) (entries_in false (0, set.empty) [] tt))) ∙ contains-empty memento_cmp m
+
 bare : Key × Kept → Key × Kept
-bare e = (e.0, record { revision = 0; mementos = set.empty })
+bare e = (e.0, nothing)
 
 bare_below : (k : Key) (es : List (Key × Kept)) → T (below_all key_cmp k es) → T (below_all key_cmp k (map bare es))
 unfolding bare
@@ -106,7 +118,7 @@ unfolding bare
 bare_shows [] o m = refl
 bare_shows (e ∷ es) o m =
     let rest = bare_shows es o m in
-    let none : of_original o e.0 (Some (record { revision = 0; mementos = set.empty })) m ≡ 0 = ap (λ b. cond (eq_by_cmp text_cmp o e.0.1) (cond b 1 0) 0) (contains-empty memento_cmp m) ∙ no_one o e.0 m in
+    let none : of_original o e.0 (Some nothing) m ≡ 0 = ap (λ b. cond (eq_by_cmp text_cmp o e.0.1) (cond b 1 0) 0) (shows_nothing m) ∙ no_one o e.0 m in
     omega (arith, rest, none)
 
 bare_before : (x : Entries) (es : List (Key × Kept)) (o : List ℕ) (m : Memento) → showing_by (λ e. fmap.get x e.0) (map bare es) o m ≡ shown_before x es o m
@@ -128,7 +140,7 @@ one-le o k kept m = elim (eq_by_cmp text_cmp o k.1) as (λ b. cond b (shows_one 
   where
     some : (kept : Option Kept) → shows_one kept m ≤ 1
     some None = omega arith
-    some (Some kept) = elim (set.contains kept.mementos m) as (λ b. cond {A = ℕ} b 1 0 ≤ 1) [ true ↦ omega arith | false ↦ omega arith ]
+    some (Some kept) = elim (set.contains (mementos_of kept) m) as (λ b. cond {A = ℕ} b 1 0 ≤ 1) [ true ↦ omega arith | false ↦ omega arith ]
 
 by-le : (es : List (Key × Kept)) (o : List ℕ) (m : Memento) → showing_by (λ e. Some e.1) es o m ≤ length es
 by-le [] o m = omega arith
@@ -139,10 +151,10 @@ showing-le x o m = omega (arith, by-le (fmap.entries x) o m, fmap.len-entries x)
 
 -- ---- what is shown
 
-any_shows : (es : List (Key × Kept)) (o : List ℕ) (m : Memento) → (list_any (λ (e : Key × Kept). eq_by_cmp text_cmp o e.0.1 && set.contains e.1.mementos m) es ≡ true → 0 < showing_by (λ e. Some e.1) es o m) × (list_any (λ (e : Key × Kept). eq_by_cmp text_cmp o e.0.1 && set.contains e.1.mementos m) es ≡ false → showing_by (λ e. Some e.1) es o m ≡ 0)
+any_shows : (es : List (Key × Kept)) (o : List ℕ) (m : Memento) → (list_any (λ (e : Key × Kept). eq_by_cmp text_cmp o e.0.1 && set.contains (mementos_of e.1) m) es ≡ true → 0 < showing_by (λ e. Some e.1) es o m) × (list_any (λ (e : Key × Kept). eq_by_cmp text_cmp o e.0.1 && set.contains (mementos_of e.1) m) es ≡ false → showing_by (λ e. Some e.1) es o m ≡ 0)
 any_shows [] o m = (λ h. absurd (true≢false (sym h)), λ _. refl)
 any_shows (e ∷ es) o m =
-    by (eq_by_cmp text_cmp o e.0.1) (set.contains e.1.mementos m) (list_any (λ (e : Key × Kept). eq_by_cmp text_cmp o e.0.1 && set.contains e.1.mementos m) es) (showing_by (λ e. Some e.1) es o m) (any_shows es o m)
+    by (eq_by_cmp text_cmp o e.0.1) (set.contains (mementos_of e.1) m) (list_any (λ (e : Key × Kept). eq_by_cmp text_cmp o e.0.1 && set.contains (mementos_of e.1) m) es) (showing_by (λ e. Some e.1) es o m) (any_shows es o m)
   where
     by : (a b c : Bool) (n : ℕ) → (c ≡ true → 0 < n) × (c ≡ false → n ≡ 0) → (((a && b) || c) ≡ true → 0 < cond a (cond b 1 0) 0 + n) × (((a && b) || c) ≡ false → cond a (cond b 1 0) 0 + n ≡ 0)
     by true true c n h = (λ _. omega arith, λ f. absurd (true≢false f))

@@ -1,5 +1,6 @@
 -- The lists of an index.
 use Rattle.std.specs.Prelude.{◌≡◌, ◌≢◌, ℕ, ◌+◌, ◌≤◌, true, List, [], length, map, Option, Some, None, IfSome}
+use Rattle.std.specs.declared.sync.Arc.{Arc}
 use Rattle.std.specs.Arc.{arc_value}
 use Rattle.std.specs.BTreeMap as tree
 use Rattle.std.specs.BTreeMap.{BTreeMap}
@@ -7,13 +8,14 @@ use Rattle.memento_time.specs.Mementos.{text_cmp}
 use Rattle.memento_time.specs.declared.mementos.Memento.{Memento}
 use Rattle.std.specs.FinMap as fmap
 use Rattle.memento_sets.specs.Sets as set
+use Rattle.memento_sets.specs.MementoSets.{Mementos}
 use Rattle.harvest_lattice.specs.Lattice.{Key, Kept, Entries, IsAtMostAt, join_at}
 use Rattle.harvest_lattice.specs.News.{IsFresh}
 use Rattle.memento_index.specs.declared.counted.Counted.{Counted}
 use Rattle.memento_index.specs.declared.counted.Step.{Step}
 use Rattle.memento_index.specs.declared.counted.Steps.{Steps}
 use Rattle.memento_index.specs.declared.counted.Steps.TheVariants.{First, Each}
-use Rattle.memento_index.specs.Counts.{IsTally, count_of, beginnings, endings}
+use Rattle.memento_index.specs.Counts.{IsTally, count_of, occurrences, beginnings, endings}
 use Rattle.memento_index.specs.Showing.{shows_one, showing, shown_before, shown_after}
 use Rattle.memento_index.specs.Tallies.{Tallied}
 
@@ -99,13 +101,30 @@ pub record CanCount (entries : List Counted) (steps : List Step) : Type 0 where
   pub shown : (m : Memento) → endings steps m ≤ count_of entries m
   pub few : (m : Memento) → count_of entries m + beginnings steps m ≤ 18446744073709551615
 
--- an entry alters what stands at its key, and repeats nothing that stands there at its revision
+-- an entry alters what stands at its key, and repeats nothing that stands there at one of its revisions
 abbrev pub IsNewsAt : Entries → Key × Kept → Type 0
 IsNewsAt x e = (IsAtMostAt x e → ⊥) × IsFresh x e.0 e.1
 
 -- and so does each entry of these
 abbrev pub AreNews : Entries → Entries → Type 0
 AreNews x news = (k : Key) → IfSome (fmap.get news k) (λ e. IsNewsAt x (k, e))
+
+-- the mementos of a shared list: none where there is no list
+abbrev pub shared_mementos : {A : Type 0} → Option (Arc Mementos A) → List Memento
+shared_mementos None = []
+shared_mementos (Some list) = set.items (arc_value list)
+
+-- as an entry is joined, its archive shows the mementos after in the place of those before, which it showed
+pub record IsReplaced (x : Entries) (e : Key × Kept) (before after : List Memento) : Type 0 where
+  pub shows : (m : Memento) → shows_one (Some (join_at x e)) m + occurrences before m
+      ≡ shows_one (fmap.get x e.0) m + occurrences after m
+  pub shown : (m : Memento) → occurrences before m ≤ shows_one (fmap.get x e.0) m
+
+-- to these steps come those from one list to another
+pub record AreStepped (before after : List Memento) (old new : List Step) : Type 0 where
+  pub counts : (m : Memento) → beginnings new m + (endings old m + occurrences before m)
+      ≡ beginnings old m + (endings new m + occurrences after m)
+  pub shown : (m : Memento) → endings new m ≤ endings old m + occurrences before m
 
 -- what these steps say of an entry's archive, as the entry is joined: what it begins to show, and what it ceases to
 pub record IsShifted (x : Entries) (e : Key × Kept) (old new : List Step) : Type 0 where

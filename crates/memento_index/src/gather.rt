@@ -1,23 +1,21 @@
 // What changes of a state begin and cease to show.
-ghost use Rattle.std.specs.Prelude.{◌≡◌, ◌+◌, ◌≤◌, ℕ, List, [], false, cond, IsTrue, IfOk, OnOk, Some, None};
+ghost use Rattle.std.specs.Prelude.{◌≡◌, ℕ, List, [], false, cond, IsTrue, IfOk, OnOk, None};
+ghost use Rattle.std.specs.Arc.{arc_value};
 ghost use Rattle.std.specs.BTreeMap as tree;
 ghost use Rattle.std.specs.FinMap as map;
 ghost use Rattle.std.specs.Ordering.{eq_by_cmp};
 ghost use Rattle.memento_time.specs.Mementos.{text_cmp};
-ghost use Rattle.memento_time.specs.declared.mementos.Memento.{Memento as AMemento};
 ghost use Rattle.memento_sets.specs.Sets as set;
-ghost use Rattle.harvest_lattice.specs.Lattice.{join_at};
-ghost use Rattle.harvest_lattice.specs.Rows.{row_entry, row_key};
-ghost use Rattle.memento_index.specs.Counts.{occurrences};
-ghost use Rattle.memento_index.specs.Showing.{shows_one};
-ghost use Rattle.memento_index.specs.Lists.{each_begins, steps_in, steps_of, tally_of, IsFirst, AreFirst, AreNews};
-ghost use Rattle.memento_index.specs.Lists.{IsNewsAt, IsShifted, AreGathered};
+ghost use Rattle.harvest_lattice.specs.Rows.{row_entry};
+ghost use Rattle.memento_index.specs.Lists.{shared_mementos, steps_in, steps_of, tally_of, IsFirst, AreFirst, AreNews};
+ghost use Rattle.memento_index.specs.Lists.{IsNewsAt, IsShifted, AreStepped, AreGathered};
 
 use crate::counted::{Step, Steps};
 use crate::lists::{Lists, StepLists};
+use crate::replacement::Replacement;
 use crate::steps::steps_between;
 use harvest_lattice::{Changes, Row, State};
-use memento_time::{Items, Memento, NoMemory, Original};
+use memento_time::{Items, NoMemory, Original};
 use std::alloc::Global;
 use std::collections::BTreeMap;
 
@@ -79,27 +77,30 @@ fn take_more_steps(
         ≡ cond (eq_by_cmp text_cmp row.now.original o) None (tree.get text_cmp all.old o)) }
     ensures first { IfOk result (IsFirst (tally_of lists.now row.now.original)) }
 {
-    if comes_first(all, state, lists, row) {
-        let list = row.entry().share()?;
-        return Ok(Steps::First(list));
+    let made = Replacement::by(state, row)?;
+    if comes_first(all, lists, row.original(), &made) {
+        return Ok(Steps::First(made.into_after()));
     }
     let mut steps = take_steps(all, alloc, row.original())?;
-    push_steps(&mut steps, alloc, state, row)?;
+    push_steps(&mut steps, alloc, &made)?;
     Ok(Steps::Each(Items::of(steps)))
 }
 
-// Whether nothing is listed of a row's original, and all of the row's list begins.
-fn comes_first(all: &StepLists, state: &State, lists: &Lists, row: &Row) -> bool
-    requires { IsNewsAt state.now (row_entry row.now) }
-    ensures alone { IsTrue result → tree.get text_cmp all.now row.now.original ≡ None }
-    ensures first { IsTrue result → tally_of lists.now row.now.original ≡ [] }
-    ensures shifted { IsTrue result
-        → IsShifted state.now (row_entry row.now) [] (each_begins (set.items row.now.entry.mementos)) }
+// Whether nothing is listed of an original, and nothing is replaced.
+fn comes_first(
+    all: &StepLists,
+    lists: &Lists,
+    original: &Original,
+    replacement: &Replacement,
+) -> bool
+    ensures alone { IsTrue result → tree.get text_cmp all.now original.now ≡ None }
+    ensures first { IsTrue result → tally_of lists.now original.now ≡ [] }
+    ensures beside { IsTrue result → shared_mementos replacement.now.before ≡ [] }
 {
-    if all.contains_key(row.original()) || lists.contains_key(row.original()) {
+    if all.contains_key(original) || lists.contains_key(original) {
         return false;
     }
-    mementos_to_replace(state, row).is_empty()
+    replacement.before().is_empty()
 }
 
 // Takes out the steps of an original, one by one.
@@ -118,44 +119,21 @@ fn take_steps(
     }
 }
 
-// Adds what the archive of a row begins and ceases to show.
+// Adds what an archive begins and ceases to show.
 fn push_steps(
     steps: &mut Vec<Step>,
     alloc: Global,
-    state: &State,
-    row: &Row,
+    replacement: &Replacement,
 ) -> Result<(), NoMemory>
-    requires { IsNewsAt state.now (row_entry row.now) }
-    ensures { OnOk result (IsShifted state.now (row_entry row.now) steps.old.items steps.new.items) }
+    ensures { OnOk result
+        (AreStepped (shared_mementos replacement.now.before) (set.items (arc_value replacement.now.after))
+        steps.old.items steps.new.items) }
 {
-    let mut more = steps_between(
-        alloc,
-        mementos_to_replace(state, row),
-        row.entry().mementos(),
-    )?;
+    let mut more = steps_between(alloc, replacement.before(), replacement.after())?;
     if steps.is_empty() {
         *steps = more;
         return Ok(());
     }
     steps.append(&mut more)?;
     Ok(())
-}
-
-// The mementos in whose place those of a row stand: none where they come beside what is held.
-fn mementos_to_replace<'a>(state: &'a State, row: &Row) -> &'a [Memento]
-    requires { IsNewsAt state.now (row_entry row.now) }
-    ensures replaced { (m : AMemento)
-        → shows_one (Some (join_at state.now (row_entry row.now))) m + occurrences result.now m
-        ≡ shows_one (map.get state.now (row_key row.now)) m + occurrences (set.items row.now.entry.mementos) m }
-    ensures held { (m : AMemento) → occurrences result.now m ≤ shows_one (map.get state.now (row_key row.now)) m }
-{
-    match state.entry(row.archive(), row.original()) {
-        Some(entry) => {
-            if entry.revision() == row.entry().revision() {
-                return &[];
-            }
-            entry.mementos()
-        }
-        None => &[],
-    }
 }

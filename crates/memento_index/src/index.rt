@@ -64,8 +64,8 @@ impl Index {
     /// It has all its memory before the first change, and then changes only the counts of what begins or ceases to be
     /// shown. It takes time in the size of what it takes and of the entries at its keys; of a list that changes, in
     /// what stands from the first change on; and logarithmic in the number of keys and of lists. An original's first
-    /// list is shared with the entry that shows it, and copied once, when it first changes. Neither the number of
-    /// archives nor the lists that don't change make a difference.
+    /// list is shared with the entry that shows it, if that has one revision, and copied once, when it first changes.
+    /// Neither the number of archives nor the lists that don't change make a difference.
     pub fn absorb(&mut self, merge: &Merge) -> Result<(), NoMemory>
         ensures ok { OnOk result (self.new ≡ join self.old (lat (adds_of merge.now))) }
         ensures stands { (hs : List Harvested) → self.old ≡ lat hs

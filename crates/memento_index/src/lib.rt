@@ -15,12 +15,13 @@ mod lists;
 mod merge;
 mod nearest;
 mod probed;
+mod replacement;
 mod steps;
 mod tally;
 
 pub use index::Index;
 pub use last::last_in;
-pub use laws::{distances_are_between, one_is_last, one_is_nearest};
+pub use laws::{archives_count_once, distances_are_between, one_is_last, one_is_nearest};
 pub use merge::Merge;
 pub use nearest::nearest_in;
 pub use probed::Probed;

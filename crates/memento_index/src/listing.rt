@@ -15,8 +15,8 @@ use std::alloc::Global;
 use std::marker::Model;
 use std::sync::Arc;
 
-// An original's first list is the set of the entry that shows it, shared, and has no columns. It gets columns of its
-// own when it first changes.
+// An original's first list is the set of the entry that shows it, shared where that has one revision, and has no
+// columns. It gets columns of its own when it first changes.
 #[derive(Debug, Drop)]
 pub struct Listing {
     shared: Option<Arc<Mementos>>,

@@ -112,9 +112,9 @@ module _ (w : World) (i k : ℕ) (r : Replica) (there : replica w i ≡ Some r) 
 fair_receipt : (w : World) (i : ℕ) (bytes : List ℕ) (r : Replica) (after : Entries → World) (why : Refused) (next : World) → replica w i ≡ Some r
     → IfText bytes (λ s. Merges w r Joined (after s)) (Refuses BadState w) (Err why) next → IsFair w (Receive i bytes) why next
 fair_receipt w i bytes r after why next there (inl (s, text, p)) =
-    fair_left w (Receive i bytes) (length r.merges) Joined (after s) why next p (λ last. ((r, there, last), (s, text.state, text.within, text.text)))
+    fair_left w (Receive i bytes) (length r.merges) Joined (after s) why next p (λ last. ((r, there, last), (s, text.text, text.within)))
 fair_receipt w i bytes r after why next there (inr (none, p)) =
-    fair w (Receive i bytes) why BadState next p ((r, there), λ s state few is. none s (record { state = state; text = is; within = few }))
+    fair w (Receive i bytes) why BadState next p ((r, there), λ s few is. none s (record { text = is; within = few }))
 
 fair_effect : (base : List ℕ) (w : World) (event : Event) (why : Refused) (next : World) → Effect base w event (Err why) next → IsFair w event why next
 fair_effect base w (Take i h) why next effect =
@@ -204,7 +204,7 @@ cause_refused base w (Take i h) BadState ((r, there), bad) other = absurd bad
 cause_refused base w (Send i) BadState ((r, there), bad) other = absurd bad
 cause_refused base w (SendFrom i n) BadState ((r, there), bad) other = absurd bad
 cause_refused base w (Deliver i k) BadState ((r, there), (m, found, many)) other = rw there (rw found (inr (many, (refl, refl))))
-cause_refused base w (Receive i bytes) BadState ((r, there), none) other = rw there (inr ((λ s text. none s text.state text.within text.text), (refl, refl)))
+cause_refused base w (Receive i bytes) BadState ((r, there), none) other = rw there (inr ((λ s text. none s text.within text.text), (refl, refl)))
 cause_refused base w (Restart i) BadState ((r, there), bad) other = absurd bad
 cause_refused base w (Ask i q) BadState ((r, there), bad) other = absurd bad
 cause_refused base w (Take i h) (Gap held) (r, m, is, gap) other = absurd (none-some is.number is.delivers)
@@ -218,8 +218,8 @@ cause_refused base w (Take i h) NumbersSpent (r, there, last) other = rw there (
 cause_refused base w (Send i) NumbersSpent spent other = absurd spent
 cause_refused base w (SendFrom i n) NumbersSpent spent other = absurd spent
 cause_refused base w (Deliver i k) NumbersSpent ((s, here, last), (r, m, held, is, no_gap)) other = spent_refused base w i k held s here last r m is no_gap
-cause_refused base w (Receive i bytes) NumbersSpent ((r, there, last), (s, state, few, text)) other =
-    rw there (inl (s, record { state = state; text = text; within = few }, inr (last, (refl, refl))))
+cause_refused base w (Receive i bytes) NumbersSpent ((r, there, last), (s, text, few)) other =
+    rw there (inl (s, record { text = text; within = few }, inr (last, (refl, refl))))
 cause_refused base w (Restart i) NumbersSpent ((r, there), last) other = rw there (inr (last, (refl, refl)))
 cause_refused base w (Ask i q) NumbersSpent spent other = absurd spent
 cause_refused base w event NoMemory cause other = absurd (other refl)

@@ -5,7 +5,8 @@ use Rattle.std.proofs.lemmas.Option.{same_Some}
 use Rattle.std.proofs.lemmas.List.Elements.{Contains-append_left, Contains-append_right, Contains-append_cases, Contains-push, Contains-push_cases}
 use Rattle.harvest_lattice.specs.Lattice.{Entries}
 use Rattle.harvest_lattice.specs.Knowledge.{Harvested, adds}
-use Rattle.replica_exchange.proofs.StateLemmas.{one_text}
+use Rattle.replica_exchange.specs.StateText.{IsTextOf}
+use Rattle.replica_exchange.proofs.OneReading.{one_state_of_a_text}
 use Rattle.timegate.specs.declared.reply.Reply.{Reply}
 use Rattle.timegate.specs.declared.request.Request.{Request}
 use Rattle.replica_events.specs.declared.event.Event.{Event}
@@ -172,7 +173,7 @@ received history w i bytes s r explains there text =
     from h (inl (event_is, answer_is)) = cc
     from h (inr (inl (others, state, event_is, answer_is, also, at))) =
         let bytes_is : bytes ≡ others = cc in
-        let same : state ≡ s = one_text state s also.state text.state (sym also.text ∙ sym bytes_is ∙ text.text) in
+        let same : state ≡ s = one_state_of_a_text bytes state s (subst (λ (b : List ℕ). IsTextOf b state) (sym bytes_is) also.text) text.text in
         subst (λ (s : Entries). Contains (adds s) h) same at
     from h (inr (inr (message, event_is, answer_is, c))) = cc
 

@@ -57,7 +57,8 @@ pub record ServesTimeMaps (base : List ℕ) (world : World) (i : ℕ) (known : K
       → Gives base world i q r → Shows (page_at base known original number) q r
 
 -- each reply to a request to the TimeGate of an original: a 404 where nothing is shown of it, or else a redirect to a
--- memento of its latest harvests than which none of these is nearer
+-- memento of its latest harvests, those not older than the greatest whole revision of their archive, than which none of
+-- these is nearer
 abbrev pub ServesTimeGates : List ℕ → World → ℕ → Knowledge → Type 0
 ServesTimeGates base world i known =
     (q : Request) (original : List ℕ) (asked : Option ℕ) (r : Reply) → route_of q ≡ TimeGate original asked

@@ -2,7 +2,7 @@
 use Rattle.std.specs.Prelude.{◌≡◌, ℕ, ◌+◌, ◌<◌, ◌≤◌, length, Option, Some, None, IfSome}
 use Rattle.std.specs.FinMap as map
 use Rattle.harvest_lattice.specs.Lattice.{Entries}
-use Rattle.replica_exchange.specs.StateText.{IsState, state_text}
+use Rattle.replica_exchange.specs.StateText.{IsTextOf}
 use Rattle.replica_exchange.specs.declared.cursor.Cursor.{Cursor}
 use Rattle.replica_exchange.specs.declared.delta.Delta.{Delta}
 use Rattle.timegate.specs.declared.reply.Reply.{Reply}
@@ -35,13 +35,13 @@ message_of (Receive i bytes) = None
 message_of (Restart i) = None
 message_of (Ask i q) = None
 
--- the event brings bytes that are no state's text, or more than 268,435,456
+-- the event brings bytes that are the text of no state in either format, or more than 268,435,456
 abbrev pub IsBadState : World → Event → Type 0
 IsBadState w (Take i h) = ⊥
 IsBadState w (Send i) = ⊥
 IsBadState w (SendFrom i n) = ⊥
 IsBadState w (Deliver i k) = (m : Message) × (message w k ≡ Some m) × (268435456 < length m.bytes)
-IsBadState w (Receive i bytes) = (s : Entries) → IsState s → length bytes ≤ 268435456 → ¬ (bytes ≡ state_text s)
+IsBadState w (Receive i bytes) = (s : Entries) → length bytes ≤ 268435456 → ¬ IsTextOf bytes s
 IsBadState w (Restart i) = ⊥
 IsBadState w (Ask i q) = ⊥
 
@@ -75,7 +75,7 @@ IsSpent w (Deliver i k) =
     HasTakenAll w i × ((r : Replica) × (m : Message) × (held : Option Cursor)
     × IsDelivered w (Deliver i k) r m held × ¬ LeavesGap held m.delta)
 IsSpent w (Receive i bytes) =
-    HasTakenAll w i × ((s : Entries) × IsState s × (length bytes ≤ 268435456) × (bytes ≡ state_text s))
+    HasTakenAll w i × ((s : Entries) × IsTextOf bytes s × (length bytes ≤ 268435456))
 IsSpent w (Restart i) = HasReplica w i × (w.last ≡ 18446744073709551615)
 IsSpent w (Ask i q) = ⊥
 

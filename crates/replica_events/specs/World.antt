@@ -6,7 +6,7 @@ use Rattle.memento_index.specs.declared.merge.Merge.{Merge}
 use Rattle.memento_index.specs.declared.merge.Merge.TheVariants as merge
 use Rattle.harvest_lattice.specs.Lattice.{Entries}
 use Rattle.harvest_lattice.specs.Knowledge.{Harvested, lat, adds}
-use Rattle.replica_exchange.specs.StateText.{IsState, state_text}
+use Rattle.replica_exchange.specs.StateText.{IsTextOf}
 use Rattle.replica_exchange.specs.Faults.{longest_text}
 use Rattle.replica_exchange.specs.Stamps.{StampedState, IsStamped}
 use Rattle.replica_exchange.specs.declared.cursor.Cursor.{Cursor}
@@ -160,10 +160,9 @@ abbrev pub IfFits : Option Cursor → Delta → Outcome → Outcome → Outcome
 IfFits held d happens otherwise answer new =
     ((fits held d ≡ true) × happens answer new) ⊎ ((fits held d ≡ false) × otherwise answer new)
 
--- the bytes are the text of a state, and at most 268,435,456
+-- the bytes are the text of a state in either format, and at most 268,435,456
 pub record IsText (bytes : List ℕ) (s : Entries) : Type 0 where
-  pub state : IsState s
-  pub text : bytes ≡ state_text s
+  pub text : IsTextOf bytes s
   pub within : length bytes ≤ longest_text
 
 -- the outcome of an event with bytes that are the text of a state, or else with others

@@ -49,7 +49,7 @@ pub enum Refused {
     NoReplica,
     /// No message has the number.
     NoMessage,
-    /// The bytes aren't the text of a state, or are more than 268,435,456.
+    /// The bytes are the text of no state in either format, or more than 268,435,456.
     BadState,
     NoMemory,
     /// The message leaves out merges of its sender that aren't known: this is how far they are.

@@ -6,6 +6,7 @@ pub mod WritingLemmas
 pub mod EndLemmas
 pub mod StampLemmas
 pub mod DeltaLemmas
+pub mod OneReading
 pub mod CursorLemmas
 pub mod ShelfLemmas
 pub mod AbsorbLemmas

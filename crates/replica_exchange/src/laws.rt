@@ -1,33 +1,38 @@
 //! Laws of the definitions.
 ghost use Rattle.std.specs.Prelude.{◌≡◌, ℕ, ◌+◌, List, [], ◌∷◌, ◌++◌, length, take, map as map_list};
 ghost use Rattle.std.specs.FinMap as map;
+ghost use Rattle.std.specs.Ordering.{nat_cmp};
 ghost use Rattle.std.specs.List.Sorted.{IsStrictlySortedBy};
 ghost use Rattle.memento_sets.specs.Sets as set;
+ghost use Rattle.memento_sets.specs.MementoSets.{Mementos};
 ghost use Rattle.harvest_lattice.specs.Lattice.{Entries, Key, Kept, AtMost, join};
 ghost use Rattle.memento_index.specs.declared.merge.Merge.{Merge};
-ghost use Rattle.replica_exchange.specs.StateText.{state_text, IsState};
+ghost use Rattle.replica_exchange.specs.StateText.{state_text, IsState, IsTextOf};
 ghost use Rattle.replica_exchange.specs.Stamps.{StampedState, IsStamp, IsStamped, IsAbsorbed, state_after};
 ghost use Rattle.replica_exchange.specs.Stamps.{entries_above};
 ghost use Rattle.replica_exchange.specs.declared.delta.Delta.{Delta};
-ghost use Rattle.replica_exchange.specs.DeltaText.{delta_text, IsDelta};
+ghost use Rattle.replica_exchange.specs.DeltaText.{delta_text, IsDelta, IsDeltaText};
 ghost use Rattle.replica_exchange.specs.LineOrder.{by_archive_then_original, by_second_then_address};
 
-/// No two states have the same text.
+/// No two states have the same text, in whichever formats.
 pub fn one_text_of_a_state()
-    ensures { (x y : Entries) → IsState x → IsState y → state_text x ≡ state_text y → x ≡ y }
+    ensures written { (x y : Entries) → IsState x → IsState y → state_text x ≡ state_text y → x ≡ y }
+    ensures read { (text : List ℕ) (x y : Entries) → IsTextOf text x → IsTextOf text y → x ≡ y }
 {}
 
-/// No two deltas have the same text.
+/// No two deltas have the same text, in whichever formats.
 pub fn one_text_of_a_delta()
-    ensures { (x y : Delta) → IsDelta x → IsDelta y → delta_text x ≡ delta_text y → x ≡ y }
+    ensures written { (x y : Delta) → IsDelta x → IsDelta y → delta_text x ≡ delta_text y → x ≡ y }
+    ensures read { (text : List ℕ) (x y : Delta) → IsDeltaText text x → IsDeltaText text y → x ≡ y }
 {}
 
-/// In the text of a state the entries stand by archive and then by original, and the mementos of each by second and
-/// then by address, none twice.
+/// In the text of a state the entries stand by archive and then by original, the revisions of each from the least one
+/// on, and the mementos of each of these by second and then by address, none twice.
 pub fn lines_stand_in_order()
     ensures entries { (x : Entries)
         → IsStrictlySortedBy by_archive_then_original (map_list (λ e. e.0) (map.entries x)) }
-    ensures mementos { (kept : Kept) → IsStrictlySortedBy by_second_then_address (set.items kept.mementos) }
+    ensures revisions { (kept : Kept) → IsStrictlySortedBy nat_cmp (map_list (λ p. p.0) (map.entries kept.revisions)) }
+    ensures mementos { (mementos : Mementos) → IsStrictlySortedBy by_second_then_address (set.items mementos) }
 {}
 
 /// What merges made is one: their state, and the one stamp of each of its entries.

@@ -31,8 +31,10 @@
 
 mod cursor;
 mod delta;
+mod entries;
 mod fault;
 mod fields;
+mod format;
 mod laws;
 mod reading;
 mod stamped;

@@ -1,12 +1,13 @@
 //! Writing a state or a delta as its text.
-ghost use Rattle.std.specs.Prelude.{◌≡◌, ◌+◌, ◌^◌, ◌<◌, ◌++◌, ◌∷◌, [], length, All, IfOk, OnOk};
+ghost use Rattle.std.specs.Prelude.{◌≡◌, ◌+◌, ◌^◌, ◌<◌, ◌++◌, ◌∷◌, [], length, All, IfOk, IfSome, OnOk};
 ghost use Rattle.std.specs.List.{flat_map, filter};
 ghost use Rattle.std.specs.Fmt.{decimal};
 ghost use Rattle.std.specs.FinMap as map;
 ghost use Rattle.memento_time.specs.Mementos.{IsMemento};
-ghost use Rattle.replica_exchange.specs.StateText.{memento_line, entry_line, entry_text, state_text};
-ghost use Rattle.replica_exchange.specs.StateText.{IsEntryLine, IsEntry, IsState};
-ghost use Rattle.memento_sets.specs.Sets as set;
+ghost use Rattle.replica_exchange.specs.StateText.{memento_line, whole_field, entry_line, part_line, part_text};
+ghost use Rattle.replica_exchange.specs.StateText.{entry_text, state_text};
+ghost use Rattle.replica_exchange.specs.StateText.{IsEntryLine, IsPartLine, IsPart, IsEntry, IsState};
+ghost use Rattle.harvest_lattice.specs.Lattice.{whole};
 ghost use Rattle.replica_exchange.specs.Stamps.{entries_above, above};
 ghost use Rattle.replica_exchange.specs.CursorRule.{delta_from, start_from};
 ghost use Rattle.replica_exchange.specs.DeltaText.{delta_text, from_line, IsDelta};
@@ -45,6 +46,17 @@ fn write_memento(out: &mut Vec<u8>, memento: &Memento) -> Result<(), AllocError>
     write_field(out, memento.uri.as_bytes(), b'\n')
 }
 
+/// The whole revision, if there is one, and a space.
+fn write_whole(out: &mut Vec<u8>, whole: Option<u64>) -> Result<(), AllocError>
+    ensures written { OnOk result (out.new.items ≡ out.old.items ++ (whole_field whole ++ 32 ∷ [])) }
+    ensures fits { IfSome whole (λ revision. revision < 2 ^ 64) }
+{
+    match whole {
+        Some(revision) => write_number(out, revision, b' '),
+        None => out.extend_from_slice(b"- "),
+    }
+}
+
 fn write_entry_line(
     out: &mut Vec<u8>,
     archive: ArchiveName,
@@ -52,14 +64,14 @@ fn write_entry_line(
     entry: &Entry,
 ) -> Result<(), AllocError>
     ensures written { OnOk result (out.new.items ≡ out.old.items
-        ++ entry_line (archive, original.now) entry.now.revision (length (set.items entry.now.mementos))) }
-    ensures fits { OnOk result (IsEntryLine (archive, original.now) entry.now.revision
-        (length (set.items entry.now.mementos))) }
+        ++ entry_line (archive, original.now) (whole entry.now) (length (map.entries entry.now.revisions))) }
+    ensures fits { OnOk result (IsEntryLine (archive, original.now) (whole entry.now)
+        (length (map.entries entry.now.revisions))) }
 {
     out.extend_from_slice(b"entry ")?;
     write_field(out, archive.as_bytes(), b' ')?;
-    write_number(out, entry.revision(), b' ')?;
-    write_number(out, entry.mementos().len() as u64, b' ')?;
+    write_whole(out, entry.whole())?;
+    write_number(out, entry.revisions() as u64, b' ')?;
     write_field(out, original.as_bytes(), b'\n')
 }
 
@@ -70,6 +82,30 @@ fn write_mementos(out: &mut Vec<u8>, mementos: &[Memento]) -> Result<(), AllocEr
 {
     for memento in mementos {
         write_memento(out, memento)?;
+    }
+    Ok(())
+}
+
+/// A revision's line.
+fn write_part_line(out: &mut Vec<u8>, revision: u64, count: usize) -> Result<(), AllocError>
+    ensures written { OnOk result (out.new.items ≡ out.old.items ++ part_line revision count) }
+    ensures fits { IsPartLine revision count }
+{
+    out.extend_from_slice(b"at ")?;
+    write_number(out, revision, b' ')?;
+    write_number(out, count as u64, b'\n')
+}
+
+/// The entry's revisions in order, each with its mementos.
+fn write_parts(out: &mut Vec<u8>, entry: &Entry) -> Result<(), AllocError>
+    ensures written { OnOk result (out.new.items ≡ out.old.items
+        ++ flat_map part_text (map.entries entry.now.revisions)) }
+    ensures fits { OnOk result (All IsPart (map.entries entry.now.revisions)) }
+{
+    for k in 0..entry.revisions() {
+        let mementos = entry.mementos(k);
+        write_part_line(out, entry.revision(k), mementos.len())?;
+        write_mementos(out, mementos)?;
     }
     Ok(())
 }
@@ -85,7 +121,7 @@ fn write_entry(
     ensures fits { OnOk result (IsEntry ((archive, original.now), entry.now)) }
 {
     write_entry_line(out, archive, original, entry)?;
-    write_mementos(out, entry.mementos())
+    write_parts(out, entry)
 }
 
 /// The entries by archive, then by original.
@@ -175,7 +211,7 @@ fn write_span(out: &mut Vec<u8>, incarnation: u64, start: u64, end: u64) -> Resu
     write_number(out, end, b'\n')
 }
 
-/// The text of what the merges after a cursor changed, or of all where there is none of this incarnation.
+/// The text, in format 2, of what the merges after a cursor changed, or of all where there is none of this incarnation.
 ///
 /// Takes time linear in the text. Besides, it looks up the stamp of every entry of the state, twice, each time
 /// logarithmic in the number of keys: stamps aren't kept in their own order.
@@ -189,7 +225,7 @@ pub fn write_delta(
 {
     let start = stamped.start_from(cursor);
     let mut out = Vec::new(alloc);
-    out.extend_from_slice(b"memento-delta 1\n")?;
+    out.extend_from_slice(b"memento-delta 2\n")?;
     write_span(&mut out, stamped.incarnation(), start, stamped.number())?;
     out.extend_from_slice(b"entries ")?;
     write_number(&mut out, count_above(stamped, start), b'\n')?;
@@ -198,13 +234,13 @@ pub fn write_delta(
     Ok(out)
 }
 
-/// The one text of a state. Takes time linear in the text.
+/// The text of a state, in format 2. Takes time linear in the text.
 pub fn write_state(alloc: Global, state: &State) -> Result<Vec<u8>, NoMemory>
     ensures written { IfOk result (λ text. text.items ≡ state_text state.now) }
     ensures fits { IfOk result (λ _. IsState state.now) }
 {
     let mut out = Vec::new(alloc);
-    out.extend_from_slice(b"memento-state 1\nentries ")?;
+    out.extend_from_slice(b"memento-state 2\nentries ")?;
     write_number(&mut out, state.len() as u64, b'\n')?;
     write_entries(&mut out, state)?;
     out.extend_from_slice(b"end\n")?;

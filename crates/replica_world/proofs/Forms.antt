@@ -13,7 +13,7 @@ use Rattle.text_fields.specs.Parts.{Lacks, parted}
 use Rattle.text_fields.proofs.DecimalLemmas.{number_is, decimal_lacks}
 use Rattle.text_fields.proofs.PartLemmas.{parts_are, parts_none_lacks, parts_lacking}
 use Rattle.replica_world.specs.Fields.{◌>>=◌, field, number_field, word_field, is_visible}
-use Rattle.replica_world.specs.Form.{Form, TakeForm, AskForm, Take, Map, Gate, GateAt, Ask, Send, SendFrom, Deliver, Receive, Restart, form_text, IsNumber, IsWord, IsWritten, most_asked, take_of, map_of, gate_at, gate_of, ask_of, send_of, send_from_of, deliver_of, receive_of, restart_of, form_by_word, form_of}
+use Rattle.replica_world.specs.Form.{Form, TakeForm, AskForm, Take, Map, Gate, GateAt, Ask, Send, SendFrom, Deliver, Receive, Restart, form_text, IsNumber, IsWord, IsWritten, most_asked, take_word, take_of, map_of, gate_at, gate_of, ask_of, send_of, send_from_of, deliver_of, receive_of, restart_of, form_by_word, form_of}
 
 -- ---- one reading after another
 
@@ -83,7 +83,7 @@ word_field_is text p = (there, here) where
 -- ---- the word of a form, and the fields behind it
 
 abbrev word_of : Form → List ℕ
-word_of (Take f) = codes "take"
+word_of (Take f) = take_word f.is_whole
 word_of (Map replica original) = codes "map"
 word_of (Gate replica original) = codes "gate"
 word_of (GateAt replica original asked) = codes "gate"
@@ -128,8 +128,12 @@ lacks_space (b ∷ word) is =
     let later : list_all (λ b. not (b == 32)) word ≡ true = grind (arith, common_steps) in
     All-cons (λ b. b ≡ 32 → ⊥) b word (other_byte b first) (lacks_space word later)
 
+take_word_lacks : (is_whole : Bool) → Lacks 32 (take_word is_whole)
+take_word_lacks true = lacks_space (codes "take") refl
+take_word_lacks false = lacks_space (codes "takepart") refl
+
 word_lacks : (f : Form) → Lacks 32 (word_of f)
-word_lacks (Take f) = lacks_space (codes "take") refl
+word_lacks (Take f) = take_word_lacks f.is_whole
 word_lacks (Map replica original) = lacks_space (codes "map") refl
 word_lacks (Gate replica original) = lacks_space (codes "gate") refl
 word_lacks (GateAt replica original asked) = lacks_space (codes "gate") refl
@@ -146,9 +150,9 @@ Laid word fields f = IsWritten f × (word ≡ word_of f) × (fields ≡ fields_o
 
 -- ---- what is read was written so
 
-take_laid : (fields : List ℕ) (f : Form) → take_of fields ≡ Some f → Laid (codes "take") fields f
+take_laid : (is_whole : Bool) (fields : List ℕ) (f : Form) → take_of is_whole fields ≡ Some f → Laid (take_word is_whole) fields f
 unfolding take_of
-take_laid fields f is =
+take_laid is_whole fields f is =
     let replica = bound (number_field fields) _ f is in
     let archive = bound (word_field replica.0.1) _ f replica.2 in
     let revision = bound (number_field archive.0.1) _ f archive.2 in
@@ -159,7 +163,7 @@ take_laid fields f is =
     let v = (number_field_is archive.0.1 revision.0).0 revision.1 in
     let d = (word_field_is revision.0.1 address.0).0 address.1 in
     let n = (number_field_is address.0.1 len.0).0 len.1 in
-    subst (Laid (codes "take") fields) (same_Some _ _ len.2) (
+    subst (Laid (take_word is_whole) fields) (same_Some _ _ len.2) (
       (r.0, a.0, v.0, d.0, n.0),
       refl,
       r.1 ∙ ap (λ (t : List ℕ). decimal replica.0.0 ++ 32 ∷ t) (a.1 ∙ ap (λ (t : List ℕ). archive.0.0 ++ 32 ∷ t) (v.1 ∙ ap (λ (t : List ℕ). decimal revision.0.0 ++ 32 ∷ t) (d.1 ∙ ap (λ (t : List ℕ). address.0.0 ++ 32 ∷ t) n.1))),
@@ -253,25 +257,28 @@ restart_laid fields f is =
 by_word : (word name fields : List ℕ) (f : Form) → bytes_eq word name ≡ true → Laid name fields f → Laid word fields f
 by_word word name fields f is laid = (laid.0, (bytes_eq-Decides word name).0 is ∙ laid.1, laid.2)
 
+-- a word that is looked for, or else another
+or_else : (word name fields : List ℕ) (f : Form) (found later : Option Form) → (found ≡ Some f → Laid name fields f) → (later ≡ Some f → Laid word fields f)
+    → (if bytes_eq word name then found else later) ≡ Some f → Laid word fields f
+or_else word name fields f found later own others = on (bytes_eq word name) refl where
+  on : (is : Bool) → bytes_eq word name ≡ is → (if is then found else later) ≡ Some f → Laid word fields f
+  on true same is = by_word word name fields f same (own is)
+  on false same is = others is
+
 named_laid : (word fields : List ℕ) (f : Form) → form_by_word word fields ≡ Some f → Laid word fields f
 unfolding form_by_word
-named_laid word fields f = on (bytes_eq word (codes "take")) (bytes_eq word (codes "map")) (bytes_eq word (codes "gate")) (bytes_eq word (codes "ask")) (bytes_eq word (codes "send"))
-    (bytes_eq word (codes "sendfrom")) (bytes_eq word (codes "deliver")) (bytes_eq word (codes "receive")) (bytes_eq word (codes "restart")) refl refl refl refl refl refl refl refl refl where
-      on : (take map gate ask send from deliver receive restart : Bool) → bytes_eq word (codes "take") ≡ take → bytes_eq word (codes "map") ≡ map → bytes_eq word (codes "gate") ≡ gate → bytes_eq word (codes "ask") ≡ ask
-          → bytes_eq word (codes "send") ≡ send → bytes_eq word (codes "sendfrom") ≡ from → bytes_eq word (codes "deliver") ≡ deliver → bytes_eq word (codes "receive") ≡ receive → bytes_eq word (codes "restart") ≡ restart
-          → (if take then take_of fields else if map then map_of fields else if gate then gate_of fields else if ask then ask_of fields
-          else if send then send_of fields else if from then send_from_of fields else if deliver then deliver_of fields else if receive then receive_of fields else if restart then restart_of fields else None) ≡ Some f
-          → Laid word fields f
-      on true m g a s n d r e t1 t2 t3 t4 t5 t6 t7 t8 t9 is = by_word word (codes "take") fields f t1 (take_laid fields f is)
-      on false true g a s n d r e t1 t2 t3 t4 t5 t6 t7 t8 t9 is = by_word word (codes "map") fields f t2 (map_laid fields f is)
-      on false false true a s n d r e t1 t2 t3 t4 t5 t6 t7 t8 t9 is = by_word word (codes "gate") fields f t3 (gate_laid fields f is)
-      on false false false true s n d r e t1 t2 t3 t4 t5 t6 t7 t8 t9 is = by_word word (codes "ask") fields f t4 (ask_laid fields f is)
-      on false false false false true n d r e t1 t2 t3 t4 t5 t6 t7 t8 t9 is = by_word word (codes "send") fields f t5 (send_laid fields f is)
-      on false false false false false true d r e t1 t2 t3 t4 t5 t6 t7 t8 t9 is = by_word word (codes "sendfrom") fields f t6 (send_from_laid fields f is)
-      on false false false false false false true r e t1 t2 t3 t4 t5 t6 t7 t8 t9 is = by_word word (codes "deliver") fields f t7 (deliver_laid fields f is)
-      on false false false false false false false true e t1 t2 t3 t4 t5 t6 t7 t8 t9 is = by_word word (codes "receive") fields f t8 (receive_laid fields f is)
-      on false false false false false false false false true t1 t2 t3 t4 t5 t6 t7 t8 t9 is = by_word word (codes "restart") fields f t9 (restart_laid fields f is)
-      on false false false false false false false false false t1 t2 t3 t4 t5 t6 t7 t8 t9 is = absurd (let none : None ≡ Some f = is in cc)
+named_laid word fields f =
+    or_else word (codes "take") fields f _ _ (take_laid true fields f)
+    (or_else word (codes "takepart") fields f _ _ (take_laid false fields f)
+    (or_else word (codes "map") fields f _ _ (map_laid fields f)
+    (or_else word (codes "gate") fields f _ _ (gate_laid fields f)
+    (or_else word (codes "ask") fields f _ _ (ask_laid fields f)
+    (or_else word (codes "send") fields f _ _ (send_laid fields f)
+    (or_else word (codes "sendfrom") fields f _ _ (send_from_laid fields f)
+    (or_else word (codes "deliver") fields f _ _ (deliver_laid fields f)
+    (or_else word (codes "receive") fields f _ _ (receive_laid fields f)
+    (or_else word (codes "restart") fields f _ _ (restart_laid fields f)
+    (λ is. absurd (let none : None ≡ Some f = is in cc)))))))))))
 
 -- ---- what was written is read
 
@@ -286,7 +293,7 @@ word_first word rest is = (word_field_is (word ++ 32 ∷ rest) (word, rest)).1 (
 number_alone : (n : ℕ) → IsNumber n → number_of (decimal n) ≡ Some n
 number_alone n small = (number_is (decimal n) n).1 (small, refl)
 
-take_read : (f : TakeForm) → IsWritten (Take f) → take_of (fields_of (Take f)) ≡ Some (Take f)
+take_read : (f : TakeForm) → IsWritten (Take f) → take_of f.is_whole (fields_of (Take f)) ≡ Some (Take f)
 unfolding take_of
 take_read f w =
     onward _ _ _ (number_first f.replica (parted (f.archive ∷ decimal f.revision ∷ f.address ∷ decimal f.len ∷ f.original ∷ [])) w.0)
@@ -303,9 +310,14 @@ ask_read f w =
     ∙ onward _ _ _ (number_first f.count f.target (omega (arith, w.2)))
     ∙ ap (λ (b : Bool). if b then Some (Ask f) else None) (fits_both (list_all is_visible f.method) f.count w.1.1 w.2)
 
+named_take : (is_whole : Bool) (fields : List ℕ) → form_by_word (take_word is_whole) fields ≡ take_of is_whole fields
+unfolding form_by_word
+named_take true fields = refl
+named_take false fields = refl
+
 named_read : (f : Form) → IsWritten f → form_by_word (word_of f) (fields_of f) ≡ Some f
 unfolding form_by_word map_of gate_of send_of send_from_of deliver_of receive_of restart_of
-named_read (Take f) w = take_read f w
+named_read (Take f) w = named_take f.is_whole (fields_of (Take f)) ∙ take_read f w
 named_read (Map replica original) w = onward _ _ _ (number_first replica original w)
 named_read (Gate replica original) w =
     onward _ _ _ (number_first replica original w.0) ∙ ap (λ (found : Option (List ℕ × List ℕ)). Some (gate_at replica original found)) (parts_lacking 32 original w.1)

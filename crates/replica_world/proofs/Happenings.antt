@@ -67,14 +67,14 @@ harvest_taken old new t original page harvest text name sorted harvest_is few ha
 
 pub harvest_taken_if : {V E : Type 0} (items : V → List ℕ) (old new : Kept) (t : Taking) (original : List ℕ) (page : Page) (archive : List ℕ) (mementos : List Memento) (harvest : Harvested) (accepted : List ℕ) (result : Result V E)
     → SomeIff (Some archive) (IsArchiveName t.archive) t.archive → IsStrictlySortedBy memento_cmp page.mementos
-    → harvest ≡ record { archive = archive; original = original; revision = t.revision; mementos = set.from_list mementos } → mementos ≡ page.mementos
+    → harvest ≡ record { archive = archive; original = original; revision = t.revision; is_whole = t.is_whole; mementos = set.from_list mementos } → mementos ≡ page.mementos
     → length (set.items harvest.mementos) ≤ 100000 → accepted ≡ taken_line page
     → IfOk result (λ text. IsHappening old accepted (Take t.replica harvest) (items text) new)
     → IfOk result (λ text. IsHarvestTaken old t original page (items text) new)
 harvest_taken_if items old new t original page archive mementos harvest accepted (Err e) name sorted harvest_is mementos_are few accepted_is happening = tt
 harvest_taken_if items old new t original page archive mementos harvest accepted (Ok text) name sorted harvest_is mementos_are few accepted_is happening =
     harvest_taken old new t original page harvest (items text) name.0 sorted
-    (harvest_is ∙ (λ i. record { archive = name.1 i; original = original; revision = t.revision; mementos = set.from_list (mementos_are i) }))
+    (harvest_is ∙ (λ i. record { archive = name.1 i; original = original; revision = t.revision; is_whole = t.is_whole; mementos = set.from_list (mementos_are i) }))
     few
     (subst (λ (a : List ℕ). IsHappening old a (Take t.replica harvest) (items text) new) accepted_is happening)
 

@@ -18,10 +18,10 @@ use Rattle.replica_exchange.specs.declared.cursor.Cursor.{Cursor}
 use Rattle.replica_exchange.specs.declared.delta.Delta.{Delta}
 use Rattle.replica_exchange.specs.Faults.{IsCause, IsDeltaCause, longest_text}
 use Rattle.replica_exchange.specs.Stamps.{StampedState, IsStamped}
-use Rattle.replica_exchange.specs.DeltaText.{delta_text, IsDelta}
+use Rattle.replica_exchange.specs.DeltaText.{delta_text, IsDelta, IsDeltaText}
 use Rattle.replica_exchange.specs.CursorRule.{Held, delta_from, fits, taken_from}
 use Rattle.replica_exchange.proofs.StampLemmas.{absorbed_is_stamped}
-use Rattle.replica_exchange.proofs.DeltaLemmas.{one_delta}
+use Rattle.replica_exchange.proofs.OneReading.{one_delta_of_a_text}
 use Rattle.timegate.specs.declared.request.Request.{Request}
 use Rattle.timegate.specs.declared.reply.Reply.{Reply}
 use Rattle.timegate.specs.Reply.{reply_of}
@@ -233,7 +233,7 @@ not_absorbed kept number place bytes s stamp_fault.NoMemory here text spent = re
 -- bytes that are refused are no state's text within the limit
 no_text : (bytes : List ℕ) (s : Entries) → IsCause TooLong bytes ⊎ IsCause NotState bytes → IsText bytes s → ⊥
 no_text bytes s (inl long) text = let within = text.within in absurd (omega (arith, long, within))
-no_text bytes s (inr not) text = not.1 s text.state text.text
+no_text bytes s (inr not) text = not.1 s text.text
 
 pub not_received : (kept : Kept) (number place : ℕ) (bytes : List ℕ) (fault : StateFault) (answer : Answer) → IsPlaceOf number (length kept.replicas) place
     → IsCause fault bytes → answer ≡ Err (refusal fault) → Steps kept (Receive number bytes) answer kept
@@ -260,8 +260,7 @@ message_at kept w k m stands sent =
 
 -- the delta that was read
 pub record IsReadFrom (m : SentMessage) (read : Delta) : Type 0 where
-  pub delta : IsDelta read
-  pub text : m.bytes ≡ delta_text read
+  pub text : IsDeltaText m.bytes read
   pub within : length m.bytes ≤ longest_text
 
 -- is the one that was sent, by the replica whose number is kept
@@ -270,9 +269,13 @@ record IsSame (m : SentMessage) (read : Delta) (found : Message) : Type 0 where
   pub sender : m.sender ≡ found.sender
   pub within : length found.bytes ≤ longest_text
 
+-- bytes that are the text of the delta that was sent
+sent_text : (bytes : List ℕ) (d : Delta) → IsDelta d → bytes ≡ delta_text d → IsDeltaText bytes d
+sent_text bytes d delta text = record { delta = delta; text = inl text }
+
 same_message : (kept : Kept) (w : World) (k : ℕ) (m : SentMessage) (read : Delta) (f : FoundMessage kept w k m) → IsReadFrom m read → IsSame m read f.found
 same_message kept w k m read f is = record {
-  delta = one_delta read f.found.delta is.delta f.sent.delta (sym is.text ∙ (ap (λ (k : SentMessage). k.bytes) f.kept_is ∙ f.sent.text));
+  delta = one_delta_of_a_text m.bytes read f.found.delta is.text (sent_text m.bytes f.found.delta f.sent.delta (ap (λ (k : SentMessage). k.bytes) f.kept_is ∙ f.sent.text));
   sender = ap (λ (k : SentMessage). k.sender) f.kept_is;
   within = subst (λ (k : SentMessage). length k.bytes ≤ longest_text) f.kept_is is.within;
 }
@@ -353,7 +356,7 @@ no_message kept new number place k why answer here is new_is answer_is =
 -- a message's bytes are a delta's text, so only their number can refuse them
 too_long : (bytes : List ℕ) (d : Delta) → IsDelta d → bytes ≡ delta_text d → IsDeltaCause TooLong bytes ⊎ IsDeltaCause NotState bytes → longest_text < length bytes
 too_long bytes d delta text (inl long) = long
-too_long bytes d delta text (inr not) = absurd (not.1 d delta text)
+too_long bytes d delta text (inr not) = absurd (not.1 d (sent_text bytes d delta text))
 
 not_read : (kept : Kept) (number place k : ℕ) (m : SentMessage) (answer : Answer) → IsPlaceOf number (length kept.replicas) place → numbered kept.messages k ≡ Some m → IsDeltaCause TooLong m.bytes ⊎ IsDeltaCause NotState m.bytes → answer ≡ Err BadState
     → Steps kept (Deliver number k) answer kept

@@ -1,14 +1,16 @@
 -- The lines of commands: how each is written, and how it is read.
-use Rattle.std.specs.Prelude.{ℕ, ◌<◌, ◌≤◌, ◌^◌, ◌&&◌, List, [], ◌∷◌, length, Option, None, Some, nat_le}
-use Rattle.std.specs.Prelude.{if◌then◌else◌, codes, bytes_eq, IsTrue}
+use Rattle.std.specs.Prelude.{ℕ, ◌<◌, ◌≤◌, ◌^◌, ◌&&◌, Bool, true, false, List, [], ◌∷◌, length, Option, None, Some}
+use Rattle.std.specs.Prelude.{nat_le, if◌then◌else◌, codes, bytes_eq, IsTrue}
 use Rattle.std.specs.Fmt.{decimal}
 use Rattle.std.specs.List.{list_all}
 use Rattle.text_fields.specs.Decimals.{number_of}
 use Rattle.text_fields.specs.Parts.{Lacks, space, parted}
 use Rattle.replica_world.specs.Fields.{◌>>=◌, field, number_field, word_field, is_visible}
 
--- `take I ARCHIVE REVISION PAGEURL LENGTH ORIGINAL`
+-- `take I ARCHIVE REVISION PAGEURL LENGTH ORIGINAL`, which takes a whole harvest, or the same behind `takepart`, which
+-- takes a part harvest
 pub record TakeForm : Type 0 where
+  pub is_whole : Bool
   pub replica : ℕ
   pub archive : List ℕ
   pub revision : ℕ
@@ -43,11 +45,16 @@ most_asked = 16
 
 -- ---- how it is written
 
+-- the word that takes a whole harvest, or a part harvest
+abbrev pub take_word : Bool → List ℕ
+take_word true = codes "take"
+take_word false = codes "takepart"
+
 -- the line of a command
 abbrev pub form_text : Form → List ℕ
 form_text (Take f) =
     parted
-    (codes "take" ∷ decimal f.replica ∷ f.archive ∷ decimal f.revision ∷ f.address ∷ decimal f.len ∷ f.original ∷ [])
+    (take_word f.is_whole ∷ decimal f.replica ∷ f.archive ∷ decimal f.revision ∷ f.address ∷ decimal f.len ∷ f.original ∷ [])
 form_text (Map replica original) = parted (codes "map" ∷ decimal replica ∷ original ∷ [])
 form_text (Gate replica original) = parted (codes "gate" ∷ decimal replica ∷ original ∷ [])
 form_text (GateAt replica original asked) = parted (codes "gate" ∷ decimal replica ∷ original ∷ asked ∷ [])
@@ -85,15 +92,16 @@ IsWritten (Restart replica) = IsNumber replica
 
 -- ---- how it is read
 
--- behind `take`
-unfoldable pub take_of : List ℕ → Option Form
-take_of fields = do
+-- behind `take` or `takepart`
+unfoldable pub take_of : Bool → List ℕ → Option Form
+take_of is_whole fields = do
   replica ← number_field fields
   archive ← word_field replica.1
   revision ← number_field archive.1
   address ← word_field revision.1
   len ← number_field address.1
   Some (Take (record {
+    is_whole = is_whole;
     replica = replica.0;
     archive = archive.0;
     revision = revision.0;
@@ -165,7 +173,8 @@ restart_of fields = do
 -- by the word that the line begins with
 unfoldable pub form_by_word : List ℕ → List ℕ → Option Form
 form_by_word word fields =
-    if bytes_eq word (codes "take") then take_of fields
+    if bytes_eq word (codes "take") then take_of true fields
+    else if bytes_eq word (codes "takepart") then take_of false fields
     else if bytes_eq word (codes "map") then map_of fields
     else if bytes_eq word (codes "gate") then gate_of fields
     else if bytes_eq word (codes "ask") then ask_of fields

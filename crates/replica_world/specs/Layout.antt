@@ -49,6 +49,7 @@ abbrev pub Means : Form → List ℕ → Command → List ℕ → Type 0
 Means (form.Take f) after command rest =
     (body : List ℕ) × IsBlock f.len after (body, rest)
     × (command ≡ Take (record {
+      is_whole = f.is_whole;
       replica = f.replica;
       archive = f.archive;
       revision = f.revision;

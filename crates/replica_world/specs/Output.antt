@@ -104,8 +104,13 @@ IsPage address body page = MatchOption (utf8_text address) ⊥ (λ base. IsAnswe
 
 -- the harvest that a page makes
 abbrev pub harvest_of : Taking → List ℕ → Page → Harvested
-harvest_of t original page =
-    record { archive = t.archive; original = original; revision = t.revision; mementos = set.from_list page.mementos }
+harvest_of t original page = record {
+  archive = t.archive;
+  original = original;
+  revision = t.revision;
+  is_whole = t.is_whole;
+  mementos = set.from_list page.mementos;
+}
 
 -- 100,000 mementos
 abbrev pub most_mementos : ℕ

@@ -1,5 +1,5 @@
 -- A script as a list of commands: what each line says, with the block or the lines that follow it.
-use Rattle.std.specs.Prelude.{ℕ, zero, suc, ◌+◌, ◌-◌, ◌&&◌, List, [], ◌∷◌, ◌++◌, length, take, Option, None, Some}
+use Rattle.std.specs.Prelude.{ℕ, zero, suc, ◌+◌, ◌-◌, ◌&&◌, Bool, List, [], ◌∷◌, ◌++◌, length, take, Option, None, Some}
 use Rattle.std.specs.Prelude.{nat_le, ◌==◌, if◌then◌else◌, count_by, codes, bytes_eq}
 use Rattle.std.specs.Option.{option_map, option_and_then}
 use Rattle.timegate.specs.declared.request.Request.{Request}
@@ -11,8 +11,9 @@ use Rattle.replica_world.specs.Fields.{lines_of}
 use Rattle.replica_world.specs.Form as form
 use Rattle.replica_world.specs.Form.{Form, TakeForm, form_of}
 
--- the body of a page at an address, to be read and taken as a harvest
+-- the body of a page at an address, to be read and taken as a whole harvest or as a part harvest
 pub record Taking : Type 0 where
+  pub is_whole : Bool
   pub replica : ℕ
   pub archive : List ℕ
   pub revision : ℕ
@@ -37,6 +38,7 @@ get target asked = record { method = codes "GET"; target = target; asked = asked
 abbrev pub taking_of : TakeForm → List ℕ → Taking
 taking_of f body =
     record {
+      is_whole = f.is_whole;
       replica = f.replica;
       archive = f.archive;
       revision = f.revision;

@@ -15,6 +15,7 @@ use Rattle.replica_world.specs.Script.{Taking, Command, Take, Step, Start}
 abbrev pub taking_view : SpelledTaking → Taking
 taking_view t =
     record {
+      is_whole = t.is_whole;
       replica = t.replica;
       archive = t.archive.now;
       revision = t.revision;
@@ -36,6 +37,7 @@ start_view s = record { replicas = s.replicas; base = s.service }
 abbrev pub take_form_view : SpelledTake → TakeForm
 take_form_view f =
     record {
+      is_whole = f.is_whole;
       replica = f.replica;
       archive = f.archive.now;
       revision = f.revision;

@@ -85,9 +85,9 @@ impl World {
     }
 
     /// Runs one event. A refused one changes nothing: `NoReplica` and `NoMessage` where a number names none, `BadState`
-    /// where bytes are no state's text or too many, `Gap` where a message leaves out merges of its sender that the
-    /// replica doesn't know, `NumbersSpent` where no number is left for a merge or an incarnation, tested in this
-    /// order. A restart takes no memory.
+    /// where bytes are the text of no state in either format or too many, `Gap` where a message leaves out merges of
+    /// its sender that the replica doesn't know, `NumbersSpent` where no number is left for a merge or an incarnation,
+    /// tested in this order. A restart takes no memory.
     pub fn step(&mut self, event: &Event) -> Answer
         ensures steps { Steps self.old event.now result self.new }
         ensures refused { OnErr result (self.new ≡ self.old) }

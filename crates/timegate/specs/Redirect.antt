@@ -1,5 +1,6 @@
 -- What a TimeGate replies (RFC 7089, section 4.2): a redirect to a memento of the latest harvests than which none of
--- these is nearer, or a 404 where they have none.
+-- these is nearer, or a 404 where they have none. The latest harvests are those of the original that are not older than
+-- the greatest whole revision of their archive.
 use Rattle.std.specs.Prelude.{◌≡◌, ℕ, ◌≤◌, ◌⊎◌, List, Contains, Option, MatchOption}
 use Rattle.memento_time.specs.declared.mementos.Memento.{Memento}
 use Rattle.harvest_lattice.specs.Knowledge.{Harvested, IsShown}

@@ -24,8 +24,9 @@ pub fn same_harvests_same_reply()
 {}
 
 /// A TimeGate redirects wherever anything of the original is shown, and is not found where nothing is. Each redirect
-/// names a memento of the latest harvests of the original, and none of these is nearer to the second that is asked
-/// for; where none is asked for, none is later. Nothing else redirects.
+/// names a memento of the latest harvests of the original, those not older than the greatest whole revision of their
+/// archive, and none of these is nearer to the second that is asked for; where none is asked for, none is later.
+/// Nothing else redirects.
 pub fn redirects_name_the_nearest()
     ensures timegates { (base : List ℕ) (known : List Harvested) (q : Request) (original : List ℕ) (asked : Option ℕ)
         → route_of q ≡ TimeGate original asked → IsGateReply known original asked (reply base known q) }

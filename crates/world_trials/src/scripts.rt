@@ -20,6 +20,9 @@ end
 
 take 2 a1 1 http://m.example/ 0 http://a.example/
 
+takepart 2 a1 2 http://m.example/ 0 http://a.example/
+
+ask 2 GET 0 /state
 map 2 http://a.example/
 gate 2 http://a.example/
 ask 1 GET 0 /delta/1/0
@@ -31,6 +34,16 @@ joined
 sent 2
 received
 taken 0 0 0
+taken 0 0 0
+reply 200
+Content-Type: text/plain
+body 75
+memento-state 2
+entries 1
+entry a1 1 2 http://a.example/
+at 1 0
+at 2 0
+end
 reply 404
 Content-Type: text/plain
 body 11
@@ -43,7 +56,7 @@ no memento
 reply 200
 Content-Type: text/plain
 body 41
-memento-delta 1
+memento-delta 2
 from 1 0 0
 entries 0
 end
@@ -115,7 +128,7 @@ fn scripts(rt: HostRuntime) {
 // What is written before the bad line, and its number.
 #[test]
 fn bad_lines(rt: HostRuntime) {
-    let cases: [(&[u8], &[u8], u64); 6] = [
+    let cases: [(&[u8], &[u8], u64); 7] = [
         (
             b"replicas 1 http://agg.example\nrestart 1\nbogus\n",
             b"restarted\n",
@@ -124,6 +137,11 @@ fn bad_lines(rt: HostRuntime) {
         (b"replicas 17 http://agg.example\n", b"", 1),
         (b"\nreplicas 1 http://agg.example/x\n", b"", 2),
         (b"replicas 1 http://agg.example\nsendfrom 1\n", b"", 2),
+        (
+            b"replicas 1 http://agg.example\ntakepart 1 a1 1 http://m/ 0\n",
+            b"",
+            2,
+        ),
         (
             b"replicas 1 http://agg.example\nreceive 1 3\n\n\nend\n",
             b"",

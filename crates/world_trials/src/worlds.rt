@@ -1,11 +1,12 @@
 //! Tests of worlds: events, their answers, and what replicas say then.
 use anyhow::{Context, Result};
+use harvest_lattice::Harvest;
 use knowledge_trials::makers::{get, harvest, location};
 use replica_exchange::Cursor;
 use replica_world::{Answer, Asked, Event, Refused, Said, World, asked_after, replicas_agree};
 use std::alloc::Global;
 use std::test::*;
-use text_trials::makers::{FIRST_DAY, THIRD_DAY, mementos, octets, service};
+use text_trials::makers::{FIRST_DAY, THIRD_DAY, archive, mementos, octets, original, service};
 use timegate::Reply;
 
 const ROOT: &[u8] = b"http://a.example/";
@@ -15,6 +16,8 @@ const MAP: &[u8] = b"/timemap/link/http://a.example/";
 const FIRST: (u64, &[u8]) = (FIRST_DAY, b"http://m.example/1");
 
 const SECOND: (u64, &[u8]) = (THIRD_DAY, b"http://m.example/2");
+
+const THIRD: (u64, &[u8]) = (THIRD_DAY, b"http://m.example/3");
 
 // How the TimeMap of both ends. The whole of it stands in `examples/two.expected`.
 const END: &[u8] =
@@ -28,10 +31,26 @@ fn one_replica(alloc: Global) -> Result<World> {
     Ok(World::new(alloc, 1, service(alloc)?)?)
 }
 
-// A replica takes a harvest of the root by one archive.
+// A replica takes a whole harvest of the root by one archive.
 fn take(alloc: Global, replica: usize, revision: u64, captures: &[(u64, &[u8])]) -> Result<Event> {
     let mementos = mementos(alloc, captures)?;
     Ok(Event::Take(replica, harvest(alloc, b"a1", ROOT, revision, mementos)?))
+}
+
+// A replica takes a part harvest of the root by that archive.
+fn take_part(
+    alloc: Global,
+    replica: usize,
+    revision: u64,
+    captures: &[(u64, &[u8])],
+) -> Result<Event> {
+    let archive = archive(b"a1")?;
+    let original = original(alloc, ROOT)?;
+    let mementos = mementos(alloc, captures)?;
+    Ok(Event::Take(
+        replica,
+        Harvest::new_part(archive, &original, revision, mementos)?,
+    ))
 }
 
 fn reply_of(answer: &Answer) -> Option<&Reply> {
@@ -204,7 +223,7 @@ fn receive(alloc: Global, replica: usize, text: &[u8]) -> Result<Event> {
     Ok(Event::Receive(replica, octets(alloc, text)?))
 }
 
-const EMPTY_STATE: &[u8] = b"memento-state 1\nentries 0\nend\n";
+const EMPTY_STATE: &[u8] = b"memento-state 2\nentries 0\nend\n";
 
 // Whether bytes from outside are joined.
 fn receives(alloc: Global, world: &mut World, replica: usize, text: &[u8]) -> Result<bool> {
@@ -233,9 +252,18 @@ fn refusals(rt: HostRuntime) -> Result<()> {
     let alloc = rt.alloc();
     let mut world = one_replica(alloc)?;
     assert!(rt; refuses_what_is_not_there(&mut world));
-    let longer = b"memento-state 1\nentries 0\nend\n\n";
-    assert!(rt; refuses_bytes(alloc, &mut world, longer)?);
-    assert!(rt; refuses_bytes(alloc, &mut world, THIRD_MERGE)?);
+    for bytes in [
+        b"memento-state 2\nentries 0\nend\n\n".as_slice(),
+        b"memento-state 3\nentries 0\nend\n",
+        b"memento-state 1\nentries 1\nentry a1 7 1 http://a.example/\nat 7 0\nend\n",
+        b"memento-state 2\nentries 1\nentry a1 7 0 http://a.example/\nend\n",
+        b"memento-state 2\nentries 1\nentry a1 7 1 http://a.example/\nat 6 0\nend\n",
+        b"memento-state 2\nentries 1\nentry a1 7 2 http://a.example/\nat 6 0\nat 7 0\nend\n",
+        b"memento-state 2\nentries 1\nentry a1 - 2 http://a.example/\nat 7 0\nat 6 0\nend\n",
+        THIRD_MERGE,
+    ] {
+        assert!(rt; refuses_bytes(alloc, &mut world, bytes)?);
+    }
     assert!(rt; receives(alloc, &mut world, 1, EMPTY_STATE)?);
     assert!(rt; shows_nothing(alloc, &world, 1)?);
     Ok(())
@@ -281,20 +309,67 @@ fn redirects_to(alloc: Global, world: &World, replica: usize, uri: &[u8]) -> Res
 }
 
 const STATE: &[u8] =
+    b"memento-state 2\nentries 1\nentry a1 7 1 http://a.example/\nat 7 1\n946684800 http://m.example/1\nend\n";
+
+// The same state in format 1.
+const OLD_STATE: &[u8] =
     b"memento-state 1\nentries 1\nentry a1 7 1 http://a.example/\n946684800 http://m.example/1\nend\n";
+
+// Whether a new replica that receives this tells that state.
+fn learns_from(alloc: Global, text: &[u8]) -> Result<bool> {
+    let mut world = one_replica(alloc)?;
+    Ok(
+        receives(alloc, &mut world, 1, text)?
+            && tells(alloc, &world, 1, b"/state", STATE)?
+            && redirects_to(alloc, &world, 1, FIRST.1)?,
+    )
+}
 
 #[test]
 fn received_bytes(rt: HostRuntime) -> Result<()> {
+    assert!(rt; learns_from(rt.alloc(), STATE)?);
+    assert!(rt; learns_from(rt.alloc(), OLD_STATE)?);
+    Ok(())
+}
+
+// Replica 1 takes a whole harvest, a part that is newer and one that is older; replica 2 takes them the other way round.
+fn parts_in_both_orders(alloc: Global) -> Result<Vec<Event>> {
+    let mut events = Vec::new(alloc);
+    events.push(take(alloc, 1, 5, &[FIRST])?)?;
+    events.push(take_part(alloc, 1, 7, &[SECOND])?)?;
+    events.push(take_part(alloc, 1, 4, &[THIRD])?)?;
+    events.push(take_part(alloc, 2, 4, &[THIRD])?)?;
+    events.push(take_part(alloc, 2, 7, &[SECOND])?)?;
+    events.push(take(alloc, 2, 5, &[FIRST])?)?;
+    Ok(events)
+}
+
+// Whether the first replica takes what leaves nothing to be shown, and the second learns it by its message.
+fn forgets_by_a_whole_harvest(alloc: Global, world: &mut World) -> Result<bool> {
+    Ok(
+        takes(alloc, world, 1, 8, &[])?
+            && shows_nothing(alloc, world, 1)?
+            && sends_message(world, &Event::Send(1), 1)
+            && shows_both(alloc, world, 2)?
+            && joins(world, 2, 1)
+            && shows_nothing(alloc, world, 2)?,
+    )
+}
+
+// A part is shown beside an older whole harvest, and not beside a newer one, whichever came first.
+#[test]
+fn part_harvests(rt: HostRuntime) -> Result<()> {
     let alloc = rt.alloc();
-    let mut world = one_replica(alloc)?;
-    assert!(rt; receives(alloc, &mut world, 1, STATE)?);
-    assert!(rt; redirects_to(alloc, &world, 1, FIRST.1)?);
+    let mut world = two_replicas(alloc)?;
+    answers_of(&mut world, &parts_in_both_orders(alloc)?)?;
+    assert!(rt; shows_both(alloc, &world, 1)? && shows_both(alloc, &world, 2)?);
+    assert!(rt; forgets_by_a_whole_harvest(alloc, &mut world)?);
     Ok(())
 }
 
 // What replica 1 says that follows on its first two merges.
 const THIRD_MERGE: &[u8] =
-    b"memento-delta 1\nfrom 1 2 3\nentries 1\nentry a1 3 0 http://a.example/\nend\n";
+    b"memento-delta 2\nfrom 1 2 3\nentries 1\nentry a1 3 1 http://a.example/\nat 3 0\nend\n";
 
 // Whether the replica takes a harvest of this revision.
 fn takes(
@@ -377,7 +452,7 @@ fn is_of_incarnation(
     replica: usize,
     incarnation: u64,
 ) -> Result<bool> {
-    let text = format!(in alloc; "memento-delta 1\nfrom {incarnation} 0 0\nentries 0\nend\n")?;
+    let text = format!(in alloc; "memento-delta 2\nfrom {incarnation} 0 0\nentries 0\nend\n")?;
     tells(alloc, world, replica, b"/delta", text.as_bytes())
 }
 

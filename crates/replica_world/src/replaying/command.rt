@@ -21,9 +21,10 @@ pub enum Command<'a> {
     Step(Event),
 }
 
-/// The body of an archive's page, and the harvest that it is to make.
+/// The body of an archive's page, and the harvest that it is to make: a whole one, or a part.
 #[derive(Clone, Copy, Debug)]
 pub struct Taking<'a> {
+    pub is_whole: bool,
     pub replica: u64,
     pub archive: &'a [u8],
     pub revision: u64,
@@ -57,7 +58,7 @@ fn step(event: Event, rest: &[u8]) -> Option<(Command<'_>, &[u8])>
     Some((Command::Step(event), rest))
 }
 
-/// A `take`, with its block.
+/// A `take` or a `takepart`, with its block.
 #[tactic(auto, unfolding(crate::specs::Script::command_of))]
 fn take<'a>(form: &TakeForm<'a>, rest: &'a [u8]) -> Option<(Command<'a>, &'a [u8])>
     ensures { option_map (λ p. (command_view p.0, p.1.now)) result
@@ -65,6 +66,7 @@ fn take<'a>(form: &TakeForm<'a>, rest: &'a [u8]) -> Option<(Command<'a>, &'a [u8
 {
     let (body, rest) = block(form.len, rest)?;
     let taking = Taking {
+        is_whole: form.is_whole,
         replica: form.replica,
         archive: form.archive,
         revision: form.revision,

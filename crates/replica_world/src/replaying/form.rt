@@ -28,9 +28,11 @@ pub enum Form<'a> {
     Restart(u64),
 }
 
-/// `take I ARCHIVE REVISION PAGEURL LENGTH ORIGINAL`.
+/// `take I ARCHIVE REVISION PAGEURL LENGTH ORIGINAL`, which takes a whole harvest, or the same behind `takepart`, which
+/// takes a part harvest.
 #[derive(Clone, Copy, Debug)]
 pub struct TakeForm<'a> {
+    pub is_whole: bool,
     pub replica: u64,
     pub archive: &'a [u8],
     pub revision: u64,
@@ -49,8 +51,8 @@ pub struct AskForm<'a> {
 }
 
 #[tactic(auto, unfolding(crate::specs::Form::take_of))]
-fn take(fields: &[u8]) -> Option<Form<'_>>
-    ensures { option_map form_view result ≡ take_of fields.now }
+fn take(is_whole: bool, fields: &[u8]) -> Option<Form<'_>>
+    ensures { option_map form_view result ≡ take_of is_whole fields.now }
 {
     let (replica, fields) = number_field(fields)?;
     let (archive, fields) = word_field(fields)?;
@@ -58,6 +60,7 @@ fn take(fields: &[u8]) -> Option<Form<'_>>
     let (address, fields) = word_field(fields)?;
     let (len, original) = number_field(fields)?;
     Some(Form::Take(TakeForm {
+        is_whole,
         replica,
         archive,
         revision,
@@ -148,7 +151,9 @@ fn form_by_word<'a>(word: &[u8], fields: &'a [u8]) -> Option<Form<'a>>
     ensures { option_map form_view result ≡ form_by_word word.now fields.now }
 {
     if word == b"take".as_slice() {
-        take(fields)
+        take(true, fields)
+    } else if word == b"takepart".as_slice() {
+        take(false, fields)
     } else if word == b"map".as_slice() {
         map(fields)
     } else if word == b"gate".as_slice() {

@@ -1,7 +1,8 @@
 //! What a command does, and what it writes of that.
-ghost use Rattle.std.specs.Prelude.{◌≡◌, ◌∷◌, IfOk, MatchOption};
+ghost use Rattle.std.specs.Prelude.{◌≡◌, ◌∷◌, ◌<◌, ◌≤◌, length, IfOk, IsErrOf, MatchOption};
 ghost use Rattle.std.specs.List.Sorted.{IsStrictlySortedBy};
 ghost use Rattle.memento_time.specs.Mementos.{memento_cmp};
+ghost use Rattle.memento_sets.specs.Sets as set;
 ghost use Rattle.timegate.specs.Route.{original_at};
 ghost use Rattle.timemap_reader.specs.declared.page.Page.{Page as PageRead};
 ghost use Rattle.replica_world.specs.Output.{IsPage};
@@ -14,7 +15,7 @@ use crate::replaying::output::Output;
 use crate::replaying::texts::{accepted_line, answer_text, refusal_text, taken_line};
 use crate::world::World;
 use harvest_lattice::{Harvest, HarvestFault};
-use memento_time::{ArchiveName, NoMemory, Original};
+use memento_time::{ArchiveName, Memento, NoMemory, Original};
 use replica_events::Event;
 use std::alloc::Global;
 use timemap_reader::{OriginalFault, Page, PageFault, read_original, read_page};
@@ -64,6 +65,32 @@ fn happen(
     answer_text(alloc, accepted, answer)
 }
 
+/// The harvest that mementos make: a whole one, or a part.
+fn harvest_of(
+    taking: &Taking<'_>,
+    archive: ArchiveName,
+    original: &Original,
+    mementos: Vec<Memento>,
+) -> Result<Harvest, HarvestFault>
+    ensures kept { IfOk result
+        (λ h. h ≡ record {
+          archive = archive;
+          original = original.now;
+          revision = taking.now.revision;
+          is_whole = taking.now.is_whole;
+          mementos = set.from_list mementos.items;
+        }) }
+    ensures few { IfOk result (λ h. length (set.items h.mementos) ≤ Harvest.MAX_MEMENTOS) }
+    ensures too_many { IsErrOf result HarvestFault.TooMany
+        → Harvest.MAX_MEMENTOS < length (set.items (set.from_list {R = memento_cmp} mementos.items)) }
+{
+    if taking.is_whole {
+        Harvest::new(archive, original, taking.revision, mementos)
+    } else {
+        Harvest::new_part(archive, original, taking.revision, mementos)
+    }
+}
+
 /// Takes the mementos of a page.
 fn take_harvest(
     alloc: Global,
@@ -79,7 +106,7 @@ fn take_harvest(
         return refusal_text(alloc, "bad archive");
     };
     let accepted = taken_line(alloc, &page)?;
-    match Harvest::new(archive, original, taking.revision, page.mementos.into_vec()) {
+    match harvest_of(taking, archive, original, page.mementos.into_vec()) {
         Ok(harvest) => {
             let event = Event::Take(taking.replica as usize, harvest);
             happen(alloc, world, &accepted, &event)

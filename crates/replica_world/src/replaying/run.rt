@@ -114,7 +114,8 @@ fn replay_script<W: Write>(
 ///
 /// | Command | What it does | What it writes |
 /// |---|---|---|
-/// | `take I ARCHIVE REVISION PAGEURL LENGTH ORIGINAL`, then a block | reads the block as the page at PAGEURL; replica I takes its mementos | `taken MEMENTOS FURTHER DROPPED` |
+/// | `take I ARCHIVE REVISION PAGEURL LENGTH ORIGINAL`, then a block | reads the block as the page at PAGEURL; replica I takes its mementos as a whole harvest | `taken MEMENTOS FURTHER DROPPED` |
+/// | `takepart I ARCHIVE REVISION PAGEURL LENGTH ORIGINAL`, then a block | the same, as a part harvest, of which other pages were lost | `taken MEMENTOS FURTHER DROPPED` |
 /// | `map I ORIGINAL` | asks replica I for the original's TimeMap | the reply |
 /// | `gate I ORIGINAL`, `gate I ORIGINAL ASKED` | asks it as a TimeGate, with an `Accept-Datetime`; ORIGINAL then ends at the first space | the reply |
 /// | `ask I METHOD COUNT TARGET`, then COUNT lines | asks it for a target, with 0 to 16 values of `Accept-Datetime` | the reply |
@@ -128,10 +129,10 @@ fn replay_script<W: Write>(
 /// `reply STATUS`, a line `Name: value` for each header, `body LENGTH`, and the body.
 ///
 /// A command that is refused writes a line and changes nothing: `refused bad original`, `refused bad page`,
-/// `refused bad archive`, `refused too many` (over 100,000 mementos), for `take` in this order and before the next;
-/// `refused no replica`, `refused no message`, `refused bad state`; `refused gap none` and `refused gap I N`, where a
-/// message leaves out merges of its sender, of which none are known or the first N of incarnation I; `refused numbers
-/// spent`, where no number of 64 bits is left.
+/// `refused bad archive`, `refused too many` (over 100,000 mementos), for `take` and `takepart` in this order and
+/// before the next; `refused no replica`, `refused no message`, `refused bad state`; `refused gap none` and `refused
+/// gap I N`, where a message leaves out merges of its sender, of which none are known or the first N of incarnation I;
+/// `refused numbers spent`, where no number of 64 bits is left.
 ///
 /// - `BadLine`: the line of this number is none of these, or its block or lines are cut short. The commands before it
 ///   were performed.

@@ -13,8 +13,7 @@ returns-in_err-state-clause-steps c =
 
 pub returns-in_err-absorb-clause-steps : goal.returns-in_err-absorb-clause-steps
 returns-in_err-absorb-clause-steps c =
-    let read = c.in_ok-state.ensures in
-    let text : IsText c.args.bytes.now c.in_ok-state.state = record { state = read.found.0; text = read.found.1; within = read.within } in
+    let text : IsText c.args.bytes.now c.in_ok-state.state = record { text = c.in_ok-state.ensures.found; within = c.in_ok-state.ensures.within } in
     refused_as c.args.self.now _ _ _ _
     (not_absorbed c.args.self.now c.args.number c.in_ok-place.place c.args.bytes.now c.in_ok-state.state c.in_err-absorb.field-0.0 c.in_ok-place.ensures.found text
     (λ spent. c.in_err-absorb.ensures.spent.0 (ap (λ (fault : StampFault). Err fault) spent)))
@@ -22,6 +21,5 @@ returns-in_err-absorb-clause-steps c =
 
 pub returns-clause-steps : goal.returns-clause-steps
 returns-clause-steps c =
-    let read = c.in_ok-state.ensures in
     received c.args.self.now c.absorb.new.self c.args.number c.in_ok-place.place c.args.bytes.now c.in_ok-state.state c.in_ok-place.ensures.found
-    (record { state = read.found.0; text = read.found.1; within = read.within }) c.in_ok-absorb.ensures.ok
+    (record { text = c.in_ok-state.ensures.found; within = c.in_ok-state.ensures.within }) c.in_ok-absorb.ensures.ok
