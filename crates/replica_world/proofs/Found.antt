@@ -255,7 +255,7 @@ address_whole base original page base_is is small =
 begins_any : (text start : List ℕ) → starts_with nat_eq text start ≡ true → starts_with_any_case text start ≡ true
 begins_any text start is =
     let taken : take (length start) text ≡ start =
-    ap (λ (t : List ℕ). take (length start) t) ((starts_is Decides-eqb text start (starts_with nat_eq text start) refl).0 is) ∙ take_at start _ (length start) refl in
+    ap (λ (t : List ℕ). take (length start) t) ((starts_is Decides-eqb text start (starts_with nat_eq text start) refl).0 is) ∙ take_at start (drop (length start) text) (length start) refl in
     ap (λ (t : List ℕ). same_word t start) taken ∙ (bytes_eq-Decides (map to_ascii_lowercase start) (map to_ascii_lowercase start)).1 refl
 
 on_web : (text : List ℕ) → begins_on_web text ≡ true → is_http_target text ≡ true

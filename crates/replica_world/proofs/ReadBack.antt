@@ -1,5 +1,5 @@
 -- What is written as a TimeMap, as a page of one or as the index of its pages is read as just what it lists.
-use Rattle.std.proofs.Common.{◌≡◌, ℕ, zero, suc, ◌+◌, ◌-◌, ◌*◌, ◌^◌, ◌<◌, ◌≤◌, ◌==◌, Bool, true, false, List, [], ◌∷◌, ◌++◌, length, take, drop, map, codes, Option, Some, None, Ok, refl, ap, subst, ◌∙◌, append_assoc, arith}
+use Rattle.std.proofs.Common.{◌≡◌, ℕ, zero, suc, ◌+◌, ◌-◌, ◌*◌, ◌^◌, ◌<◌, ◌≤◌, ◌==◌, nat_lt, Bool, true, false, List, [], ◌∷◌, ◌++◌, length, take, drop, map, codes, Option, Some, None, Ok, refl, ap, subst, ◌∙◌, append_assoc, arith}
 use Rattle.std.specs.Prelude.{All, slice_get}
 use Rattle.std.specs.List.{range_with_len}
 use Rattle.std.proofs.lemmas.List.{length-append, length-take}
@@ -200,8 +200,9 @@ pub index_back : (base original address : List ℕ) (url : Parts) (mementos : Li
 index_back base original address url ms is base_is known followed each small at short =
     let room : 1 + pages ms ≤ 2 ^ 64 = omega (arith, small) in
     let self : length (written.timemap_address base original) ≤ 8192 = address_short base (codes "/timemap/link/") original (base_short base is) (omega arith) known.1 in
-    let params = head_few base original (written.timemap_address base original) ms _ (pages_few base original ms 1 (pages ms)) in
-    let targets = head_short base original (written.timemap_address base original) ms _ is known self (pages_short base original ms 1 (pages ms) is known room) in
+    let links = map (page_link base original ms) (numbers ms) in
+    let params = head_few base original (written.timemap_address base original) ms links (pages_few base original ms 1 (pages ms)) in
+    let targets = head_short base original (written.timemap_address base original) ms links is known self (pages_short base original ms 1 (pages ms) is known room) in
     (index_links base original ms, url, short, (index_reads base original ms is known each small, index_few base original ms short, params, targets), at, its_index base original url ms is known base_is followed small)
 
 pub page_back : (base original address : List ℕ) (url : Parts) (mementos : List Memento) (page : ℕ) → IsBase base → IsOriginal original → AreOnWeb mementos
@@ -211,11 +212,14 @@ page_back base original address url ms page is known web small at =
     let lines = lines_taken page ms in
     let each = All-stretch IsMemento page ms web.each in
     let few : length (stretch page (memento_links true ms)) ≤ 1000 = omega (arith, length-take 1000 (drop (1000 * (page - 1)) (memento_links true ms))) in
-    let params = head_few base original (page_address base original page) here _ (subst FewParams lines (stretch_few _ _ here)) in
+    let first = 1000 * (page - 1) == 0 in
+    let more = nat_lt 1000 (length (drop (1000 * (page - 1)) ms)) in
+    let links = stretch page (memento_links true ms) in
+    let params = head_few base original (page_address base original page) here links (subst FewParams lines (stretch_few first more here)) in
     let self = page_short base original page is known small in
     let gate = address_short base (codes "/timegate/") original (base_short base is) (omega arith) known.1 in
     let short = page_is_short base original ms page known.1 gate self web.each in
-    let targets = head_short base original (page_address base original page) here _ is known self (subst ShortTargets lines (stretch_short _ _ here each)) in
+    let targets = head_short base original (page_address base original page) here links is known self (subst ShortTargets lines (stretch_short first more here each)) in
     (page_links base original ms page, url, short, (page_reads base original ms page is known web.each small, omega (arith, few), params, targets), at, its_page base original url ms page web)
 
 pub read_back : (base original address : List ℕ) (url : Parts) (mementos : List Memento) → IsBase base → IsOriginal original → AreOnWeb mementos

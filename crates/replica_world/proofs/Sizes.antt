@@ -1,5 +1,5 @@
 -- A page of a TimeMap is short enough for those who read pages.
-use Rattle.std.proofs.Common.{◌≡◌, ℕ, suc, ◌+◌, ◌-◌, ◌*◌, ◌^◌, ◌<◌, ◌≤◌, ◌==◌, ◌||◌, not, ◌&&◌, Bool, true, false, List, [], ◌∷◌, ◌++◌, length, take, drop, codes, Option, Some, None, IfSome, subst, ap, ◌∙◌, inl, inr, arith}
+use Rattle.std.proofs.Common.{◌≡◌, ℕ, suc, ◌+◌, ◌-◌, ◌*◌, ◌^◌, ◌<◌, ◌≤◌, ◌==◌, nat_lt, ◌||◌, not, ◌&&◌, Bool, true, false, List, [], ◌∷◌, ◌++◌, length, take, drop, codes, Option, Some, None, IfSome, subst, ap, ◌∙◌, inl, inr, arith}
 use Rattle.std.specs.Prelude.{All, slice_get}
 use Rattle.std.proofs.lemmas.Bool.{cases_Bool}
 use Rattle.std.proofs.lemmas.Option.{slice_get_cases}
@@ -122,7 +122,7 @@ page_is_short base original ms page known gate self each =
     let here_each = All-stretch IsMemento page ms each in
     let few : length here ≤ 1000 = omega (arith, length-take 1000 (drop (1000 * (page - 1)) ms)) in
     let lines : length (followed (codes ",\n") (stretch page (memento_links true ms))) ≤ 8311 * length here =
-    subst (λ (links : List Link). length (followed (codes ",\n") links) ≤ 8311 * length here) (lines_taken page ms) (lines_short _ _ here here_each) in
+    subst (λ (links : List Link). length (followed (codes ",\n") links) ≤ 8311 * length here) (lines_taken page ms) (lines_short (1000 * (page - 1) == 0) (nat_lt 1000 (length (drop (1000 * (page - 1)) ms))) here here_each) in
     let whole = lengths (link_text (original_link original)) (link_text (timegate_link base original)) (link_text (timemap_link (codes "self") (page_address base original page) here))
     (followed (codes ",\n") (stretch page (memento_links true ms))) in
     omega (arith, whole, original_short original known, gate_short base original gate, self_short (page_address base original page) here self here_each, lines, few)

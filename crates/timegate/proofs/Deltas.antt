@@ -127,7 +127,7 @@ route_is_delta q cursor is =
     first_delta (not (is_get q) && not (is_head q)) (is_state q) (is_whole_delta q) (is_delta q) (is_timegate q) (is_timemap q) _ _ _ cursor
     (gate_asks_none q.asked _) (map_asks_none (drop (length timemaps) q.target)) (ap cursor_asked is)
 
-allowed_method : (q : Request) (g h : Bool) → is_get q ≡ g → is_head q ≡ h → (not g && not h) ≡ false → (q.method ≡ codes "GET") ⊎ (q.method ≡ codes "HEAD")
+pub allowed_method : (q : Request) (g h : Bool) → is_get q ≡ g → is_head q ≡ h → (not g && not h) ≡ false → (q.method ≡ codes "GET") ⊎ (q.method ≡ codes "HEAD")
 allowed_method q true h get head allowed = inl ((bytes_eq-Decides q.method (codes "GET")).0 get)
 allowed_method q false true get head allowed = inr ((bytes_eq-Decides q.method (codes "HEAD")).0 head)
 allowed_method q false false get head allowed = absurd (true≢false allowed)

@@ -234,7 +234,7 @@ map_at : (asked : List (List ℕ)) (bytes : List ℕ)
 unfolding route_of
 map_at asked bytes = refl
 
-page_at : (asked : List (List ℕ)) (bytes : List ℕ)
+pub page_at : (asked : List (List ℕ)) (bytes : List ℕ)
     → route_of (record { method = codes "GET"; target = codes "/timemap/link/page/" ++ bytes; asked = asked }) ≡ listing_route (numbered (parts_at slash bytes)) (page_part ++ bytes)
 unfolding route_of
 page_at asked bytes = refl
@@ -252,7 +252,7 @@ gate_served base original q names method address =
     let target : q.target ≡ codes "/timegate/" ++ original = append_cancel_left base q.target (codes "/timegate/" ++ original) (address ∙ append_assoc base (codes "/timegate/") original) in
     at_target q (codes "GET") (codes "/timegate/" ++ original) method target ∙ gate_at q.asked original ∙ ap (original_route (timegate_route q.asked)) names
 
-front_is : (bytes front : List ℕ) → starts_with nat_eq bytes front ≡ true → (rest : List ℕ) × (bytes ≡ front ++ rest)
+pub front_is : (bytes front : List ℕ) → starts_with nat_eq bytes front ≡ true → (rest : List ℕ) × (bytes ≡ front ++ rest)
 front_is bytes front is = (_, (starts_is Decides-eqb bytes front (starts_with nat_eq bytes front) refl).0 is)
 
 -- an original that is asked about doesn't begin as a page's number does
@@ -271,7 +271,7 @@ map_served base original q is method address =
     ∙ ap (λ (page : Option (ℕ × List ℕ)). listing_route page original) (no_page original is.followed.web) ∙ ap (original_route TimeMap) is.itself
 
 -- the number of a page is read as it is written
-page_read : (number : ℕ) (original : List ℕ) → number < 2 ^ 64 → numbered (parts_at slash (decimal number ++ slash ∷ original)) ≡ Some (number, original)
+pub page_read : (number : ℕ) (original : List ℕ) → number < 2 ^ 64 → numbered (parts_at slash (decimal number ++ slash ∷ original)) ≡ Some (number, original)
 page_read number original small =
     let parts = (parts_are slash (decimal number ++ slash ∷ original) (decimal number, original)).1 (decimal_lacks slash (omega arith) number small, refl) in
     let digits : number_of (decimal number) ≡ Some number = (number_is (decimal number) number).1 (small, refl) in

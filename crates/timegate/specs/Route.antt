@@ -170,3 +170,12 @@ pub record AsksDelta (q : Request) (cursor : Option Cursor) : Type 0 where
 -- a reply follows from the harvests that were taken, and from nothing else that a replica keeps
 abbrev pub IsOfTaken : Request → Type 0
 IsOfTaken q = (cursor : Option Cursor) → ¬ (route_of q ≡ Delta cursor)
+
+-- a GET or HEAD of the target of this page: its number has 64 bits and is written as its decimal, and what stands behind
+-- it names the original
+pub record AsksPage (q : Request) (number : ℕ) (original : List ℕ) : Type 0 where
+  pub method : (q.method ≡ codes "GET") ⊎ (q.method ≡ codes "HEAD")
+  pub fits : number < 2 ^ 64
+  pub named : List ℕ
+  pub names : original_at named ≡ Some original
+  pub target : q.target ≡ codes "/timemap/link/page/" ++ decimal number ++ slash ∷ named
