@@ -2,7 +2,8 @@
 use crate::captures::{Capture, FIRST, ROOT, SECOND, THIRD, are, root};
 use crate::makers;
 use anyhow::{Context, Result};
-use harvest_lattice::{Harvest, HarvestFault, Row, State};
+use harvest_lattice::{Entry, Harvest, HarvestFault, Part, Row, State};
+use memento_sets::Mementos;
 use memento_time::Memento;
 use std::alloc::Global;
 use std::test::*;
@@ -30,6 +31,18 @@ fn take(
     merge(state, &harvest)
 }
 
+// Merges a part of what an archive had of the root at a revision.
+fn take_part(
+    alloc: Global,
+    state: &mut State,
+    name: &[u8],
+    revision: u64,
+    captures: &[Capture],
+) -> Result<()> {
+    let part = makers::part_harvest(alloc, name, ROOT, revision, mementos(alloc, captures)?)?;
+    merge(state, &part)
+}
+
 /// Whether the state shows these of the root.
 pub fn shows(alloc: Global, state: &State, captures: &[Capture]) -> Result<bool> {
     let root = root(alloc)?;
@@ -37,7 +50,20 @@ pub fn shows(alloc: Global, state: &State, captures: &[Capture]) -> Result<bool>
     are(alloc, &shown, captures)
 }
 
-// Whether the state holds these of the root at this revision of an archive.
+// Whether the one revision of an entry is this whole one, with these mementos.
+fn is_whole_alone(
+    alloc: Global,
+    entry: &Entry,
+    revision: u64,
+    captures: &[Capture],
+) -> Result<bool> {
+    if entry.whole() != Some(revision) || entry.revisions() != 1 {
+        return Ok(false);
+    }
+    Ok(entry.revision(0) == revision && are(alloc, entry.mementos(0), captures)?)
+}
+
+// Whether the state holds of the root in an archive this whole revision alone, with these mementos.
 fn holds(
     alloc: Global,
     state: &State,
@@ -48,15 +74,13 @@ fn holds(
     let archive = archive(name)?;
     let root = root(alloc)?;
     match state.entry(archive, &root) {
-        Some(entry) => {
-            Ok(entry.revision() == revision && are(alloc, entry.mementos(), captures)?)
-        }
+        Some(entry) => is_whole_alone(alloc, entry, revision, captures),
         None => Ok(false),
     }
 }
 
 #[test]
-fn the_greatest_revision_stays(rt: HostRuntime) -> Result<()> {
+fn the_greatest_whole_revision_stays(rt: HostRuntime) -> Result<()> {
     let alloc = rt.alloc();
     let mut state = State::new(alloc);
     let courses: [(u64, &[Capture], &[Capture]); 4] = [
@@ -69,6 +93,142 @@ fn the_greatest_revision_stays(rt: HostRuntime) -> Result<()> {
         take(alloc, &mut state, b"a1", revision, taken)?;
         assert!(rt; shows(alloc, &state, shown)?, "after revision {revision}");
     }
+    Ok(())
+}
+
+#[test]
+fn parts_stand_beside_the_whole(rt: HostRuntime) -> Result<()> {
+    let alloc = rt.alloc();
+    let mut state = State::new(alloc);
+    take(alloc, &mut state, b"a1", 5, &[FIRST])?;
+    take_part(alloc, &mut state, b"a1", 7, &[SECOND])?;
+    assert!(rt; shows(alloc, &state, &[FIRST, SECOND])?);
+    take(alloc, &mut state, b"a1", 6, &[THIRD])?;
+    assert!(rt; shows(alloc, &state, &[SECOND, THIRD])?);
+    take_part(alloc, &mut state, b"a1", 4, &[FIRST])?;
+    assert!(rt; shows(alloc, &state, &[SECOND, THIRD])?);
+    take(alloc, &mut state, b"a1", 8, &[])?;
+    assert!(rt; shows(alloc, &state, &[])?);
+    assert!(rt; holds(alloc, &state, b"a1", 8, &[])?);
+    Ok(())
+}
+
+// The entry of archive a1 for the root.
+fn entry_of_root(alloc: Global, state: &State) -> Result<Entry> {
+    let root = root(alloc)?;
+    let entry = state.entry(archive(b"a1")?, &root).context("no entry")?;
+    Ok(entry.try_clone()?)
+}
+
+#[test]
+fn parts_alone_are_shown(rt: HostRuntime) -> Result<()> {
+    let alloc = rt.alloc();
+    let mut state = State::new(alloc);
+    take_part(alloc, &mut state, b"a1", 3, &[FIRST])?;
+    take_part(alloc, &mut state, b"a1", 2, &[SECOND])?;
+    assert!(rt; shows(alloc, &state, &[FIRST, SECOND])?);
+    let entry = entry_of_root(alloc, &state)?;
+    assert!(rt; entry.whole().is_none() && entry.revisions() == 2);
+    assert!(rt; entry.revision(0) == 2 && are(alloc, entry.mementos(0), &[SECOND])?);
+    assert!(rt; entry.revision(1) == 3 && are(alloc, entry.mementos(1), &[FIRST])?);
+    Ok(())
+}
+
+#[test]
+fn a_whole_and_a_part_of_one_revision_are_united(rt: HostRuntime) -> Result<()> {
+    let alloc = rt.alloc();
+    let mut state = State::new(alloc);
+    take_part(alloc, &mut state, b"a1", 5, &[SECOND])?;
+    take_part(alloc, &mut state, b"a1", 6, &[THIRD])?;
+    take(alloc, &mut state, b"a1", 5, &[FIRST])?;
+    let entry = entry_of_root(alloc, &state)?;
+    assert!(rt; entry.whole() == Some(5) && entry.revisions() == 2);
+    assert!(rt; are(alloc, entry.mementos(0), &[FIRST, SECOND])?);
+    assert!(rt; are(alloc, entry.mementos(1), &[THIRD])?);
+    Ok(())
+}
+
+#[test]
+fn a_harvest_says_whether_it_is_a_part(rt: HostRuntime) -> Result<()> {
+    let alloc = rt.alloc();
+    let part = makers::part_harvest(alloc, b"a1", ROOT, 7, mementos(alloc, &[FIRST])?)?;
+    assert!(rt; part.is_part() && part.try_clone()?.is_part());
+    assert!(rt; !harvest(alloc, b"a1", 7, &[FIRST])?.is_part());
+    Ok(())
+}
+
+// Takes one of five harvests of archive a1.
+fn take_one_of_five(alloc: Global, state: &mut State, which: u64) -> Result<()> {
+    match which {
+        0 => take(alloc, state, b"a1", 5, &[FIRST]),
+        1 => take_part(alloc, state, b"a1", 7, &[SECOND]),
+        2 => take(alloc, state, b"a1", 6, &[THIRD]),
+        3 => take_part(alloc, state, b"a1", 4, &[FIRST]),
+        _ => take(alloc, state, b"a1", 8, &[]),
+    }
+}
+
+// A state of the five harvests in the order that the digits of a number name, in base five: none where it names one
+// twice.
+fn state_of_order(alloc: Global, order: u64) -> Result<Option<State>> {
+    let mut state = State::new(alloc);
+    let mut named = [false; 5];
+    let mut rest = order;
+    for _ in 0..5 {
+        let which = rest % 5;
+        rest /= 5;
+        if named[which as usize] {
+            return Ok(None);
+        }
+        named[which as usize] = true;
+        take_one_of_five(alloc, &mut state, which)?;
+    }
+    Ok(Some(state))
+}
+
+#[test]
+fn every_order_of_wholes_and_parts_ends_the_same(rt: HostRuntime) -> Result<()> {
+    let alloc = rt.alloc();
+    let mut orders = 0u64;
+    for order in 0..3_125 {
+        if let Some(state) = state_of_order(alloc, order)? {
+            assert!(rt; holds(alloc, &state, b"a1", 8, &[])?, "order {order}");
+            orders = orders.saturating_add(1);
+        }
+    }
+    assert!(rt; orders == 120);
+    Ok(())
+}
+
+// Takes a part harvest with no mementos at each of these revisions: from the least on, or in steps that leave gaps and
+// come back between them.
+fn take_empty_parts(alloc: Global, state: &mut State, count: u64, step: u64) -> Result<()> {
+    for k in 0..count {
+        let revision = k.wrapping_mul(step) % count;
+        take_part(alloc, state, b"a1", revision, &[])?;
+    }
+    Ok(())
+}
+
+// Joins a state of so many parts into another, which has none of their revisions between 0 and the last.
+fn joins_all(alloc: Global, count: u64, step: u64) -> Result<bool> {
+    let mut state = State::new(alloc);
+    take_empty_parts(alloc, &mut state, count, step)?;
+    let mut other = State::new(alloc);
+    take_part(alloc, &mut other, b"a1", 0, &[FIRST])?;
+    take_part(alloc, &mut other, b"a1", count, &[SECOND])?;
+    let is_news = grows_above(&mut other, &state)?;
+    let entry = entry_of_root(alloc, &other)?;
+    Ok(is_news && entry.revisions() as u64 == count.saturating_add(1))
+}
+
+#[test]
+fn ten_thousand_revisions_are_joined(rt: HostRuntime) -> Result<()> {
+    let alloc = rt.alloc();
+    // Ascending, descending, and each between two that stand.
+    assert!(rt; joins_all(alloc, 10_000, 1)?);
+    assert!(rt; joins_all(alloc, 10_000, 9_999)?);
+    assert!(rt; joins_all(alloc, 10_000, 3_333)?);
     Ok(())
 }
 
@@ -148,11 +308,43 @@ fn states_are_joined(rt: HostRuntime) -> Result<()> {
     Ok(())
 }
 
+// A part of an entry.
+fn part(alloc: Global, revision: u64, captures: &[Capture]) -> Result<Part> {
+    let mementos = mementos(alloc, captures)?;
+    Ok(Part::new(revision, Mementos::of(mementos))?)
+}
+
+// An entry of one whole revision.
+fn whole_entry(alloc: Global, revision: u64, captures: &[Capture]) -> Result<Entry> {
+    let parts = vec![in alloc; part(alloc, revision, captures)?]?;
+    Entry::with_parts(alloc, Some(revision), parts)?.context("no entry")
+}
+
 // A row of the root.
 fn row(alloc: Global, name: &[u8], revision: u64, captures: &[Capture]) -> Result<Row> {
-    let mementos = mementos(alloc, captures)?;
-    let row = Row::new(archive(name)?, root(alloc)?, revision, mementos)?;
-    row.context("no row")
+    Ok(Row {
+        archive: archive(name)?,
+        original: root(alloc)?,
+        entry: whole_entry(alloc, revision, captures)?,
+    })
+}
+
+// Whether two parts of these revisions make an entry with this whole revision.
+fn makes_entry(alloc: Global, whole: Option<u64>, first: u64, second: u64) -> Result<bool> {
+    let first = part(alloc, first, &[FIRST])?;
+    let second = part(alloc, second, &[FIRST])?;
+    let parts = vec![in alloc; first, second]?;
+    Ok(Entry::with_parts(alloc, whole, parts)?.is_some())
+}
+
+#[test]
+fn parts_in_order_make_an_entry(rt: HostRuntime) -> Result<()> {
+    let alloc = rt.alloc();
+    assert!(rt; makes_entry(alloc, Some(2), 2, 3)? && makes_entry(alloc, None, 2, 3)?);
+    assert!(rt; !makes_entry(alloc, Some(3), 2, 3)?);
+    assert!(rt; !makes_entry(alloc, None, 3, 2)? && !makes_entry(alloc, None, 2, 2)?);
+    assert!(rt; Entry::with_parts(alloc, None, Vec::new(alloc))?.is_none());
+    Ok(())
 }
 
 fn two_rows(alloc: Global) -> Result<Vec<Row>> {
@@ -175,8 +367,7 @@ fn a_row_is_copied(rt: HostRuntime) -> Result<()> {
     let copy = row(alloc, b"a1", 7, &[FIRST, SECOND])?.try_clone()?;
     assert!(rt; copy.archive() == archive(b"a1")?);
     assert!(rt; copy.original().as_bytes() == ROOT);
-    assert!(rt; copy.entry().revision() == 7);
-    assert!(rt; are(alloc, copy.entry().mementos(), &[FIRST, SECOND])?);
+    assert!(rt; is_whole_alone(alloc, copy.entry(), 7, &[FIRST, SECOND])?);
     Ok(())
 }
 

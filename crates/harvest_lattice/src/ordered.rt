@@ -1,0 +1,162 @@
+//! Lists of parts in order.
+ghost use Rattle.std.specs.Prelude.{◌≡◌, ◌++◌, ◌<◌, ◌≤◌, length, reverse, IfOk, OnOk, None, cond, nat_lt, option_copied, slice_get};
+ghost use Rattle.std.specs.List.{All};
+ghost use Rattle.std.specs.Ordering.{nat_cmp};
+ghost use Rattle.std.specs.FinMap as map;
+ghost use Rattle.harvest_lattice.specs.Knowledge.{items_of};
+ghost use Rattle.harvest_lattice.specs.Parts.{PartsRise, IsPlace, IsParted, is_of, found_set, put_part, put_parts, with_standing, whole_first};
+
+use crate::part::Part;
+use memento_time::{Memento, NoMemory};
+use std::cmp::Ordering;
+
+// How many are of a lesser revision.
+pub fn count_below(parts: &[Part], revision: u64) -> usize
+    requires { PartsRise parts.now }
+    ensures within { result ≤ length parts.now }
+    ensures place { IsPlace parts.now revision result }
+{
+    parts.partition_point(
+        |part: &Part| -> bool
+            ensures { result ≡ nat_lt part.now.0 revision }
+        { part.revision() < revision },
+    )
+}
+
+// What stands at a revision.
+pub fn find(parts: &[Part], revision: u64) -> Option<&Part>
+    requires { PartsRise parts.now }
+    ensures { found_set (option_copied result) ≡ map.find nat_cmp revision parts.now }
+{
+    part_at(parts, count_below(parts, revision), revision)
+}
+
+// The part at a place, if it is of this revision.
+fn part_at(parts: &[Part], place: usize, revision: u64) -> Option<&Part>
+    ensures { option_copied result ≡ cond (is_of revision (slice_get parts.now place)) (slice_get parts.now place) None }
+{
+    match parts.get(place) {
+        Some(part) => {
+            if part.revision() == revision {
+                Some(part)
+            } else {
+                None
+            }
+        }
+        None => None,
+    }
+}
+
+// Both lists in one. Parts of one revision are united, and one that comes shares the list of the part before it, where
+// the two have the same mementos. One walk over both.
+pub fn unite(standing: Vec<Part>, coming: &[Part]) -> Result<Vec<Part>, NoMemory>
+    requires { PartsRise coming.now }
+    ensures { IfOk result (λ both. both.items ≡ put_parts standing.items coming.now) }
+{
+    let mut both = Vec::with_capacity(*standing.allocator(), standing.len())?;
+    let mut waiting = standing;
+    waiting.reverse();
+    for part in coming {
+        place(&mut both, &mut waiting, part)?;
+    }
+    waiting.reverse();
+    both.append(&mut waiting)?;
+    Ok(both)
+}
+
+// Puts a part behind a list of lesser ones, once those that wait and come before it have gone there. Of those that wait
+// the least stands last.
+fn place(both: &mut Vec<Part>, waiting: &mut Vec<Part>, part: &Part) -> Result<(), NoMemory>
+    requires { All (λ p. p.0 < part.now.0) both.old.items }
+    ensures placed { OnOk result
+        (both.new.items ++ reverse waiting.new.items
+        ≡ put_part (both.old.items ++ reverse waiting.old.items) part.now) }
+    ensures last { OnOk result (All (λ p. p.0 ≤ part.now.0) both.new.items) }
+{
+    let standing = pass(both, waiting, part.revision())?;
+    let placed = beside(standing, part, both.last())?;
+    both.push(placed)?;
+    Ok(())
+}
+
+// Puts behind a list those that wait and are of a lesser revision, and gives the one of that revision, if one waits.
+fn pass(
+    both: &mut Vec<Part>,
+    waiting: &mut Vec<Part>,
+    revision: u64,
+) -> Result<Option<Part>, NoMemory>
+    requires { All (λ p. p.0 < revision) both.old.items }
+    ensures { IfOk result
+        (λ here. IsParted revision (both.old.items ++ reverse waiting.old.items) both.new.items here
+        (reverse waiting.new.items)) }
+{
+    while let Some(next) = waiting.pop() {
+        match next.revision().cmp(&revision) {
+            Ordering::Less => both.push(next)?,
+            Ordering::Equal => return Ok(Some(next)),
+            Ordering::Greater => {
+                waiting.push(next)?;
+                return Ok(None);
+            }
+        }
+    }
+    Ok(None)
+}
+
+// A part, united with what stands at its revision, if something does; else with the list of the part before it, where
+// the two have the same mementos.
+fn beside(standing: Option<Part>, part: &Part, before: Option<&Part>) -> Result<Part, NoMemory>
+    ensures { IfOk result (λ both. both ≡ with_standing standing part.now) }
+{
+    if let Some(standing) = standing {
+        return standing.united(part);
+    }
+    match before {
+        Some(before) => part.like(before),
+        None => part.try_clone(),
+    }
+}
+
+// Whether each revision is below the next one.
+pub fn parts_rise(parts: &[Part]) -> bool
+    ensures { result ≡ map.is_sorted nat_cmp parts.now }
+{
+    for k in 1..parts.len() {
+        if parts[k - 1].revision() >= parts[k].revision() {
+            return false;
+        }
+    }
+    true
+}
+
+// Whether the whole revision, if there is one, is that of the first.
+pub fn is_whole_first(whole: Option<u64>, parts: &[Part]) -> bool
+    ensures { result ≡ whole_first whole parts.now }
+{
+    let Some(whole) = whole else {
+        return true;
+    };
+    match parts.first() {
+        Some(first) => first.revision() == whole,
+        None => false,
+    }
+}
+
+pub fn append_parts(list: &mut Vec<Memento>, parts: &[Part]) -> Result<(), NoMemory>
+    ensures { OnOk result (list.new.items ≡ list.old.items ++ items_of parts.now) }
+{
+    for part in parts {
+        append_copies(list, part.mementos())?;
+    }
+    Ok(())
+}
+
+// Appends copies of these mementos. After an error some may stand in the list.
+pub fn append_copies(list: &mut Vec<Memento>, mementos: &[Memento]) -> Result<(), NoMemory>
+    ensures { OnOk result (list.new.items ≡ list.old.items ++ mementos.now) }
+{
+    for memento in mementos {
+        list.push(memento.try_clone()?)?;
+    }
+    Ok(())
+}
