@@ -34,13 +34,18 @@ shows o m e = eq_by_cmp text_cmp o e.0.1 && set.contains (mementos_of e.1) m
 abbrev archives_in : List (Key × Kept) → List ℕ → Memento → List (List ℕ)
 archives_in es o m = map (λ e. e.0.0) (filter (shows o m) es)
 
+-- and that of one more, if it does
+abbrev archives_if : Bool → Key × Kept → List (Key × Kept) → List ℕ → Memento → List (List ℕ)
+archives_if b e es o m = map (λ e. e.0.0) (cond b (e ∷ filter (shows o m) es) (filter (shows o m) es))
+
 -- ---- how many they are
 
 counted : (es : List (Key × Kept)) (o : List ℕ) (m : Memento) → showing_by (λ e. Some e.1) es o m ≡ length (archives_in es o m)
 counted [] o m = refl
 counted (e ∷ es) o m = by (eq_by_cmp text_cmp o e.0.1) (set.contains (mementos_of e.1) m) (counted es o m)
   where
-    by : (a b : Bool) → showing_by (λ e. Some e.1) es o m ≡ length (archives_in es o m) → cond a (cond b 1 0) 0 + showing_by (λ e. Some e.1) es o m ≡ length (map (λ e. e.0.0) (cond (a && b) (e ∷ filter (shows o m) es) (filter (shows o m) es)))
+    by : (a b : Bool) → showing_by (λ e. Some e.1) es o m ≡ length (archives_in es o m) →
+        cond a (cond b 1 0) 0 + showing_by (λ e. Some e.1) es o m ≡ length (archives_if (a && b) e es o m)
     by true true rest = omega (arith, rest)
     by true false rest = omega (arith, rest)
     by false b rest = omega (arith, rest)
@@ -60,9 +65,9 @@ all_above k [] o m h of_it = tt
 all_above k (e ∷ es) o m h of_it =
     let p = two_parts (is_lt (key_cmp k e.0)) (below_all key_cmp k es) h in
     let rest = all_above k es o m p.1 of_it in
-    elim (eq_by_cmp text_cmp o e.0.1) as (λ a. eq_by_cmp text_cmp o e.0.1 ≡ a → AllByRecursion (λ a. text_cmp k.0 a ≡ Less) (map (λ e. e.0.0) (cond (a && set.contains (mementos_of e.1) m) (e ∷ filter (shows o m) es) (filter (shows o m) es)))) [
+    elim (eq_by_cmp text_cmp o e.0.1) as (λ a. eq_by_cmp text_cmp o e.0.1 ≡ a → AllByRecursion (λ a. text_cmp k.0 a ≡ Less) (archives_if (a && set.contains (mementos_of e.1) m) e es o m)) [
       | true ↦ λ t.
-          elim (set.contains (mementos_of e.1) m) as (λ b. AllByRecursion (λ a. text_cmp k.0 a ≡ Less) (map (λ e. e.0.0) (cond b (e ∷ filter (shows o m) es) (filter (shows o m) es)))) [
+          elim (set.contains (mementos_of e.1) m) as (λ b. AllByRecursion (λ a. text_cmp k.0 a ≡ Less) (archives_if b e es o m)) [
             | true ↦ (archive_less k e.0 (less_from (key_cmp k e.0) p.0) (of_it ∙ same_text o e.0.1 t), rest)
             | false ↦ rest
           ]
@@ -75,9 +80,9 @@ each_once [] o m h = tt
 each_once (e ∷ es) o m h =
     let p = two_parts (below_all key_cmp e.0 es) (fmap.is_sorted key_cmp es) h in
     let rest = each_once es o m p.1 in
-    elim (eq_by_cmp text_cmp o e.0.1) as (λ a. eq_by_cmp text_cmp o e.0.1 ≡ a → IsStrictlySortedBy text_cmp (map (λ e. e.0.0) (cond (a && set.contains (mementos_of e.1) m) (e ∷ filter (shows o m) es) (filter (shows o m) es)))) [
+    elim (eq_by_cmp text_cmp o e.0.1) as (λ a. eq_by_cmp text_cmp o e.0.1 ≡ a → IsStrictlySortedBy text_cmp (archives_if (a && set.contains (mementos_of e.1) m) e es o m)) [
       | true ↦ λ t.
-          elim (set.contains (mementos_of e.1) m) as (λ b. IsStrictlySortedBy text_cmp (map (λ e. e.0.0) (cond b (e ∷ filter (shows o m) es) (filter (shows o m) es)))) [
+          elim (set.contains (mementos_of e.1) m) as (λ b. IsStrictlySortedBy text_cmp (archives_if b e es o m)) [
             | true ↦ (all_above e.0 es o m p.0 (sym (same_text o e.0.1 t)), rest)
             | false ↦ rest
           ]
@@ -115,9 +120,9 @@ all_show : (x : Entries) (es : List (Key × Kept)) (o : List ℕ) (m : Memento) 
 all_show x [] o m all = tt
 all_show x (e ∷ es) o m all =
     let rest = all_show x es o m all.1 in
-    elim (eq_by_cmp text_cmp o e.0.1) as (λ a. eq_by_cmp text_cmp o e.0.1 ≡ a → AllByRecursion (IsShowing x o m) (map (λ e. e.0.0) (cond (a && set.contains (mementos_of e.1) m) (e ∷ filter (shows o m) es) (filter (shows o m) es)))) [
+    elim (eq_by_cmp text_cmp o e.0.1) as (λ a. eq_by_cmp text_cmp o e.0.1 ≡ a → AllByRecursion (IsShowing x o m) (archives_if (a && set.contains (mementos_of e.1) m) e es o m)) [
       | true ↦ λ t.
-          elim (set.contains (mementos_of e.1) m) as (λ b. set.contains (mementos_of e.1) m ≡ b → AllByRecursion (IsShowing x o m) (map (λ e. e.0.0) (cond b (e ∷ filter (shows o m) es) (filter (shows o m) es)))) [
+          elim (set.contains (mementos_of e.1) m) as (λ b. set.contains (mementos_of e.1) m ≡ b → AllByRecursion (IsShowing x o m) (archives_if b e es o m)) [
             | true ↦ λ has. (one_shows x o m e all.0 t has, rest)
             | false ↦ λ _. rest
           ] refl
@@ -140,7 +145,7 @@ any_archive : (a : List ℕ) (es : List (Key × Kept)) (o : List ℕ) (m : Memen
 any_archive a [] o m = refl
 any_archive a (e ∷ es) o m =
     let rest = any_archive a es o m in
-    elim (shows o m e) as (λ b. ((b && eq_by_cmp text_cmp a e.0.0) || list_any (λ e. shows o m e && eq_by_cmp text_cmp a e.0.0) es) ≡ list_any (eq_by_cmp text_cmp a) (map (λ e. e.0.0) (cond b (e ∷ filter (shows o m) es) (filter (shows o m) es)))) [
+    elim (shows o m e) as (λ b. ((b && eq_by_cmp text_cmp a e.0.0) || list_any (λ e. shows o m e && eq_by_cmp text_cmp a e.0.0) es) ≡ list_any (eq_by_cmp text_cmp a) (archives_if b e es o m)) [
       | true ↦ ap (λ r. eq_by_cmp text_cmp a e.0.0 || r) rest
       | false ↦ rest
     ]
@@ -148,7 +153,8 @@ any_archive a (e ∷ es) o m =
 stands_there : (x : Entries) (o : List ℕ) (m : Memento) (archive : List ℕ) → IsShowing x o m archive → Contains (archives_in (fmap.entries x) o m) archive
 stands_there x o m archive w =
     let found : fmap.find key_cmp (archive, o) (fmap.entries x) ≡ Some w.kept = sym (fmap.get-entries x (archive, o)) ∙ w.stands in
-    let one = found_passes (λ e. shows o m e && eq_by_cmp text_cmp archive e.0.0) (archive, o) w.kept (fmap.entries x) found (and_from _ _ (and_from _ _ (text_itself o) (entry_shows x o m archive w)) (text_itself archive)) in
+    let passes = and_from _ _ (and_from _ _ (text_itself o) (entry_shows x o m archive w)) (text_itself archive) in
+    let one = found_passes (λ e. shows o m e && eq_by_cmp text_cmp archive e.0.0) (archive, o) w.kept (fmap.entries x) found passes in
     let any = Any-from_list_any (eq_by_cmp text_cmp archive) (archives_in (fmap.entries x) o m) (sym (any_archive archive (fmap.entries x) o m) ∙ one) in
     subst (Contains (archives_in (fmap.entries x) o m)) (sym (same_text archive any.1 any.4)) (any.0, any.2, any.3)
 

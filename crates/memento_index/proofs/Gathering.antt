@@ -1,5 +1,6 @@
 -- The steps of a state's changes.
-use Rattle.std.proofs.Common.{◌≡◌, ℕ, zero, suc, ◌+◌, ◌<◌, ◌≤◌, Bool, true, false, cond, ◌||◌, map, take, length, get_or, List, [], ◌∷◌, ◌++◌, Option, Some, None, IfSome, refl, sym, ap, subst, ◌∙◌, arith}
+use Rattle.std.proofs.Common.{◌≡◌, ℕ, zero, suc, ◌+◌, ◌<◌, ◌≤◌, Bool, true, false, cond, ◌||◌, map, take, length, get_or, List, [], ◌∷◌, ◌++◌, Option, Some, None, IfSome}
+use Rattle.std.proofs.Common.{refl, sym, ap, subst, ◌∙◌, arith}
 use Rattle.std.specs.List.{AllByRecursion}
 use Rattle.std.specs.List.Sorted.{IsStrictlySortedBy}
 use Rattle.std.specs.Ordering.{eq_by_cmp, is_eq, nat_cmp}
@@ -84,7 +85,8 @@ held_one : (k : Kept) (r : ℕ) (s : Mementos) → fmap.entries k.revisions ≡ 
 held_one k r s is = fmap.get-entries k.revisions r ∙ (ap (fmap.find nat_cmp r) is ∙ ap (λ b. cond b (Some s) None) (revision_itself r))
 
 -- beside what is held at its revision
-pub comes_beside : (x : Entries) (e : Key × Kept) (a : Kept) (before after : List Memento) → fmap.get x e.0 ≡ Some a → AreOfOne a e.1 → IsNewsAt x e → before ≡ [] → after ≡ set.items (mementos_of e.1) → IsReplaced x e before after
+pub comes_beside : (x : Entries) (e : Key × Kept) (a : Kept) (before after : List Memento) →
+    fmap.get x e.0 ≡ Some a → AreOfOne a e.1 → IsNewsAt x e → before ≡ [] → after ≡ set.items (mementos_of e.1) → IsReplaced x e before after
 comes_beside x e a before after there one news none new = record {
   shows = λ m. omega (arith, joins m, was m, come m, nothing m);
   shown = λ m. omega (arith, nothing m);
@@ -120,7 +122,8 @@ comes_beside x e a before after there one news none new = record {
         ∙ (ap (λ b. cond b 1 0) (contains-union one.1 one.2 m) ∙ sum_of (set.contains one.1 m) (set.contains one.2 m) (apart m)))
 
 -- or in the place of all that is held
-pub takes_place : (x : Entries) (e : Key × Kept) (a : Kept) (before after : List Memento) → fmap.get x e.0 ≡ Some a → before ≡ set.items (mementos_of a) → after ≡ set.items (mementos_of (join_kept a e.1)) → IsReplaced x e before after
+pub takes_place : (x : Entries) (e : Key × Kept) (a : Kept) (before after : List Memento) →
+    fmap.get x e.0 ≡ Some a → before ≡ set.items (mementos_of a) → after ≡ set.items (mementos_of (join_kept a e.1)) → IsReplaced x e before after
 takes_place x e a before after there old new = record {
   shows = λ m. omega (arith, now m, was m, come m, gone m);
   shown = λ m. omega (arith, was m, gone m);
@@ -167,7 +170,8 @@ only_one [] r len first = absurd (omega arith)
 only_one (e ∷ []) r len first = (e.1, λ i. (same_Some e.0 r first i, e.1) ∷ [])
 only_one (e ∷ f ∷ es) r len first = absurd (omega arith)
 
-pub are_of_one : (a b : Kept) (m n r q : ℕ) → m ≡ fmap.len a.revisions → n ≡ fmap.len b.revisions → m ≡ 1 → n ≡ 1 → slice_get (fmap.keys a.revisions) 0 ≡ Some r → slice_get (fmap.keys b.revisions) 0 ≡ Some q → r ≡ q → AreOfOne a b
+pub are_of_one : (a b : Kept) (m n r q : ℕ) →
+    m ≡ fmap.len a.revisions → n ≡ fmap.len b.revisions → m ≡ 1 → n ≡ 1 → slice_get (fmap.keys a.revisions) 0 ≡ Some r → slice_get (fmap.keys b.revisions) 0 ≡ Some q → r ≡ q → AreOfOne a b
 are_of_one a b m n r q ma nb one1 one2 fa fb same =
     let left = only_one (fmap.entries a.revisions) r (sym (fmap.len-entries a.revisions) ∙ (sym ma ∙ one1)) fa in
     let right = only_one (fmap.entries b.revisions) q (sym (fmap.len-entries b.revisions) ∙ (sym nb ∙ one2)) fb in

@@ -23,4 +23,6 @@ returns-then-comes_first-clause-shifted c =
     (shifted_first x (row_entry row) (shared_mementos made.before) (arc_value list) replaced (c.comes_first.ensures.beside c.if-comes_first.true))
 
 pub returns-then-comes_first-clause-gone : goal.returns-then-comes_first-clause-gone
-returns-then-comes_first-clause-gone c = none_gone c.args.all.now c.args.row.now.original (ap (λ p. tree.get text_cmp c.args.all.now p) (sym c.original.ensures) ∙ c.comes_first.ensures.alone c.if-comes_first.true)
+returns-then-comes_first-clause-gone c =
+    none_gone c.args.all.now c.args.row.now.original
+    (ap (λ p. tree.get text_cmp c.args.all.now p) (sym c.original.ensures) ∙ c.comes_first.ensures.alone c.if-comes_first.true)
