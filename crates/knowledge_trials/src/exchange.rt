@@ -1,6 +1,6 @@
 //! Tests of `replica_exchange`: the texts of states and of deltas, the numbers of merges, and cursors.
 use crate::captures::{Capture, FIRST, ROOT, SECOND, root};
-use crate::makers::{harvest, merge};
+use crate::makers::{harvest, merge, part_harvest};
 use anyhow::Result;
 use harvest_lattice::State;
 use memento_index::Merge;
@@ -12,30 +12,53 @@ use std::alloc::Global;
 use std::test::*;
 use text_trials::makers::{archive, mementos};
 
-// What a replica holds after one harvest of one page.
+// What a replica holds after one whole harvest of one page.
 const ONE_PAGE: &[u8] =
+    b"memento-state 2\nentries 1\nentry arc.example 7 1 http://a.example/\nat 7 1\n946684800 http://arc.example/web/20000101000000/http://a.example/\nend\n";
+
+// The same in format 1.
+const OLD_PAGE: &[u8] =
     b"memento-state 1\nentries 1\nentry arc.example 7 1 http://a.example/\n946684800 http://arc.example/web/20000101000000/http://a.example/\nend\n";
 
+// What it holds after two part harvests alone.
+const TWO_PARTS: &[u8] = b"memento-state 2
+entries 1
+entry a1 - 2 http://a.example/
+at 2 1
+946857600 http://m.example/2
+at 3 1
+946684800 http://m.example/1
+end
+";
+
 // Two archives whose names begin as a third's, each with originals of their own. By original first the order would be
-// another, and so would it be by the digits of seconds.
-const WORKED: &[u8] = b"memento-state 1
+// another, and so would it be by the digits of seconds or of revisions.
+const WORKED: &[u8] = b"memento-state 2
 entries 5
-entry a1 0 0 http://b.example/
-entry a1 18446744073709551615 3 http://c.example/
+entry a1 0 1 http://b.example/
+at 0 0
+entry a1 18446744073709551615 1 http://c.example/
+at 18446744073709551615 3
 0 http://m.example/1
 253402300799 http://m.example/2
 253402300799 http://m.example/3
-entry a1-b 7 1 http://a.example/
+entry a1-b - 2 http://a.example/
+at 9 0
+at 18446744073709551615 1
 946684800 http://m.example/4
 entry a1.b 3 2 http://a.example/
+at 3 2
 9 http://m.example/6
 10 http://m.example/5
+at 10 1
+9 http://m.example/6
 entry a1.b 3 1 http://b.example/
+at 3 1
 946684800 http://m.example/4
 end
 ";
 
-const EMPTY: &[u8] = b"memento-state 1\nentries 0\nend\n";
+const EMPTY: &[u8] = b"memento-state 2\nentries 0\nend\n";
 
 fn take(
     alloc: Global,
@@ -56,14 +79,35 @@ fn take(
     Ok(())
 }
 
+fn take_part(
+    alloc: Global,
+    state: &mut State,
+    archive: &[u8],
+    revision: u64,
+    captures: &[Capture],
+) -> Result<()> {
+    let mementos = mementos(alloc, captures)?;
+    state.merge(&part_harvest(alloc, archive, ROOT, revision, mementos)?)?;
+    Ok(())
+}
+
 fn take_worked(alloc: Global, state: &mut State) -> Result<()> {
     let b: &[u8] = b"http://b.example/";
     let c: &[u8] = b"http://c.example/";
     let fourth: Capture = (946_684_800, b"http://m.example/4");
+    let sixth: Capture = (9, b"http://m.example/6");
+    take_part(alloc, state, b"a1.b", 10, &[sixth])?;
     take(alloc, state, b"a1.b", b, 3, &[fourth])?;
-    let early: [Capture; 2] = [(10, b"http://m.example/5"), (9, b"http://m.example/6")];
-    take(alloc, state, b"a1.b", ROOT, 3, &early)?;
-    take(alloc, state, b"a1-b", ROOT, 7, &[fourth])?;
+    take(
+        alloc,
+        state,
+        b"a1.b",
+        ROOT,
+        3,
+        &[(10, b"http://m.example/5"), sixth],
+    )?;
+    take_part(alloc, state, b"a1-b", u64::MAX, &[fourth])?;
+    take_part(alloc, state, b"a1-b", 9, &[])?;
     let ends: [Capture; 3] = [
         (253_402_300_799, b"http://m.example/3"),
         (253_402_300_799, b"http://m.example/2"),
@@ -76,6 +120,11 @@ fn take_worked(alloc: Global, state: &mut State) -> Result<()> {
 fn take_page(alloc: Global, state: &mut State) -> Result<()> {
     let uri: &[u8] = b"http://arc.example/web/20000101000000/http://a.example/";
     take(alloc, state, b"arc.example", ROOT, 7, &[(FIRST.0, uri)])
+}
+
+fn take_two_parts(alloc: Global, state: &mut State) -> Result<()> {
+    take_part(alloc, state, b"a1", 3, &[FIRST])?;
+    take_part(alloc, state, b"a1", 2, &[SECOND])
 }
 
 fn is_written_as(alloc: Global, state: &State, text: &[u8]) -> Result<bool> {
@@ -97,14 +146,34 @@ fn goes_both_ways(alloc: Global, state: &State, text: &[u8], entries: usize) -> 
 #[test]
 fn states_both_ways(rt: HostRuntime) -> Result<()> {
     let alloc = rt.alloc();
-    assert_eq!(rt; EMPTY.len(), 30);
+    assert_eq!(rt;
+        [EMPTY.len(), ONE_PAGE.len(), TWO_PARTS.len()],
+        [30, 143, 133]
+    );
     let mut state = State::new(alloc);
     assert!(rt; goes_both_ways(alloc, &state, EMPTY, 0)?);
     take_page(alloc, &mut state)?;
     assert!(rt; goes_both_ways(alloc, &state, ONE_PAGE, 1)?);
     let mut state = State::new(alloc);
+    take_two_parts(alloc, &mut state)?;
+    assert!(rt; goes_both_ways(alloc, &state, TWO_PARTS, 1)?);
+    let mut state = State::new(alloc);
     take_worked(alloc, &mut state)?;
     assert!(rt; goes_both_ways(alloc, &state, WORKED, 5)?);
+    Ok(())
+}
+
+// Whether a text of format 1 is read as the state that has this text of format 2.
+fn is_read_as(alloc: Global, old: &[u8], text: &[u8]) -> Result<bool> {
+    is_written_as(alloc, &read_state(alloc, old)?, text)
+}
+
+#[test]
+fn format_one_is_still_read(rt: HostRuntime) -> Result<()> {
+    let alloc = rt.alloc();
+    assert_eq!(rt; OLD_PAGE.len(), 136);
+    assert!(rt; is_read_as(alloc, OLD_PAGE, ONE_PAGE)?);
+    assert!(rt; is_read_as(alloc, b"memento-state 1\nentries 0\nend\n", EMPTY)?);
     Ok(())
 }
 
@@ -112,29 +181,104 @@ fn is_no_state(alloc: Global, text: &[u8]) -> bool {
     matches!(read_state(alloc, text), Err(StateFault::NotState))
 }
 
+// The text of a state of this format with one entry, whose lines these are behind the name of its archive.
+fn one_entry(alloc: Global, format: &[u8], lines: &[u8]) -> Result<Vec<u8>> {
+    let mut text = Vec::new(alloc);
+    text.extend_from_slice(b"memento-state ")?;
+    text.extend_from_slice(format)?;
+    text.extend_from_slice(b"\nentries 1\nentry a1 ")?;
+    text.extend_from_slice(lines)?;
+    text.extend_from_slice(b"end\n")?;
+    Ok(text)
+}
+
+// Whether such a text is refused, and not for its first lines or its last.
+fn is_no_entry(alloc: Global, format: &[u8], lines: &[u8]) -> Result<bool> {
+    let sound: &[u8] = if format == b"2".as_slice() {
+        b"2 1 http://a.example/\nat 2 0\n"
+    } else {
+        b"2 0 http://a.example/\n"
+    };
+    let is_sound = !is_no_state(alloc, &one_entry(alloc, format, sound)?);
+    Ok(is_sound && is_no_state(alloc, &one_entry(alloc, format, lines)?))
+}
+
+#[test]
+fn cut_texts_are_no_states(rt: HostRuntime) {
+    let alloc = rt.alloc();
+    for text in [ONE_PAGE, OLD_PAGE, TWO_PARTS] {
+        for end in 0..text.len() {
+            assert!(rt; is_no_state(alloc, &text[..end]), "cut at {end}");
+        }
+    }
+}
+
+#[test]
+fn other_revisions_are_no_entries(rt: HostRuntime) -> Result<()> {
+    let alloc = rt.alloc();
+    let others: [&[u8]; 16] = [
+        // A revision below the whole one, and a whole one that isn't the first or isn't there.
+        b"2 2 http://a.example/\nat 1 0\nat 2 0\n",
+        b"2 1 http://a.example/\nat 1 0\n",
+        b"2 1 http://a.example/\nat 3 0\n",
+        // Revisions out of order, twice, or none.
+        b"- 2 http://a.example/\nat 3 0\nat 2 0\n",
+        b"- 2 http://a.example/\nat 2 0\nat 2 0\n",
+        b"2 0 http://a.example/\n",
+        b"- 0 http://a.example/\n",
+        // Other numbers of lines than are told.
+        b"- 2 http://a.example/\nat 2 0\n",
+        b"- 1 http://a.example/\nat 2 0\nat 3 0\n",
+        b"2 1 http://a.example/\nat 2 1\n",
+        b"2 1 http://a.example/\nat 2 0\n9 http://m.example/1\n",
+        b"- 18446744073709551615 http://a.example/\nat 2 0\n",
+        // Numbers that are none.
+        b"02 1 http://a.example/\nat 2 0\n",
+        b"-- 1 http://a.example/\nat 2 0\n",
+        b"- 1 http://a.example/\nat 18446744073709551616 0\n",
+        // An entry of format 1.
+        b"2 1 http://a.example/\n9 http://m.example/1\n",
+    ];
+    for lines in others {
+        assert!(rt; is_no_entry(alloc, b"2", lines)?);
+    }
+    Ok(())
+}
+
+#[test]
+fn other_lines_are_no_old_entries(rt: HostRuntime) -> Result<()> {
+    let alloc = rt.alloc();
+    let others: [&[u8]; 8] = [
+        // Entries of format 2.
+        b"2 1 http://a.example/\nat 2 1\n9 http://m.example/1\n",
+        b"- 1 http://a.example/\nat 2 0\n",
+        b"02 0 http://a.example/\n",
+        b"2 2 http://a.example/\n10 http://m.example/1\n9 http://m.example/1\n",
+        b"2 2 http://a.example/\n9 http://m.example/1\n9 http://m.example/1\n",
+        b"2 1 http://a.example/\n9 http://m.example/1\n9 http://m.example/2\n",
+        b"2 1 http://a.example/\n253402300800 http://m.example/1\n",
+        b"2 18446744073709551615 http://a.example/\n",
+    ];
+    for lines in others {
+        assert!(rt; is_no_entry(alloc, b"1", lines)?);
+    }
+    Ok(())
+}
+
 #[test]
 fn other_texts_are_no_states(rt: HostRuntime) {
     let alloc = rt.alloc();
-    for end in 0..ONE_PAGE.len() {
-        assert!(rt; is_no_state(alloc, &ONE_PAGE[..end]), "cut at {end}");
-    }
-    let others: [&[u8]; 16] = [
-        b"memento-state 1\nentries 1\nentry arc.example 07 1 http://a.example/\n946684800 http://arc.example/web/20000101000000/http://a.example/\nend\n",
-        b"memento-state 1\nentries 1\nentry arc.example 7 1 http://a.example/\n946684800 http://arc.example/web/20000101000000/http://a.example/\n",
-        b"memento-state 1\nentries 1\nentry arc.example 7 1 http://a.example/\n946684800 http://arc.example/web/20000101000000/http://a.example/\nend\n\n",
-        b"memento-state 1\nentries 2\nentry b1 1 0 http://a.example/\nentry a1 1 0 http://a.example/\nend\n",
-        b"memento-state 1\nentries 2\nentry a1 1 0 http://a.example/\nentry a1 1 0 http://a.example/\nend\n",
-        b"memento-state 1\nentries 1\nentry a1 1 2 http://a.example/\n10 http://m.example/1\n9 http://m.example/1\nend\n",
-        b"memento-state 1\nentries 1\nentry a1 1 2 http://a.example/\n9 http://m.example/1\n9 http://m.example/1\nend\n",
-        b"memento-state 1\nentries 1\nentry a1 1 1 http://a.example/\n9 http://m.example/1\n9 http://m.example/2\nend\n",
-        b"memento-state 1\nentries 1\nentry a1 1 2 http://a.example/\n9 http://m.example/1\nend\n",
-        b"memento-state 1\nentries 1\nentry a1 1 1 http://a.example/\n253402300800 http://m.example/1\nend\n",
-        b"memento-state 1\nentries 1\nentry a1 18446744073709551616 0 http://a.example/\nend\n",
-        b"memento-state 1\nentries 00\nend\n",
-        b"memento-state 1\r\nentries 0\r\nend\r\n",
-        b"memento-state 1\nentries  0\nend\n",
-        b"memento-state 1\nentries 18446744073709551615\n",
-        b"memento-state 1\nentries 1\nentry a1 1 18446744073709551615 http://a.example/\n",
+    let others: [&[u8]; 10] = [
+        b"memento-state 2\nentries 2\nentry b1 1 1 http://a.example/\nat 1 0\nentry a1 1 1 http://a.example/\nat 1 0\nend\n",
+        b"memento-state 2\nentries 2\nentry a1 1 1 http://a.example/\nat 1 0\nentry a1 1 1 http://a.example/\nat 1 0\nend\n",
+        b"memento-state 3\nentries 0\nend\n",
+        b"memento-state 02\nentries 0\nend\n",
+        b"memento-state 2\nentries 0\nend\n\n",
+        b"memento-state 2\nentries 00\nend\n",
+        b"memento-state 2\r\nentries 0\r\nend\r\n",
+        b"memento-state 2\nentries  0\nend\n",
+        b"memento-state 2\nentries 18446744073709551615\n",
+        b"memento-delta 2\nentries 0\nend\n",
     ];
     for text in others {
         assert!(rt; is_no_state(alloc, text));
@@ -143,6 +287,10 @@ fn other_texts_are_no_states(rt: HostRuntime) {
 
 // What follows on the first two merges of `replica`.
 const THIRD_MERGE: &[u8] =
+    b"memento-delta 2\nfrom 1 2 3\nentries 1\nentry a1 3 1 http://a.example/\nat 3 0\nend\n";
+
+// The same in format 1.
+const OLD_THIRD_MERGE: &[u8] =
     b"memento-delta 1\nfrom 1 2 3\nentries 1\nentry a1 3 0 http://a.example/\nend\n";
 
 fn absorb(
@@ -203,10 +351,10 @@ fn deltas_of_one_harvest(rt: HostRuntime) -> Result<()> {
     let mut stamped = Stamped::new(alloc, 1);
     let uri: &[u8] = b"http://arc.example/web/20000101000000/http://a.example/";
     absorb(alloc, &mut stamped, b"arc.example", 7, &[(FIRST.0, uri)])?;
-    assert!(rt; begins(alloc, &stamped, None, b"memento-delta 1\nfrom 1 0 1\n")?);
-    let none: &[u8] = b"memento-delta 1\nfrom 1 1 1\nentries 0\nend\n";
+    assert!(rt; begins(alloc, &stamped, None, b"memento-delta 2\nfrom 1 0 1\n")?);
+    let none: &[u8] = b"memento-delta 2\nfrom 1 1 1\nentries 0\nend\n";
     assert!(rt; begins(alloc, &stamped, at(1, 1), none)?);
-    assert_eq!(rt; lens(alloc, &stamped)?, [147, 41, 147, 147]);
+    assert_eq!(rt; lens(alloc, &stamped)?, [154, 41, 154, 154]);
     Ok(())
 }
 
@@ -316,11 +464,23 @@ fn count_listed(alloc: Global, stamped: &Stamped) -> Result<usize> {
 #[test]
 fn deltas_are_taken_in(rt: HostRuntime) -> Result<()> {
     let alloc = rt.alloc();
-    let mut receiver = Stamped::new(alloc, 3);
-    receive_whole(alloc, &mut receiver, &replica(alloc)?)?;
-    assert_eq!(rt; count_listed(alloc, &receiver)?, 1);
-    receive(alloc, &mut receiver, THIRD_MERGE)?;
-    assert_eq!(rt; count_listed(alloc, &receiver)?, 0);
+    assert_eq!(rt; THIRD_MERGE.len(), 79);
+    for third in [THIRD_MERGE, OLD_THIRD_MERGE] {
+        let mut receiver = Stamped::new(alloc, 3);
+        receive_whole(alloc, &mut receiver, &replica(alloc)?)?;
+        assert_eq!(rt; count_listed(alloc, &receiver)?, 1);
+        // What is refused changes nothing.
+        assert!(rt; receive(alloc, &mut receiver, &third[..third.len() - 1]).is_err());
+        assert_eq!(rt;
+            (receiver.number(), count_listed(alloc, &receiver)?),
+            (1, 1)
+        );
+        receive(alloc, &mut receiver, third)?;
+        assert_eq!(rt;
+            (receiver.number(), count_listed(alloc, &receiver)?),
+            (2, 0)
+        );
+    }
     Ok(())
 }
 
@@ -350,22 +510,31 @@ fn is_no_delta(alloc: Global, text: &[u8]) -> bool {
 }
 
 #[test]
+fn cut_texts_are_no_deltas(rt: HostRuntime) {
+    let alloc = rt.alloc();
+    for text in [THIRD_MERGE, OLD_THIRD_MERGE] {
+        for end in 0..text.len() {
+            assert!(rt; is_no_delta(alloc, &text[..end]), "cut at {end}");
+        }
+    }
+}
+
+#[test]
 fn other_texts_are_no_deltas(rt: HostRuntime) {
     let alloc = rt.alloc();
-    for end in 0..THIRD_MERGE.len() {
-        assert!(rt; is_no_delta(alloc, &THIRD_MERGE[..end]), "cut at {end}");
-    }
-    let others: [&[u8]; 10] = [
-        b"memento-delta 1\nfrom 1 3 2\nentries 0\nend\n",
-        b"memento-delta 1\nfrom 1 18446744073709551616 18446744073709551616\nentries 0\nend\n",
-        b"memento-delta 1\nfrom 18446744073709551616 0 0\nentries 0\nend\n",
-        b"memento-delta 1\nfrom 1 0 1\nentries 2\nentry b1 1 0 http://a.example/\nentry a1 1 0 http://a.example/\nend\n",
-        b"memento-delta 1\nfrom 1 0 1\nentries 18446744073709551615\n",
-        b"memento-delta 1\nfrom 01 0 1\nentries 0\nend\n",
-        b"memento-delta 1\nfrom 1 0\nentries 0\nend\n",
-        b"memento-delta 1\nentries 0\nend\n",
-        b"memento-delta 1\nfrom 1 0 1\nentries 0\nend\n\n",
-        b"memento-state 1\nentries 0\nend\n",
+    let others: [&[u8]; 12] = [
+        b"memento-delta 2\nfrom 1 3 2\nentries 0\nend\n",
+        b"memento-delta 2\nfrom 1 18446744073709551616 18446744073709551616\nentries 0\nend\n",
+        b"memento-delta 2\nfrom 18446744073709551616 0 0\nentries 0\nend\n",
+        b"memento-delta 2\nfrom 1 0 1\nentries 1\nentry a1 3 0 http://a.example/\nend\n",
+        b"memento-delta 1\nfrom 1 0 1\nentries 1\nentry a1 3 1 http://a.example/\nat 3 0\nend\n",
+        b"memento-delta 2\nfrom 1 0 1\nentries 1\nentry a1 3 1 http://a.example/\nat 2 0\nend\n",
+        b"memento-delta 2\nfrom 1 0 1\nentries 18446744073709551615\n",
+        b"memento-delta 2\nfrom 01 0 1\nentries 0\nend\n",
+        b"memento-delta 2\nfrom 1 0\nentries 0\nend\n",
+        b"memento-delta 2\nentries 0\nend\n",
+        b"memento-delta 2\nfrom 1 0 1\nentries 0\nend\n\n",
+        b"memento-state 2\nentries 0\nend\n",
     ];
     for text in others {
         assert!(rt; is_no_delta(alloc, text));

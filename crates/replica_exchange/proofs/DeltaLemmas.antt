@@ -1,22 +1,24 @@
--- What is read of a delta's text, and the one text of a delta.
-use Rattle.std.proofs.Common.{◌≡◌, ℕ, ◌≤◌, List, [], ◌∷◌, ◌++◌, length, Result, Ok, Err, IfErr, refl, sym, ap, subst, ◌∙◌, append_assoc, arith}
-use Rattle.std.specs.Prelude.{codes}
+-- What is read of a delta's text, and the one delta of a text.
+use Rattle.std.proofs.Common.{◌≡◌, ℕ, ◌≤◌, List, [], ◌∷◌, ◌++◌, length, Result, Ok, Err, IfErr, refl, sym, ap, subst, ◌∙◌, append_assoc, inl, inr, arith}
+use Rattle.std.specs.Prelude.{◌⊎◌, codes}
 use Rattle.std.specs.Result.{IsErrAnd}
 use Rattle.std.specs.Fmt.{decimal}
-use Rattle.std.specs.FinMap as fmap
 use Rattle.std.proofs.lemmas.List.{append-nil, append_cancel_left}
 use Rattle.harvest_lattice.specs.Lattice.{Entries}
 use Rattle.replica_exchange.specs.declared.delta.Delta.{Delta}
-use Rattle.replica_exchange.specs.StateText.{entries_text}
-use Rattle.replica_exchange.specs.DeltaText.{from_line, delta_text, IsDelta}
+use Rattle.replica_exchange.specs.declared.format.Format.{Format}
+use Rattle.replica_exchange.specs.declared.format.Format.TheVariants.{One, Two}
+use Rattle.replica_exchange.specs.StateText.{IsOld}
+use Rattle.replica_exchange.specs.DeltaText.{from_line, delta_text, old_delta_text, IsDelta, IsDeltaText}
 use Rattle.replica_exchange.specs.declared.fault.StateFault.{StateFault}
 use Rattle.replica_exchange.specs.declared.fault.StateFault.TheVariants.{TooLong, NotState, NoMemory}
 use Rattle.replica_exchange.specs.Faults.{IsDeltaCause, longest_text}
 use Rattle.replica_exchange.specs.Spelling.{Spelling, Begins, Refuses, RefusesWhole, number}
-use Rattle.replica_exchange.specs.Parts.{stated, span}
+use Rattle.replica_exchange.specs.Parts.{stated, span, first_line}
 use Rattle.replica_exchange.proofs.SpellingLemmas.{Once, number_once}
 use Rattle.replica_exchange.proofs.Sequences.{Leaves, seq, seq_found, seq_first, seq_then, seq_once}
-use Rattle.replica_exchange.proofs.StateLemmas.{stated_once}
+use Rattle.replica_exchange.proofs.FormatLemmas.{format_once}
+use Rattle.replica_exchange.proofs.StateLemmas.{stated_is, stated_old, old_stated, new_stated, stated_once}
 
 -- ---- the line of the incarnation, the start and the end
 
@@ -96,60 +98,93 @@ span_once text x y r u bx by =
 
 -- ---- a delta
 
-abbrev first_line : List ℕ
-first_line = codes "memento-delta 1\n"
+abbrev word : List ℕ
+word = codes "memento-delta"
 
 abbrev span_of : Delta → ℕ × (ℕ × ℕ)
 span_of d = (d.incarnation, (d.start, d.end))
 
--- a delta's text goes on with its line, and then with its entries
-delta_span : (text left : List ℕ) → text ≡ first_line ++ left → (d : Delta) → IsDelta d → text ≡ delta_text d → Begins span left (span_of d) (entries_text (fmap.entries d.state))
-delta_span text left front d is whole = record {
-  is = ((is.incarnation, is.order), is.end);
-  whole = append_cancel_left first_line left (from_line d.incarnation d.start d.end ++ entries_text (fmap.entries d.state)) (sym front ∙ whole);
-}
+abbrev span_line : Delta → List ℕ
+span_line d = from_line d.incarnation d.start d.end
 
-delta_stated : (d : Delta) → IsDelta d → (rest : List ℕ) → entries_text (fmap.entries d.state) ≡ rest → Begins stated rest d.state []
-delta_stated d is rest same = record { is = is.state; whole = sym same ∙ sym (append-nil (entries_text (fmap.entries d.state))) }
+-- a text of a delta begins with the line of a format, and goes on with its own line and the entries in that format
+record IsIn (text : List ℕ) (d : Delta) : Type 0 where
+  format : Format
+  is : (stated format).Is d.state
+  whole : text ≡ first_line word format ++ (span_line d ++ (stated format).spelled d.state)
 
--- no two deltas have the same text
-pub one_delta : (x y : Delta) → IsDelta x → IsDelta y → delta_text x ≡ delta_text y → x ≡ y
-one_delta x y is_x is_y same =
-    let left : List ℕ = from_line x.incarnation x.start x.end ++ entries_text (fmap.entries x.state) in
-    let spans = span_once left (span_of x) (span_of y) (entries_text (fmap.entries x.state)) (entries_text (fmap.entries y.state)) (delta_span (delta_text x) left refl x is_x refl) (delta_span (delta_text x) left refl y is_y same) in
-    let states = stated_once (entries_text (fmap.entries x.state)) x.state y.state (delta_stated x is_x (entries_text (fmap.entries x.state)) refl) (delta_stated y is_y (entries_text (fmap.entries x.state)) (sym spans.1)) in
-    λ i. record { incarnation = (spans.0 i).0; start = (spans.0 i).1.0; end = (spans.0 i).1.1; state = states i }
+in_format : (text : List ℕ) (d : Delta) → IsDeltaText text d → IsIn text d
+in_format text d of = from of.text
+  where
+    from : (text ≡ delta_text d) ⊎ (IsOld d.state × (text ≡ old_delta_text d)) → IsIn text d
+    from (inl same) = record { format = Two; is = new_stated d.state of.delta.state; whole = same }
+    from (inr (old, same)) = record { format = One; is = old_stated d.state of.delta.state old; whole = same }
 
--- ---- what is read of it
+written_in : (f : Format) (text : List ℕ) (d : Delta) → IsDelta d → (stated f).Is d.state → text ≡ first_line word f ++ (span_line d ++ (stated f).spelled d.state) → IsDeltaText text d
+written_in One text d delta is whole = record { delta = delta; text = inr (stated_old d.state is, whole) }
+written_in Two text d delta is whole = record { delta = delta; text = inl whole }
 
 -- what a text without the first line is not
-pub delta_has_front : (text : List ℕ) → ((rest : List ℕ) → ¬ (text ≡ first_line ++ rest)) → (d : Delta) → IsDelta d → ¬ (text ≡ delta_text d)
-delta_has_front text none d is whole = none (from_line d.incarnation d.start d.end ++ entries_text (fmap.entries d.state)) whole
+pub delta_has_front : (text : List ℕ) → ((f : Format) (rest : List ℕ) → ¬ (text ≡ first_line word f ++ rest)) → (d : Delta) → ¬ IsDeltaText text d
+delta_has_front text none d of = let its = in_format text d of in none its.format (span_line d ++ (stated its.format).spelled d.state) its.whole
 
-module _ (text left : List ℕ) (front : text ≡ first_line ++ left) where
+module _ (f : Format) (text left : List ℕ) (front : text ≡ first_line word f ++ left) where
+  -- a text of a delta goes on with its line
+  record Follows (d : Delta) : Type 0 where
+    entries : List ℕ
+    line : Begins span left (span_of d) entries
+    state : Begins (stated f) entries d.state []
+
+  follows : (d : Delta) → IsDeltaText text d → Follows d
+  follows d of =
+      let its = in_format text d of in
+      let entries : List ℕ = (stated its.format).spelled d.state in
+      let same = format_once word its.format f (span_line d ++ entries) left (sym its.whole ∙ front) in
+      record {
+        entries = entries;
+        line = record { is = ((of.delta.incarnation, of.delta.order), of.delta.end); whole = sym same.1 };
+        state = subst (λ (g : Format). Begins (stated g) entries d.state []) same.0 (record { is = its.is; whole = sym (append-nil entries) });
+      }
+
   -- what refuses the line refuses the delta
   pub delta_refused_line : length text ≤ longest_text → (fault : StateFault) → Refuses span left fault → IsDeltaCause fault text
   delta_refused_line small TooLong refused = absurd refused
-  delta_refused_line small NotState refused = (small, λ d is whole. refused (span_of d) (entries_text (fmap.entries d.state)) (delta_span text left front d is whole))
+  delta_refused_line small NotState refused = (small, λ d of. let its = follows d of in refused (span_of d) its.entries its.line)
   delta_refused_line small NoMemory refused = small
 
   module _ (s : ℕ × (ℕ × ℕ)) (rest : List ℕ) (line : Begins span left s rest) where
     -- and so does what refuses the entries
-    pub delta_refused : length text ≤ longest_text → (fault : StateFault) → RefusesWhole stated rest fault → IsDeltaCause fault text
+    pub delta_refused : length text ≤ longest_text → (fault : StateFault) → RefusesWhole (stated f) rest fault → IsDeltaCause fault text
     delta_refused small TooLong refused = absurd refused
     delta_refused small NotState refused = (
       small,
-      λ d is whole.
-          let same = span_once left (span_of d) s (entries_text (fmap.entries d.state)) rest (delta_span text left front d is whole) line in
-          refused d.state (delta_stated d is rest same.1),
+      λ d of.
+          let its = follows d of in
+          let same = span_once left (span_of d) s its.entries rest its.line line in
+          refused d.state (subst (λ (u : List ℕ). Begins (stated f) u d.state []) same.1 its.state),
     )
     delta_refused small NoMemory refused = small
 
-    pub delta_found : (state : Entries) → Begins stated rest state [] → (let d : Delta = record { incarnation = s.0; start = s.1.0; end = s.1.1; state = state } in IsDelta d × (text ≡ delta_text d))
-    delta_found state begins = (
-      record { incarnation = line.is.0.0; order = line.is.0.1; end = line.is.1; state = begins.is },
-      front ∙ ap (λ (u : List ℕ). first_line ++ u) (line.whole ∙ ap (λ (u : List ℕ). from_line s.0 s.1.0 s.1.1 ++ u) (begins.whole ∙ append-nil (entries_text (fmap.entries state)))),
-    )
+    pub delta_found : (state : Entries) → Begins (stated f) rest state [] → IsDeltaText text (record { incarnation = s.0; start = s.1.0; end = s.1.1; state = state })
+    delta_found state begins =
+        let d : Delta = record { incarnation = s.0; start = s.1.0; end = s.1.1; state = state } in
+        written_in f text d (record { incarnation = line.is.0.0; order = line.is.0.1; end = line.is.1; state = stated_is f state begins.is }) begins.is
+        (front ∙ ap (λ (u : List ℕ). first_line word f ++ u) (line.whole ∙ ap (λ (u : List ℕ). span_line d ++ u) (begins.whole ∙ append-nil ((stated f).spelled state))))
+
+-- no two deltas have a text
+pub one_delta_text : (text : List ℕ) (x y : Delta) → IsDeltaText text x → IsDeltaText text y → x ≡ y
+one_delta_text text x y of_x of_y =
+    let format = (in_format text y of_y).format in
+    let left : List ℕ = span_line y ++ (stated format).spelled y.state in
+    let front = (in_format text y of_y).whole in
+    let its_x = follows format text left front x of_x in
+    let its_y = follows format text left front y of_y in
+    let spans = span_once left (span_of x) (span_of y) its_x.entries its_y.entries its_x.line its_y.line in
+    let states = stated_once format its_y.entries x.state y.state (subst (λ (u : List ℕ). Begins (stated format) u x.state []) spans.1 its_x.state) its_y.state in
+    λ i. record { incarnation = (spans.0 i).0; start = (spans.0 i).1.0; end = (spans.0 i).1.1; state = states i }
+
+pub one_delta : (x y : Delta) → IsDelta x → IsDelta y → delta_text x ≡ delta_text y → x ≡ y
+one_delta x y is_x is_y same = one_delta_text (delta_text x) x y (record { delta = is_x; text = inl refl }) (record { delta = is_y; text = inl same })
 
 -- a fault that a `?` passes on
 pub delta_cause_passed : {X : Type 0} (text : List ℕ) (r : Result X StateFault) (fault : StateFault) → IsErrAnd r (λ e. e ≡ fault) → IsDeltaCause fault text → IfErr r (λ f. IsDeltaCause f text)

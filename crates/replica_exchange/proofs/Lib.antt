@@ -1,5 +1,6 @@
 pub mod SpellingLemmas
 pub mod Sequences
+pub mod FormatLemmas
 pub mod PartLemmas
 pub mod StateLemmas
 pub mod WritingLemmas

@@ -1,26 +1,32 @@
 -- The lines of a state's text, part by part: what each reader has found or refused, and that it is the only reading.
-use Rattle.std.proofs.Common.{◌≡◌, ℕ, Bool, true, false, cond, List, [], ◌∷◌, ◌++◌, length, None, Some, refl, sym, ap, subst, ◌∙◌, append_assoc, arith}
+use Rattle.std.proofs.Common.{◌≡◌, ℕ, ◌<◌, ◌^◌, Bool, true, false, cond, List, [], ◌∷◌, ◌++◌, length, Option, None, Some, IsSome, refl, sym, ap, subst, ◌∙◌, append_assoc, arith}
 use Rattle.std.specs.Prelude.{T, codes, All}
-use Rattle.std.specs.Option.{option_map}
 use Rattle.std.specs.List.{flat_map}
 use Rattle.std.specs.Fmt.{decimal}
-use Rattle.std.proofs.lemmas.List.{append_cancel_left}
+use Rattle.std.specs.FinMap as map
+use Rattle.std.proofs.lemmas.List.{append-nil, append_cancel_left}
+use Rattle.std.proofs.lemmas.List.Elements.{All-nil, All-cons, All-head}
+use Rattle.std.proofs.lemmas.Option.{none-some}
 use Rattle.memento_time.specs.Text.{IsArchiveName, IsOriginal, IsClean}
 use Rattle.memento_time.specs.Second.{IsSecond}
 use Rattle.memento_time.specs.Mementos.{IsMemento, memento_cmp}
 use Rattle.memento_time.specs.declared.mementos.Memento.{Memento}
+use Rattle.memento_time.proofs.MementoLemmas.{memento_cmp_total, memento_cmp_exact}
 use Rattle.memento_sets.specs.Sets as set
-use Rattle.memento_sets.specs.MementoSets.{Mementos, mementos_rise}
+use Rattle.memento_sets.specs.MementoSets.{Mementos, mementos_rise, mementos_with}
 use Rattle.memento_sets.proofs.Sets.{items_sorted, from_list-items}
 use Rattle.memento_sets.proofs.Ordered.{sorted_marked, items_in_order}
 use Rattle.memento_sets.proofs.Rising.{rise_in_order}
-use Rattle.harvest_lattice.specs.Lattice.{Key, Kept}
-use Rattle.harvest_lattice.specs.Rows.{entry_with}
-use Rattle.memento_time.proofs.MementoLemmas.{memento_cmp_total, memento_cmp_exact}
-use Rattle.replica_exchange.specs.StateText.{memento_line, entry_line}
-use Rattle.replica_exchange.specs.Spelling.{Spelling, Begins, field, number}
-use Rattle.replica_exchange.specs.Parts.{memento, head, entry, many}
-use Rattle.replica_exchange.proofs.SpellingLemmas.{Once, number_once, archive_once, original_once, uri_once}
+use Rattle.harvest_lattice.specs.Lattice.{Key, Kept, least, first_of, whole}
+use Rattle.harvest_lattice.specs.Parts.{kept_with}
+use Rattle.harvest_lattice.proofs.Made.{kept_of_its_own}
+use Rattle.replica_exchange.specs.declared.format.Format.{Format}
+use Rattle.replica_exchange.specs.declared.format.Format.TheVariants.{One, Two}
+use Rattle.replica_exchange.specs.StateText.{memento_lines, line_of_entry, whole_field, entry_line, part_line, part_text, old_entry_line, old_part_text}
+use Rattle.replica_exchange.specs.StateText.{IsPart, IsEntry, IsWholeAlone}
+use Rattle.replica_exchange.specs.Spelling.{Spelling, Begins, ended, field, number}
+use Rattle.replica_exchange.specs.Parts.{memento, IsWholeField, line_with, head, old_head, set_of, part_head, part, new_entry, old_entry, entry, many}
+use Rattle.replica_exchange.proofs.SpellingLemmas.{Once, number_once, whole_once, archive_once, original_once, uri_once}
 use Rattle.replica_exchange.proofs.Sequences.{Leaves, seq, seq_found, seq_first, seq_then, seq_once, many_once}
 
 -- a field, its end, and what follows
@@ -67,177 +73,445 @@ memento_once text m n r u bm bn =
     let same = seq_once (number 32) (field IsClean 10) (number_once 32 (omega arith)) uri_once text (m.at, m.uri) (n.at, n.uri) r u (memento_parts text r m bm) (memento_parts text u n bn) in
     ((λ i. record { at = (same.0 i).0; uri = (same.0 i).1 }), same.1)
 
--- ---- an entry's line
+-- ---- the mementos of a revision
 
-abbrev Head : Type 0
-Head = Key × (ℕ × ℕ)
+set_lines : (count : ℕ) (text rest : List ℕ) (s : Mementos) → Begins (set_of count) text s rest → Begins (many count memento) text (set.items s) rest
+set_lines count text rest s begins = record { is = begins.is; whole = begins.whole }
 
-abbrev count_and_original : Spelling (ℕ × List ℕ)
-count_and_original = seq (number 32) (field IsOriginal 10)
-
-abbrev revision_on : Spelling (ℕ × (ℕ × List ℕ))
-revision_on = seq (number 32) count_and_original
-
-abbrev archive_on : Spelling (List ℕ × (ℕ × (ℕ × List ℕ)))
-archive_on = seq (field IsArchiveName 32) revision_on
-
-abbrev fields_of : Head → List ℕ × (ℕ × (ℕ × List ℕ))
-fields_of h = (h.0.0, (h.1.0, (h.1.1, h.0.1)))
-
-line_parts : (h : Head) → entry_line h.0 h.1.0 h.1.1 ≡ codes "entry " ++ archive_on.spelled (fields_of h)
-line_parts h =
-    ap (λ (u : List ℕ). codes "entry " ++ u)
-    (parted h.0.0 32 (decimal h.1.0 ++ 32 ∷ (decimal h.1.1 ++ 32 ∷ (h.0.1 ++ 10 ∷ [])))
-    ∙ ap (λ (u : List ℕ). (h.0.0 ++ 32 ∷ []) ++ u)
-    (parted (decimal h.1.0) 32 (decimal h.1.1 ++ 32 ∷ (h.0.1 ++ 10 ∷ []))
-    ∙ ap (λ (u : List ℕ). (decimal h.1.0 ++ 32 ∷ []) ++ u) (parted (decimal h.1.1) 32 (h.0.1 ++ 10 ∷ []))))
-
-head_whole : (text rest : List ℕ) (h : Head) → Begins head text h rest → text ≡ codes "entry " ++ (archive_on.spelled (fields_of h) ++ rest)
-head_whole text rest h begins = begins.whole ∙ (ap (λ (u : List ℕ). u ++ rest) (line_parts h) ∙ append_assoc (codes "entry ") (archive_on.spelled (fields_of h)) rest)
-
--- an entry's line begins with its word
-pub head_has_front : (text : List ℕ) → ((rest : List ℕ) → ¬ (text ≡ codes "entry " ++ rest)) → (h : Head) (rest : List ℕ) → ¬ Begins head text h rest
-head_has_front text none h rest begins = none (archive_on.spelled (fields_of h) ++ rest) (head_whole text rest h begins)
-
-module _ (text left : List ℕ) (front : text ≡ codes "entry " ++ left) where
-  from_archive : (h : Head) (rest : List ℕ) → Begins head text h rest → Begins archive_on left (fields_of h) rest
-  from_archive h rest begins = record {
-    is = (begins.is.archive, (begins.is.revision_fits, (begins.is.count_fits, begins.is.original)));
-    whole = append_cancel_left (codes "entry ") left (archive_on.spelled (fields_of h) ++ rest) (sym front ∙ head_whole text rest h begins);
-  }
-
-  -- and goes on with the name of an archive
-  pub head_without_archive : ((name rest : List ℕ) → ¬ Begins (field IsArchiveName 32) left name rest) → (h : Head) (rest : List ℕ) → ¬ Begins head text h rest
-  head_without_archive none h rest begins =
-      none h.0.0 (revision_on.spelled (fields_of h).1 ++ rest) (seq_first (field IsArchiveName 32) revision_on left rest h.0.0 (fields_of h).1 (from_archive h rest begins))
-
-  module _ (name left_1 : List ℕ) (archive : Begins (field IsArchiveName 32) left name left_1) where
-    from_revision : (h : Head) (rest : List ℕ) → Begins head text h rest → Begins revision_on left_1 (fields_of h).1 rest
-    from_revision h rest begins = (seq_then (field IsArchiveName 32) revision_on archive_once left left_1 rest h.0.0 name (fields_of h).1 archive (from_archive h rest begins)).1
-
-    pub head_leaves_revision : Leaves (number 32) head text left_1
-    head_leaves_revision h rest begins =
-        (h.1.0, count_and_original.spelled (h.1.1, h.0.1) ++ rest, seq_first (number 32) count_and_original left_1 rest h.1.0 (h.1.1, h.0.1) (from_revision h rest begins))
-
-    module _ (revision : ℕ) (left_2 : List ℕ) (revised : Begins (number 32) left_1 revision left_2) where
-      from_count : (h : Head) (rest : List ℕ) → Begins head text h rest → Begins count_and_original left_2 (h.1.1, h.0.1) rest
-      from_count h rest begins = (seq_then (number 32) count_and_original (number_once 32 (omega arith)) left_1 left_2 rest h.1.0 revision (h.1.1, h.0.1) revised (from_revision h rest begins)).1
-
-      pub head_leaves_count : Leaves (number 32) head text left_2
-      head_leaves_count h rest begins = (h.1.1, (h.0.1 ++ 10 ∷ []) ++ rest, seq_first (number 32) (field IsOriginal 10) left_2 rest h.1.1 h.0.1 (from_count h rest begins))
-
-      module _ (count : ℕ) (left_3 : List ℕ) (counted : Begins (number 32) left_2 count left_3) where
-        pub head_leaves_original : Leaves (field IsOriginal 10) head text left_3
-        head_leaves_original h rest begins =
-            (h.0.1, rest, (seq_then (number 32) (field IsOriginal 10) (number_once 32 (omega arith)) left_2 left_3 rest h.1.1 count h.0.1 counted (from_count h rest begins)).1)
-
-        pub head_found : (original rest : List ℕ) → Begins (field IsOriginal 10) left_3 original rest → Begins head text ((name, original), (revision, count)) rest
-        head_found original rest last =
-            let h : Head = ((name, original), (revision, count)) in
-            let after_count = seq_found (number 32) (field IsOriginal 10) left_2 left_3 rest count original counted last in
-            let after_revision = seq_found (number 32) count_and_original left_1 left_2 rest revision (count, original) revised after_count in
-            let all = seq_found (field IsArchiveName 32) revision_on left left_1 rest name (revision, (count, original)) archive after_revision in
-            record {
-              is = record { archive = archive.is; original = last.is; revision_fits = revised.is; count_fits = counted.is };
-              whole =
-                  front
-                  ∙ (ap (λ (u : List ℕ). codes "entry " ++ u) all.whole
-                  ∙ (sym (append_assoc (codes "entry ") (archive_on.spelled (fields_of h)) rest) ∙ ap (λ (u : List ℕ). u ++ rest) (sym (line_parts h))));
-            }
-
-pub head_once : Once head
-head_once text x y r u bx by =
-    let left : List ℕ = archive_on.spelled (fields_of y) ++ u in
-    let front = head_whole text u y by in
-    let original_last = seq_once (number 32) (field IsOriginal 10) (number_once 32 (omega arith)) original_once in
-    let from_number = seq_once (number 32) count_and_original (number_once 32 (omega arith)) original_last in
-    let same = seq_once (field IsArchiveName 32) revision_on archive_once from_number left (fields_of x) (fields_of y) r u (from_archive text left front x r bx) (from_archive text left front y u by) in
-    ((λ i. (((same.0 i).0, (same.0 i).1.1.1), ((same.0 i).1.0, (same.0 i).1.1.0))), same.1)
-
--- ---- an entry
-
-abbrev head_of : Key × Kept → Head
-head_of e = (e.0, (e.1.revision, length (set.items e.1.mementos)))
-
-entry_head : (text rest : List ℕ) (e : Key × Kept) → Begins entry text e rest → Begins head text (head_of e) (flat_map memento_line (set.items e.1.mementos) ++ rest)
-entry_head text rest e begins = record {
-  is = begins.is.line;
-  whole = begins.whole ∙ append_assoc (entry_line e.0 e.1.revision (length (set.items e.1.mementos))) (flat_map memento_line (set.items e.1.mementos)) rest;
-}
-
--- an entry begins with its line
-pub entry_leaves_head : (text : List ℕ) → Leaves head entry text text
-entry_leaves_head text e rest begins = (head_of e, flat_map memento_line (set.items e.1.mementos) ++ rest, entry_head text rest e begins)
-
-record IsMade (key : Key) (revision : ℕ) (mementos : List Memento) (e : Key × Kept) : Type 0 where
-  key_is : e.0 ≡ key
-  revision_is : e.1.revision ≡ revision
-  mementos_are : set.items e.1.mementos ≡ mementos
-
--- what stands in order is kept as it stands
-made_by : (rises : Bool) (key : Key) (revision : ℕ) (mementos : List Memento) (e : Key × Kept) → mementos_rise mementos ≡ rises
-    → option_map (λ (kept : Kept). (key, kept)) (cond rises (Some (record { revision = revision; mementos = set.from_list mementos })) None) ≡ Some e → IsMade key revision mementos e
-made_by true key revision mementos e rises is =
-    let made : Key × Kept = (key, record { revision = revision; mementos = set.from_list mementos }) in
-    let same : made ≡ e = cc in
-    subst (IsMade key revision mementos) same (record { key_is = refl; revision_is = refl; mementos_are = items_in_order mementos (rise_in_order mementos rises) })
-made_by false key revision mementos e rises is = absurd cc
+-- they begin with so many lines
+pub set_leaves_mementos : (count : ℕ) (text : List ℕ) → Leaves (many count memento) (set_of count) text text
+set_leaves_mementos count text s rest begins = (set.items s, rest, set_lines count text rest s begins)
 
 -- a test that holds
 pub is_true : (b : Bool) → T b → b ≡ true
 is_true true h = refl
 is_true false h = absurd h
 
--- the mementos of an entry stand in order
-items_rise : (e : Key × Kept) → mementos_rise (set.items e.1.mementos) ≡ true
-items_rise e = is_true (mementos_rise (set.items e.1.mementos)) (sorted_marked (set.items e.1.mementos) (items_sorted memento_cmp e.1.mementos))
+-- the items of a set stand in order
+items_rise : (s : Mementos) → mementos_rise (set.items s) ≡ true
+items_rise s = is_true (mementos_rise (set.items s)) (sorted_marked (set.items s) (items_sorted memento_cmp s))
 
-unmade : (rises : Bool) (key : Key) (kept : Kept) → rises ≡ true → ¬ (option_map {U = Key × Kept} (λ k. (key, k)) (cond rises (Some kept) None) ≡ None)
-unmade true key kept is none = absurd cc
-unmade false key kept is none = absurd cc
+-- what stands in order is kept as it stands
+items_of_made : (rises : Bool) (mementos : List Memento) (s : Mementos) → mementos_rise mementos ≡ rises → cond rises (Some (set.from_list mementos)) None ≡ Some s → set.items s ≡ mementos
+items_of_made true mementos s rises is =
+    let same : set.from_list mementos ≡ s = cc in
+    ap (λ (x : Mementos). set.items x) (sym same) ∙ items_in_order mementos (rise_in_order mementos rises)
+items_of_made false mementos s rises is = absurd cc
 
-module _ (text left : List ℕ) (h : Head) (begun : Begins head text h left) where
-  entry_mementos : (e : Key × Kept) (rest : List ℕ) → Begins entry text e rest → Begins (many h.1.1 memento) left (set.items e.1.mementos) rest
-  entry_mementos e rest begins =
-      let same = head_once text (head_of e) h (flat_map memento_line (set.items e.1.mementos) ++ rest) left (entry_head text rest e begins) begun in
-      record { is = ((λ i. (same.0 i).1.1), begins.is.mementos); whole = sym same.1 }
-
-  -- and goes on with as many mementos as the line says
-  pub entry_leaves_mementos : Leaves (many h.1.1 memento) entry text left
-  entry_leaves_mementos e rest begins = (set.items e.1.mementos, rest, entry_mementos e rest begins)
-
-  module _ (mementos : List Memento) (rest : List ℕ) (listed : Begins (many h.1.1 memento) left mementos rest) where
-    -- mementos out of order stand in no entry
-    pub entry_unordered : None ≡ entry_with h.0 h.1.0 mementos → (e : Key × Kept) (r : List ℕ) → ¬ Begins entry text e r
-    entry_unordered none e r begins =
-        let same = many_once memento h.1.1 memento_once left (set.items e.1.mementos) mementos r rest (entry_mementos e r begins) listed in
-        unmade (mementos_rise mementos) h.0 (record { revision = h.1.0; mementos = set.from_list mementos }) (ap mementos_rise (sym same.0) ∙ items_rise e) (sym none)
-
-    pub entry_found : (e : Key × Kept) → Some e ≡ entry_with h.0 h.1.0 mementos → Begins entry text e rest
-    entry_found e is =
-        let made = made_by (mementos_rise mementos) h.0 h.1.0 mementos e refl (sym is) in
-        let counted : length (set.items e.1.mementos) ≡ h.1.1 = ap length made.mementos_are ∙ listed.is.0 in
-        let same : head_of e ≡ h = λ i. (made.key_is i, (made.revision_is i, counted i)) in
-        record {
-          is = record { line = subst head.Is (sym same) begun.is; mementos = subst (All IsMemento) (sym made.mementos_are) listed.is.1 };
-          whole =
-              begun.whole
-              ∙ ((λ i. head.spelled (sym same i) ++ (listed.whole ∙ ap (λ (ms : List Memento). flat_map memento_line ms ++ rest) (sym made.mementos_are)) i)
-              ∙ sym (append_assoc (head.spelled (head_of e)) (flat_map memento_line (set.items e.1.mementos)) rest));
-        }
+unmade : (rises : Bool) (mementos : List Memento) → rises ≡ true → ¬ (cond {A = Option Mementos} rises (Some (set.from_list mementos)) None ≡ None)
+unmade true mementos is none = absurd cc
+unmade false mementos is none = absurd cc
 
 -- sets with the same items are one
 same_items : (x y : Mementos) → set.items x ≡ set.items y → x ≡ y
 same_items x y same =
     sym (from_list-items memento_cmp_total memento_cmp_exact x) ∙ (ap (λ (ms : List Memento). set.from_list ms) same ∙ from_list-items memento_cmp_total memento_cmp_exact y)
 
-pub entry_once : Once entry
-entry_once text x y r u bx by =
-    let left : List ℕ = flat_map memento_line (set.items y.1.mementos) ++ u in
-    let begun = entry_head text u y by in
-    let heads = head_once text (head_of x) (head_of y) (flat_map memento_line (set.items x.1.mementos) ++ r) left (entry_head text r x bx) begun in
-    let mine = entry_mementos text left (head_of y) begun x r bx in
-    let other = entry_mementos text left (head_of y) begun y u by in
-    let lists = many_once memento (length (set.items y.1.mementos)) memento_once left (set.items x.1.mementos) (set.items y.1.mementos) r u mine other in
-    let sets : x.1.mementos ≡ y.1.mementos = same_items x.1.mementos y.1.mementos lists.0 in
-    ((λ i. ((heads.0 i).0, record { revision = (heads.0 i).1.0; mementos = sets i })), lists.1)
+module _ (count : ℕ) (text rest : List ℕ) (mementos : List Memento) (listed : Begins (many count memento) text mementos rest) where
+  pub set_found : (s : Mementos) → mementos_with mementos ≡ Some s → Begins (set_of count) text s rest
+  set_found s is =
+      let items : set.items s ≡ mementos = items_of_made (mementos_rise mementos) mementos s refl is in
+      record {
+        is = subst (λ (ms : List Memento). (length ms ≡ count) × All IsMemento ms) (sym items) listed.is;
+        whole = listed.whole ∙ ap (λ (ms : List Memento). flat_map memento.spelled ms ++ rest) (sym items);
+      }
+
+  -- mementos out of order are no set's
+  pub set_unordered : mementos_with mementos ≡ None → (s : Mementos) (r : List ℕ) → ¬ Begins (set_of count) text s r
+  set_unordered none s r begins =
+      let same = many_once memento count memento_once text (set.items s) mementos r rest (set_lines count text r s begins) listed in
+      unmade (mementos_rise mementos) mementos (ap mementos_rise (sym same.0) ∙ items_rise s) none
+
+pub set_once : (count : ℕ) → Once (set_of count)
+set_once count text x y r u bx by =
+    let same = many_once memento count memento_once text (set.items x) (set.items y) r u (set_lines count text r x bx) (set_lines count text u y by) in
+    (same_items x y same.0, same.1)
+
+-- ---- a revision's line
+
+abbrev part_numbers : Spelling (ℕ × ℕ)
+part_numbers = seq (number 32) (number 10)
+
+part_line_parts : (h : ℕ × ℕ) → part_line h.0 h.1 ≡ codes "at " ++ part_numbers.spelled h
+part_line_parts h = ap (λ (u : List ℕ). codes "at " ++ u) (parted (decimal h.0) 32 (decimal h.1 ++ 10 ∷ []))
+
+part_head_whole : (text rest : List ℕ) (h : ℕ × ℕ) → Begins part_head text h rest → text ≡ codes "at " ++ (part_numbers.spelled h ++ rest)
+part_head_whole text rest h begins = begins.whole ∙ (ap (λ (u : List ℕ). u ++ rest) (part_line_parts h) ∙ append_assoc (codes "at ") (part_numbers.spelled h) rest)
+
+-- it begins with its word
+pub part_has_front : (text : List ℕ) → ((rest : List ℕ) → ¬ (text ≡ codes "at " ++ rest)) → (h : ℕ × ℕ) (rest : List ℕ) → ¬ Begins part_head text h rest
+part_has_front text none h rest begins = none (part_numbers.spelled h ++ rest) (part_head_whole text rest h begins)
+
+module _ (text left : List ℕ) (front : text ≡ codes "at " ++ left) where
+  from_revision : (h : ℕ × ℕ) (rest : List ℕ) → Begins part_head text h rest → Begins part_numbers left h rest
+  from_revision h rest begins = record {
+    is = (begins.is.revision_fits, begins.is.count_fits);
+    whole = append_cancel_left (codes "at ") left (part_numbers.spelled h ++ rest) (sym front ∙ part_head_whole text rest h begins);
+  }
+
+  -- and goes on with the revision
+  pub part_leaves_revision : Leaves (number 32) part_head text left
+  part_leaves_revision h rest begins = (h.0, (number 10).spelled h.1 ++ rest, seq_first (number 32) (number 10) left rest h.0 h.1 (from_revision h rest begins))
+
+  module _ (revision : ℕ) (left_1 : List ℕ) (revised : Begins (number 32) left revision left_1) where
+    -- and the number of its mementos
+    pub part_leaves_count : Leaves (number 10) part_head text left_1
+    part_leaves_count h rest begins =
+        (h.1, rest, (seq_then (number 32) (number 10) (number_once 32 (omega arith)) left left_1 rest h.0 revision h.1 revised (from_revision h rest begins)).1)
+
+    pub part_head_found : (count : ℕ) (rest : List ℕ) → Begins (number 10) left_1 count rest → Begins part_head text (revision, count) rest
+    part_head_found count rest counted =
+        let both = seq_found (number 32) (number 10) left left_1 rest revision count revised counted in
+        record {
+          is = record { revision_fits = revised.is; count_fits = counted.is };
+          whole =
+              front
+              ∙ (ap (λ (u : List ℕ). codes "at " ++ u) both.whole
+              ∙ (sym (append_assoc (codes "at ") (part_numbers.spelled (revision, count)) rest) ∙ ap (λ (u : List ℕ). u ++ rest) (sym (part_line_parts (revision, count)))));
+        }
+
+part_head_once : Once part_head
+part_head_once text x y r u bx by =
+    let left : List ℕ = part_numbers.spelled y ++ u in
+    let front = part_head_whole text u y by in
+    seq_once (number 32) (number 10) (number_once 32 (omega arith)) (number_once 10 (omega arith)) left x y r u (from_revision text left front x r bx) (from_revision text left front y u by)
+
+-- ---- a revision
+
+abbrev part_head_of : ℕ × Mementos → ℕ × ℕ
+part_head_of p = (p.0, length (set.items p.1))
+
+part_begins : (text rest : List ℕ) (p : ℕ × Mementos) → Begins part text p rest → Begins part_head text (part_head_of p) (memento_lines p.1 ++ rest)
+part_begins text rest p begins = record {
+  is = begins.is.line;
+  whole = begins.whole ∙ append_assoc (part_line p.0 (length (set.items p.1))) (memento_lines p.1) rest;
+}
+
+-- a revision begins with its line
+pub part_leaves_head : (text : List ℕ) → Leaves part_head part text text
+part_leaves_head text p rest begins = (part_head_of p, memento_lines p.1 ++ rest, part_begins text rest p begins)
+
+module _ (text left : List ℕ) (h : ℕ × ℕ) (begun : Begins part_head text h left) where
+  part_set : (p : ℕ × Mementos) (rest : List ℕ) → Begins part text p rest → (p.0 ≡ h.0) × Begins (set_of h.1) left p.1 rest
+  part_set p rest begins =
+      let same = part_head_once text (part_head_of p) h (memento_lines p.1 ++ rest) left (part_begins text rest p begins) begun in
+      ((λ i. (same.0 i).0), record { is = ((λ i. (same.0 i).1), begins.is.mementos); whole = sym same.1 })
+
+  -- and goes on with as many mementos as the line says
+  pub part_leaves_set : Leaves (set_of h.1) part text left
+  part_leaves_set p rest begins = (p.1, rest, (part_set p rest begins).1)
+
+  pub part_found : (s : Mementos) (rest : List ℕ) → Begins (set_of h.1) left s rest → Begins part text (h.0, s) rest
+  part_found s rest listed =
+      let count : h.1 ≡ length (set.items s) = sym listed.is.0 in
+      record {
+        is = record {
+          line = record { revision_fits = begun.is.revision_fits; count_fits = subst (λ (n : ℕ). n < 2 ^ 64) count begun.is.count_fits };
+          mementos = listed.is.1;
+        };
+        whole =
+            begun.whole
+            ∙ ((λ i. part_line h.0 (count i) ++ listed.whole i)
+            ∙ sym (append_assoc (part_line h.0 (length (set.items s))) (memento_lines s) rest));
+      }
+
+pub part_once : Once part
+part_once text x y r u bx by =
+    let left : List ℕ = memento_lines y.1 ++ u in
+    let begun = part_begins text u y by in
+    let mine = part_set text left (part_head_of y) begun x r bx in
+    let other = part_set text left (part_head_of y) begun y u by in
+    let sets = set_once (length (set.items y.1)) left x.1 y.1 r u mine.1 other.1 in
+    ((λ i. (mine.0 i, sets.0 i)), sets.1)
+
+-- ---- an entry's line
+
+abbrev number_and_original : Spelling (ℕ × List ℕ)
+number_and_original = seq (number 32) (field IsOriginal 10)
+
+number_and_original_once : Once number_and_original
+number_and_original_once = seq_once (number 32) (field IsOriginal 10) (number_once 32 (omega arith)) original_once
+
+module _ {A : Type 0} (Is : A → Type 0) (written : A → List ℕ) where
+  abbrev field_on : Spelling (A × (ℕ × List ℕ))
+  field_on = seq (ended Is written 32) number_and_original
+
+  abbrev archive_on : Spelling (List ℕ × (A × (ℕ × List ℕ)))
+  archive_on = seq (field IsArchiveName 32) field_on
+
+  abbrev fields_of : Key × (A × ℕ) → List ℕ × (A × (ℕ × List ℕ))
+  fields_of h = (h.0.0, (h.1.0, (h.1.1, h.0.1)))
+
+  line_parts : (h : Key × (A × ℕ)) → line_of_entry h.0 (written h.1.0) h.1.1 ≡ codes "entry " ++ archive_on.spelled (fields_of h)
+  line_parts h =
+      ap (λ (u : List ℕ). codes "entry " ++ u)
+      (parted h.0.0 32 (written h.1.0 ++ 32 ∷ (decimal h.1.1 ++ 32 ∷ (h.0.1 ++ 10 ∷ [])))
+      ∙ ap (λ (u : List ℕ). (h.0.0 ++ 32 ∷ []) ++ u)
+      (parted (written h.1.0) 32 (decimal h.1.1 ++ 32 ∷ (h.0.1 ++ 10 ∷ []))
+      ∙ ap (λ (u : List ℕ). (written h.1.0 ++ 32 ∷ []) ++ u) (parted (decimal h.1.1) 32 (h.0.1 ++ 10 ∷ []))))
+
+  line_whole : (text rest : List ℕ) (h : Key × (A × ℕ)) → Begins (line_with Is written) text h rest → text ≡ codes "entry " ++ (archive_on.spelled (fields_of h) ++ rest)
+  line_whole text rest h begins = begins.whole ∙ (ap (λ (u : List ℕ). u ++ rest) (line_parts h) ∙ append_assoc (codes "entry ") (archive_on.spelled (fields_of h)) rest)
+
+  -- it begins with its word
+  pub line_has_front : (text : List ℕ) → ((rest : List ℕ) → ¬ (text ≡ codes "entry " ++ rest)) → (h : Key × (A × ℕ)) (rest : List ℕ) → ¬ Begins (line_with Is written) text h rest
+  line_has_front text none h rest begins = none (archive_on.spelled (fields_of h) ++ rest) (line_whole text rest h begins)
+
+  module _ (text left : List ℕ) (front : text ≡ codes "entry " ++ left) where
+    from_archive : (h : Key × (A × ℕ)) (rest : List ℕ) → Begins (line_with Is written) text h rest → Begins archive_on left (fields_of h) rest
+    from_archive h rest begins = record {
+      is = (begins.is.0.0, (begins.is.1.0, (begins.is.1.1, begins.is.0.1)));
+      whole = append_cancel_left (codes "entry ") left (archive_on.spelled (fields_of h) ++ rest) (sym front ∙ line_whole text rest h begins);
+    }
+
+    -- and goes on with the name of an archive
+    pub line_without_archive : ((name rest : List ℕ) → ¬ Begins (field IsArchiveName 32) left name rest) → (h : Key × (A × ℕ)) (rest : List ℕ) → ¬ Begins (line_with Is written) text h rest
+    line_without_archive none h rest begins =
+        none h.0.0 (field_on.spelled (fields_of h).1 ++ rest) (seq_first (field IsArchiveName 32) field_on left rest h.0.0 (fields_of h).1 (from_archive h rest begins))
+
+    module _ (name left_1 : List ℕ) (archive : Begins (field IsArchiveName 32) left name left_1) where
+      from_field : (h : Key × (A × ℕ)) (rest : List ℕ) → Begins (line_with Is written) text h rest → Begins field_on left_1 (fields_of h).1 rest
+      from_field h rest begins = (seq_then (field IsArchiveName 32) field_on archive_once left left_1 rest h.0.0 name (fields_of h).1 archive (from_archive h rest begins)).1
+
+      -- and the field
+      pub line_leaves_field : Leaves (ended Is written 32) (line_with Is written) text left_1
+      line_leaves_field h rest begins =
+          (h.1.0, number_and_original.spelled (h.1.1, h.0.1) ++ rest, seq_first (ended Is written 32) number_and_original left_1 rest h.1.0 (h.1.1, h.0.1) (from_field h rest begins))
+
+      module _ (once : Once (ended Is written 32)) (value : A) (left_2 : List ℕ) (valued : Begins (ended Is written 32) left_1 value left_2) where
+        from_number : (h : Key × (A × ℕ)) (rest : List ℕ) → Begins (line_with Is written) text h rest → Begins number_and_original left_2 (h.1.1, h.0.1) rest
+        from_number h rest begins = (seq_then (ended Is written 32) number_and_original once left_1 left_2 rest h.1.0 value (h.1.1, h.0.1) valued (from_field h rest begins)).1
+
+        -- and the number
+        pub line_leaves_number : Leaves (number 32) (line_with Is written) text left_2
+        line_leaves_number h rest begins = (h.1.1, (h.0.1 ++ 10 ∷ []) ++ rest, seq_first (number 32) (field IsOriginal 10) left_2 rest h.1.1 h.0.1 (from_number h rest begins))
+
+        module _ (count : ℕ) (left_3 : List ℕ) (counted : Begins (number 32) left_2 count left_3) where
+          -- and the original
+          pub line_leaves_original : Leaves (field IsOriginal 10) (line_with Is written) text left_3
+          line_leaves_original h rest begins =
+              (h.0.1, rest, (seq_then (number 32) (field IsOriginal 10) (number_once 32 (omega arith)) left_2 left_3 rest h.1.1 count h.0.1 counted (from_number h rest begins)).1)
+
+          pub line_found : (original rest : List ℕ) → Begins (field IsOriginal 10) left_3 original rest → Begins (line_with Is written) text ((name, original), (value, count)) rest
+          line_found original rest last =
+              let h : Key × (A × ℕ) = ((name, original), (value, count)) in
+              let after_number = seq_found (number 32) (field IsOriginal 10) left_2 left_3 rest count original counted last in
+              let after_field = seq_found (ended Is written 32) number_and_original left_1 left_2 rest value (count, original) valued after_number in
+              let all = seq_found (field IsArchiveName 32) field_on left left_1 rest name (value, (count, original)) archive after_field in
+              record {
+                is = ((archive.is, last.is), (valued.is, counted.is));
+                whole =
+                    front
+                    ∙ (ap (λ (u : List ℕ). codes "entry " ++ u) all.whole
+                    ∙ (sym (append_assoc (codes "entry ") (archive_on.spelled (fields_of h)) rest) ∙ ap (λ (u : List ℕ). u ++ rest) (sym (line_parts h))));
+              }
+
+  line_once : Once (ended Is written 32) → Once (line_with Is written)
+  line_once once text x y r u bx by =
+      let left : List ℕ = archive_on.spelled (fields_of y) ++ u in
+      let front = line_whole text u y by in
+      let from_value = seq_once (ended Is written 32) number_and_original once number_and_original_once in
+      let same = seq_once (field IsArchiveName 32) field_on archive_once from_value left (fields_of x) (fields_of y) r u (from_archive text left front x r bx) (from_archive text left front y u by) in
+      ((λ i. (((same.0 i).0, (same.0 i).1.1.1), ((same.0 i).1.0, (same.0 i).1.1.0))), same.1)
+
+head_once : Once head
+head_once = line_once IsWholeField whole_field whole_once
+
+old_head_once : Once old_head
+old_head_once = line_once (λ n. n < 2 ^ 64) decimal (number_once 32 (omega arith))
+
+-- ---- an entry in format 2
+
+-- entries of the same whole revision and the same revisions are one
+same_kept : (a b : Kept) → whole a ≡ whole b → map.entries a.revisions ≡ map.entries b.revisions → a ≡ b
+same_kept a b same_whole same_parts =
+    let made_a : kept_with (whole b) (map.entries b.revisions) ≡ Some a = (kept_of_its_own (whole b) (map.entries b.revisions) a).1 (same_whole, same_parts) in
+    let made_b : kept_with (whole b) (map.entries b.revisions) ≡ Some b = (kept_of_its_own (whole b) (map.entries b.revisions) b).1 (refl, refl) in
+    let both : Some a ≡ Some b = sym made_a ∙ made_b in
+    cc
+
+abbrev head_of : Key × Kept → Key × (Option ℕ × ℕ)
+head_of e = (e.0, (whole e.1, length (map.entries e.1.revisions)))
+
+new_begins : (text rest : List ℕ) (e : Key × Kept) → Begins new_entry text e rest → Begins head text (head_of e) (flat_map part_text (map.entries e.1.revisions) ++ rest)
+new_begins text rest e begins = record {
+  is = ((begins.is.line.archive, begins.is.line.original), (begins.is.line.whole_fits, begins.is.line.revisions_fit));
+  whole =
+      begins.whole
+      ∙ append_assoc (entry_line e.0 (whole e.1) (length (map.entries e.1.revisions))) (flat_map part_text (map.entries e.1.revisions)) rest;
+}
+
+-- an entry begins with its line
+pub new_leaves_head : (text : List ℕ) → Leaves head new_entry text text
+new_leaves_head text e rest begins = (head_of e, flat_map part_text (map.entries e.1.revisions) ++ rest, new_begins text rest e begins)
+
+module _ (text left : List ℕ) (h : Key × (Option ℕ × ℕ)) (begun : Begins head text h left) where
+  new_parts : (e : Key × Kept) (rest : List ℕ) → Begins new_entry text e rest → ((e.0 ≡ h.0) × (whole e.1 ≡ h.1.0)) × Begins (many h.1.1 part) left (map.entries e.1.revisions) rest
+  new_parts e rest begins =
+      let same = head_once text (head_of e) h (flat_map part_text (map.entries e.1.revisions) ++ rest) left (new_begins text rest e begins) begun in
+      (((λ i. (same.0 i).0), (λ i. (same.0 i).1.0)), record { is = ((λ i. (same.0 i).1.1), begins.is.parts); whole = sym same.1 })
+
+  -- and goes on with as many revisions as the line says
+  pub new_leaves_parts : Leaves (many h.1.1 part) new_entry text left
+  new_leaves_parts e rest begins = (map.entries e.1.revisions, rest, (new_parts e rest begins).1)
+
+  module _ (parts : List (ℕ × Mementos)) (rest : List ℕ) (listed : Begins (many h.1.1 part) left parts rest) where
+    -- revisions out of order, a whole one that isn't the first, and none are no entry's
+    pub new_unordered : kept_with h.1.0 parts ≡ None → (e : Key × Kept) (r : List ℕ) → ¬ Begins new_entry text e r
+    new_unordered none e r begins =
+        let its = new_parts e r begins in
+        let same = many_once part h.1.1 part_once left (map.entries e.1.revisions) parts r rest its.1 listed in
+        let made : kept_with h.1.0 parts ≡ Some e.1 = (kept_of_its_own h.1.0 parts e.1).1 (its.0.1, same.0) in
+        none-some e.1 (sym none ∙ made)
+
+    pub new_found : (kept : Kept) → kept_with h.1.0 parts ≡ Some kept → Begins new_entry text (h.0, kept) rest
+    new_found kept is =
+        let its = (kept_of_its_own h.1.0 parts kept).0 is in
+        let count : length (map.entries kept.revisions) ≡ h.1.1 = ap length its.1 ∙ listed.is.0 in
+        record {
+          is = record {
+            line = record {
+              archive = begun.is.0.0;
+              original = begun.is.0.1;
+              whole_fits = subst IsWholeField (sym its.0) begun.is.1.0;
+              revisions_fit = subst (λ (n : ℕ). n < 2 ^ 64) (sym count) begun.is.1.1;
+            };
+            parts = subst (All IsPart) (sym its.1) listed.is.1;
+          };
+          whole =
+              begun.whole
+              ∙ ((λ i. entry_line h.0 (sym its.0 i) (sym count i) ++ (listed.whole ∙ ap (λ (ps : List (ℕ × Mementos)). flat_map part_text ps ++ rest) (sym its.1)) i)
+              ∙ sym (append_assoc (entry_line h.0 (whole kept) (length (map.entries kept.revisions))) (flat_map part_text (map.entries kept.revisions)) rest));
+        }
+
+new_once : Once new_entry
+new_once text x y r u bx by =
+    let left : List ℕ = flat_map part_text (map.entries y.1.revisions) ++ u in
+    let begun = new_begins text u y by in
+    let mine = new_parts text left (head_of y) begun x r bx in
+    let other = new_parts text left (head_of y) begun y u by in
+    let lists = many_once part (length (map.entries y.1.revisions)) part_once left (map.entries x.1.revisions) (map.entries y.1.revisions) r u mine.1 other.1 in
+    let same : x.1 ≡ y.1 = same_kept x.1 y.1 mine.0.1 lists.0 in
+    ((λ i. (mine.0.0 i, same i)), lists.1)
+
+-- ---- an entry in format 1
+
+one_part : (ps : List (ℕ × Mementos)) → length ps ≡ 1 → (p : ℕ × Mementos) × (ps ≡ p ∷ [])
+one_part [] one = absurd (omega (arith, one))
+one_part (p ∷ []) one = (p, refl)
+one_part (p ∷ q ∷ ps) one = absurd (omega (arith, one))
+
+first_is : (b : Bool) (o : Option ℕ) → IsSome (cond b o None) → cond b o None ≡ o
+first_is true o some = refl
+first_is false o some = absurd cc
+
+-- an entry's key and its one revision
+abbrev alone : Spelling (Key × (ℕ × Mementos))
+alone = record { Is = λ a. (IsArchiveName a.0.0 × IsOriginal a.0.1) × IsPart a.1; spelled = λ a. old_part_text a.0 a.1 }
+
+-- an entry that is its whole revision
+record IsOf (text rest : List ℕ) (e : Key × Kept) : Type 0 where
+  its_part : ℕ × Mementos
+  parts_are : map.entries e.1.revisions ≡ its_part ∷ []
+  whole_is : whole e.1 ≡ Some its_part.0
+  begins : Begins alone text (e.0, its_part) rest
+
+old_begins : (text rest : List ℕ) (e : Key × Kept) → Begins old_entry text e rest → IsOf text rest e
+old_begins text rest e begins =
+    let one = one_part (map.entries e.1.revisions) begins.is.1.alone in
+    record {
+      its_part = one.0;
+      parts_are = one.1;
+      whole_is = first_is e.1.is_whole (least e.1.revisions) begins.is.1.is_whole ∙ ap first_of one.1;
+      begins = record {
+        is = ((begins.is.0.line.archive, begins.is.0.line.original), All-head IsPart one.0 [] (subst (All IsPart) one.1 begins.is.0.parts));
+        whole = begins.whole ∙ ap (λ (u : List ℕ). u ++ rest) (ap (flat_map (old_part_text e.0)) one.1 ∙ append-nil (old_part_text e.0 one.0));
+      };
+    }
+
+abbrev old_head_of : Key × (ℕ × Mementos) → Key × (ℕ × ℕ)
+old_head_of a = (a.0, (a.1.0, length (set.items a.1.1)))
+
+alone_begins : (text rest : List ℕ) (a : Key × (ℕ × Mementos)) → Begins alone text a rest → Begins old_head text (old_head_of a) (memento_lines a.1.1 ++ rest)
+alone_begins text rest a begins = record {
+  is = (begins.is.0, (begins.is.1.line.revision_fits, begins.is.1.line.count_fits));
+  whole = begins.whole ∙ append_assoc (old_entry_line a.0 a.1.0 (length (set.items a.1.1))) (memento_lines a.1.1) rest;
+}
+
+-- it begins with its line
+pub old_leaves_head : (text : List ℕ) → Leaves old_head old_entry text text
+old_leaves_head text e rest begins =
+    let its = old_begins text rest e begins in
+    (old_head_of (e.0, its.its_part), memento_lines its.its_part.1 ++ rest, alone_begins text rest (e.0, its.its_part) its.begins)
+
+module _ (text left : List ℕ) (h : Key × (ℕ × ℕ)) (begun : Begins old_head text h left) where
+  alone_set : (a : Key × (ℕ × Mementos)) (rest : List ℕ) → Begins alone text a rest → ((a.0 ≡ h.0) × (a.1.0 ≡ h.1.0)) × Begins (set_of h.1.1) left a.1.1 rest
+  alone_set a rest begins =
+      let same = old_head_once text (old_head_of a) h (memento_lines a.1.1 ++ rest) left (alone_begins text rest a begins) begun in
+      (((λ i. (same.0 i).0), (λ i. (same.0 i).1.0)), record { is = ((λ i. (same.0 i).1.1), begins.is.1.mementos); whole = sym same.1 })
+
+  -- and goes on with as many mementos as the line says
+  pub old_leaves_set : Leaves (set_of h.1.1) old_entry text left
+  old_leaves_set e rest begins =
+      let its = old_begins text rest e begins in
+      (its.its_part.1, rest, (alone_set (e.0, its.its_part) rest its.begins).1)
+
+  module _ (s : Mementos) (rest : List ℕ) (listed : Begins (set_of h.1.1) left s rest) where
+    pub old_unmade : kept_with (Some h.1.0) ((h.1.0, s) ∷ []) ≡ None → (e : Key × Kept) (r : List ℕ) → ¬ Begins old_entry text e r
+    old_unmade none e r begins =
+        let its = old_begins text r e begins in
+        let a = alone_set (e.0, its.its_part) r its.begins in
+        let sets = set_once h.1.1 left its.its_part.1 s r rest a.1 listed in
+        let part_is : its.its_part ≡ (h.1.0, s) = λ i. (a.0.1 i, sets.0 i) in
+        let made : kept_with (Some h.1.0) ((h.1.0, s) ∷ []) ≡ Some e.1 =
+        (kept_of_its_own (Some h.1.0) ((h.1.0, s) ∷ []) e.1).1 (its.whole_is ∙ ap (λ (n : ℕ). Some n) a.0.1, its.parts_are ∙ ap (λ (p : ℕ × Mementos). p ∷ []) part_is) in
+        none-some e.1 (sym none ∙ made)
+
+    pub old_found : (kept : Kept) → kept_with (Some h.1.0) ((h.1.0, s) ∷ []) ≡ Some kept → Begins old_entry text (h.0, kept) rest
+    old_found kept is =
+        let its = (kept_of_its_own (Some h.1.0) ((h.1.0, s) ∷ []) kept).0 is in
+        let count : h.1.1 ≡ length (set.items s) = sym listed.is.0 in
+        let one : length (map.entries kept.revisions) ≡ 1 = ap length its.1 in
+        let part_is : IsPart (h.1.0, s) = record {
+          line = record { revision_fits = begun.is.1.0; count_fits = subst (λ (n : ℕ). n < 2 ^ 64) count begun.is.1.1 };
+          mementos = listed.is.1;
+        } in
+        let entry_is : IsEntry (h.0, kept) = record {
+          line = record {
+            archive = begun.is.0.0;
+            original = begun.is.0.1;
+            whole_fits = subst IsWholeField (sym its.0) begun.is.1.0;
+            revisions_fit = omega (arith, one);
+          };
+          parts = subst (All IsPart) (sym its.1) (All-cons IsPart (h.1.0, s) [] part_is (All-nil IsPart));
+        } in
+        record {
+          is = (entry_is, record { is_whole = subst IsSome (sym its.0) refl; alone = one });
+          whole =
+              begun.whole
+              ∙ ((λ i. old_entry_line h.0 h.1.0 (count i) ++ listed.whole i)
+              ∙ (sym (append_assoc (old_entry_line h.0 h.1.0 (length (set.items s))) (memento_lines s) rest)
+              ∙ ap (λ (u : List ℕ). u ++ rest) (sym (ap (flat_map (old_part_text h.0)) its.1 ∙ append-nil (old_part_text h.0 (h.1.0, s))))));
+        }
+
+old_once : Once old_entry
+old_once text x y r u bx by =
+    let its_x = old_begins text r x bx in
+    let its_y = old_begins text u y by in
+    let a : Key × (ℕ × Mementos) = (y.0, its_y.its_part) in
+    let left : List ℕ = memento_lines a.1.1 ++ u in
+    let begun = alone_begins text u a its_y.begins in
+    let mine = alone_set text left (old_head_of a) begun (x.0, its_x.its_part) r its_x.begins in
+    let other = alone_set text left (old_head_of a) begun a u its_y.begins in
+    let sets = set_once (length (set.items a.1.1)) left its_x.its_part.1 a.1.1 r u mine.1 other.1 in
+    let parts : its_x.its_part ≡ its_y.its_part = λ i. (mine.0.1 i, sets.0 i) in
+    let same : x.1 ≡ y.1 = same_kept x.1 y.1
+    (its_x.whole_is ∙ (ap (λ (p : ℕ × Mementos). Some p.0) parts ∙ sym its_y.whole_is))
+    (its_x.parts_are ∙ (ap (λ (p : ℕ × Mementos). p ∷ []) parts ∙ sym its_y.parts_are)) in
+    ((λ i. (mine.0.0 i, same i)), sets.1)
+
+-- ---- an entry
+
+pub entry_once : (f : Format) → Once (entry f)
+entry_once One = old_once
+entry_once Two = new_once

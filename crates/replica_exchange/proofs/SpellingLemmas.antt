@@ -1,11 +1,12 @@
 -- A field ends at the first of its end byte, so a text begins with at most one.
 use Rattle.std.proofs.Common.{◌≡◌, ◌≢◌, ℕ, ◌^◌, ◌<◌, inl, inr, List, [], ◌∷◌, ◌++◌, length, take, drop, true, false, refl, sym, ap, subst, ◌∙◌, append_assoc, arith}
+use Rattle.std.specs.Prelude.{codes, Option, Some, None}
 use Rattle.std.specs.Fmt.{decimal}
 use Rattle.std.specs.Bool.{nat_eq}
 use Rattle.std.specs.Cmp.Lexicographic.{pointwise}
 use Rattle.std.proofs.lemmas.Slice.Eq.{bytes_eq-Decides}
 use Rattle.std.proofs.lemmas.List.{take_at, take-append-drop}
-use Rattle.std.proofs.lemmas.List.Elements.{All-weaker}
+use Rattle.std.proofs.lemmas.List.Elements.{All-nil, All-head, All-push, All-weaker}
 use Rattle.std.proofs.lemmas.Fmt.{decimal_injective}
 use Rattle.memento_time.specs.Text.{IsClean, IsCleanByte, IsArchiveName, IsNameByte, IsOriginal}
 use Rattle.memento_time.specs.declared.faults.CleanFault.{CleanFault}
@@ -14,6 +15,8 @@ use Rattle.replica_exchange.specs.Faults.{fault_of}
 use Rattle.text_fields.specs.Parts.{Lacks}
 use Rattle.text_fields.proofs.PartLemmas.{one_split, no_split}
 use Rattle.text_fields.proofs.DecimalLemmas.{decimal_lacks}
+use Rattle.replica_exchange.specs.StateText.{whole_field}
+use Rattle.replica_exchange.specs.Parts.{IsWholeField, whole_ended}
 use Rattle.replica_exchange.specs.Spelling.{Spelling, Begins, Refuses, ended, field, number}
 
 -- no text begins with two of these values, or in two ways with one
@@ -103,3 +106,32 @@ original_once = ended_once IsOriginal (λ text. text) 10 original_lacks (λ x y 
 
 pub uri_once : Once (field IsClean 10)
 uri_once = ended_once IsClean (λ text. text) 10 clean_lacks (λ x y _ _ same. same)
+
+-- ---- a whole revision, or none
+
+no_dash : (n : ℕ) → n < 2 ^ 64 → ¬ (codes "-" ≡ decimal n)
+no_dash n small same =
+    let lacks : Lacks 45 (codes "-") = subst (Lacks 45) (sym same) (decimal_lacks 45 (omega arith) n small) in
+    All-head (λ b. b ≢ 45) 45 [] lacks refl
+
+pub whole_lacks : (w : Option ℕ) → IsWholeField w → Lacks 32 (whole_field w)
+whole_lacks None is = All-push (λ b. b ≢ 32) [] 45 (All-nil (λ b. b ≢ 32)) (λ same. omega (arith, same))
+whole_lacks (Some n) is = decimal_lacks 32 (omega arith) n is
+
+whole_field_once : (v w : Option ℕ) → IsWholeField v → IsWholeField w → whole_field v ≡ whole_field w → v ≡ w
+whole_field_once None None v_is w_is same = refl
+whole_field_once None (Some n) v_is w_is same = absurd (no_dash n w_is same)
+whole_field_once (Some n) None v_is w_is same = absurd (no_dash n v_is (sym same))
+whole_field_once (Some m) (Some n) v_is w_is same = ap (λ (k : ℕ). Some k) (decimal_injective m n v_is w_is same)
+
+pub whole_once : Once whole_ended
+whole_once = ended_once IsWholeField whole_field 32 whole_lacks whole_field_once
+
+-- a word that is neither `-` nor a number is no whole revision
+pub whole_refused : (text word rest : List ℕ) → text ≡ word ++ 32 ∷ rest → Lacks 32 word → ¬ (word ≡ codes "-") → ((n : ℕ) → ¬ ((n < 2 ^ 64) × (word ≡ decimal n)))
+    → (w : Option ℕ) (r : List ℕ) → ¬ Begins whole_ended text w r
+whole_refused text word rest cut lacks no_dash none = ended_refused IsWholeField whole_field 32 whole_lacks text word rest cut lacks other
+  where
+    other : (w : Option ℕ) → IsWholeField w → ¬ (word ≡ whole_field w)
+    other None is same = no_dash same
+    other (Some n) is same = none n (is, same)

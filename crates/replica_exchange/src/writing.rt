@@ -96,6 +96,16 @@ fn write_part_line(out: &mut Vec<u8>, revision: u64, count: usize) -> Result<(),
     write_number(out, count as u64, b'\n')
 }
 
+/// A revision's line, and a line for each of its mementos.
+fn write_part(out: &mut Vec<u8>, revision: u64, mementos: &[Memento]) -> Result<(), AllocError>
+    ensures written { OnOk result (out.new.items ≡ out.old.items
+        ++ (part_line revision (length mementos.now) ++ flat_map memento_line mementos.now)) }
+    ensures fits { OnOk result (IsPartLine revision (length mementos.now) × All IsMemento mementos.now) }
+{
+    write_part_line(out, revision, mementos.len())?;
+    write_mementos(out, mementos)
+}
+
 /// The entry's revisions in order, each with its mementos.
 fn write_parts(out: &mut Vec<u8>, entry: &Entry) -> Result<(), AllocError>
     ensures written { OnOk result (out.new.items ≡ out.old.items
@@ -103,9 +113,7 @@ fn write_parts(out: &mut Vec<u8>, entry: &Entry) -> Result<(), AllocError>
     ensures fits { OnOk result (All IsPart (map.entries entry.now.revisions)) }
 {
     for k in 0..entry.revisions() {
-        let mementos = entry.mementos(k);
-        write_part_line(out, entry.revision(k), mementos.len())?;
-        write_mementos(out, mementos)?;
+        write_part(out, entry.revision(k), entry.mementos(k))?;
     }
     Ok(())
 }

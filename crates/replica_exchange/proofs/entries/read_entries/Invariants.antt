@@ -8,6 +8,6 @@ use Rattle.replica_exchange.proofs.entries.read_entries.Given as goal
 
 abbrev pub invariant-loop : goal.invariant-loop
 invariant-loop l = record {
-  lines : Begins (many l.counter entry) l.text (map row_entry l.rows.items) l.rest;
+  lines : Begins (many l.counter (entry l.format)) l.text (map row_entry l.rows.items) l.rest;
   end : IsEndOf l.rest (arc_value l.buffer).items;
 }

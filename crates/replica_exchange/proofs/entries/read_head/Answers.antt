@@ -1,11 +1,12 @@
 use Rattle.std.proofs.Common.{sym, subst}
 use Rattle.std.specs.Prelude.{codes}
+use Rattle.replica_exchange.specs.StateText.{whole_field}
 use Rattle.memento_time.specs.Text.{IsArchiveName, IsOriginal}
 use Rattle.replica_exchange.specs.Spelling.{ended, field, number}
-use Rattle.replica_exchange.specs.Parts.{head}
-use Rattle.replica_exchange.proofs.SpellingLemmas.{ended_found, ended_none, field_refused, name_lacks}
+use Rattle.replica_exchange.specs.Parts.{IsWholeField, head}
+use Rattle.replica_exchange.proofs.SpellingLemmas.{ended_found, ended_none, field_refused, name_lacks, whole_once}
 use Rattle.replica_exchange.proofs.Sequences.{passed_on, refused_with, malformed}
-use Rattle.replica_exchange.proofs.PartLemmas.{head_has_front, head_without_archive, head_leaves_revision, head_leaves_count, head_leaves_original, head_found}
+use Rattle.replica_exchange.proofs.PartLemmas.{line_has_front, line_without_archive, line_leaves_field, line_leaves_number, line_leaves_original, line_found}
 use Rattle.replica_exchange.proofs.EndLemmas.{end_after, end_behind}
 use Rattle.replica_exchange.proofs.entries.read_head.Goals as goal
 
@@ -13,49 +14,49 @@ pub returns-in_err-rest-clause-refused : goal.returns-in_err-rest-clause-refused
 returns-in_err-rest-clause-refused c =
     let text = c.args.text.now in
     passed_on head text c.from_residual.result c.in_err-rest.field-0.0 c.from_residual.ensures.1
-    (malformed head text c.in_err-rest.field-0.0 c.in_err-rest.ensures.refused.0 (head_has_front text c.in_err-rest.ensures.refused.1))
+    (malformed head text c.in_err-rest.field-0.0 c.in_err-rest.ensures.refused.0 (line_has_front IsWholeField whole_field text c.in_err-rest.ensures.refused.1))
 
 pub returns-in_err-name-clause-refused : goal.returns-in_err-name-clause-refused
 returns-in_err-name-clause-refused c =
     let text = c.args.text.now in
     let cut = c.in_err-name.ensures.refused in
     passed_on head text c.from_residual-in_err-name.result c.in_err-name.field-0.0 c.from_residual-in_err-name.ensures.1
-    (malformed head text c.in_err-name.field-0.0 cut.0 (head_without_archive text c.in_ok-rest.rest.now c.in_ok-rest.ensures.found (ended_none IsArchiveName (λ text. text) 32 c.in_ok-rest.rest.now cut.1)))
+    (malformed head text c.in_err-name.field-0.0 cut.0 (line_without_archive IsWholeField whole_field text c.in_ok-rest.rest.now c.in_ok-rest.ensures.found (ended_none IsArchiveName (λ text. text) 32 c.in_ok-rest.rest.now cut.1)))
 
 pub returns-in_default-clause-refused : goal.returns-in_default-clause-refused
 returns-in_default-clause-refused c =
     let name = c.in_ok-name.ensures in
-    head_without_archive c.args.text.now c.in_ok-rest.rest.now c.in_ok-rest.ensures.found (field_refused IsArchiveName 32 name_lacks _ _ _ name.found name.first (λ is. c.in_default.ensures is))
+    line_without_archive IsWholeField whole_field c.args.text.now c.in_ok-rest.rest.now c.in_ok-rest.ensures.found (field_refused IsArchiveName 32 name_lacks _ _ _ name.found name.first (λ is. c.in_default.ensures is))
 
-pub returns-in_err-revision-clause-refused : goal.returns-in_err-revision-clause-refused
-returns-in_err-revision-clause-refused c =
+pub returns-in_err-whole-clause-refused : goal.returns-in_err-whole-clause-refused
+returns-in_err-whole-clause-refused c =
     let text = c.args.text.now in
     let archive = ended_found IsArchiveName (λ text. text) 32 c.in_ok-rest.rest.now c.in_ok-name.name.now c.in_ok-name.rest.now c.in-Some.archive c.in_ok-name.ensures.found (sym c.in-Some.ensures.1) (subst IsArchiveName (sym c.in-Some.ensures.1) c.in-Some.ensures.0) in
-    passed_on head text c.from_residual-in_err-revision.result c.in_err-revision.field-0.0 c.from_residual-in_err-revision.ensures.1
-    (refused_with (number 32) head text _ (head_leaves_revision text _ c.in_ok-rest.ensures.found _ _ archive) c.in_err-revision.field-0.0 c.in_err-revision.ensures.refused)
+    passed_on head text c.from_residual-in_err-whole.result c.in_err-whole.field-0.0 c.from_residual-in_err-whole.ensures.1
+    (refused_with (ended IsWholeField whole_field 32) head text _ (line_leaves_field IsWholeField whole_field text _ c.in_ok-rest.ensures.found _ _ archive) c.in_err-whole.field-0.0 c.in_err-whole.ensures.refused)
 
-pub returns-in_err-count-clause-refused : goal.returns-in_err-count-clause-refused
-returns-in_err-count-clause-refused c =
+pub returns-in_err-revisions-clause-refused : goal.returns-in_err-revisions-clause-refused
+returns-in_err-revisions-clause-refused c =
     let text = c.args.text.now in
     let archive = ended_found IsArchiveName (λ text. text) 32 c.in_ok-rest.rest.now c.in_ok-name.name.now c.in_ok-name.rest.now c.in-Some.archive c.in_ok-name.ensures.found (sym c.in-Some.ensures.1) (subst IsArchiveName (sym c.in-Some.ensures.1) c.in-Some.ensures.0) in
-    passed_on head text c.from_residual-in_err-count.result c.in_err-count.field-0.0 c.from_residual-in_err-count.ensures.1
-    (refused_with (number 32) head text _ (head_leaves_count text _ c.in_ok-rest.ensures.found _ _ archive _ _ c.in_ok-revision.ensures.found) c.in_err-count.field-0.0 c.in_err-count.ensures.refused)
+    passed_on head text c.from_residual-in_err-revisions.result c.in_err-revisions.field-0.0 c.from_residual-in_err-revisions.ensures.1
+    (refused_with (number 32) head text _ (line_leaves_number IsWholeField whole_field text _ c.in_ok-rest.ensures.found _ _ archive whole_once _ _ c.in_ok-whole.ensures.found) c.in_err-revisions.field-0.0 c.in_err-revisions.ensures.refused)
 
 pub returns-in_err-original-clause-refused : goal.returns-in_err-original-clause-refused
 returns-in_err-original-clause-refused c =
     let text = c.args.text.now in
     let archive = ended_found IsArchiveName (λ text. text) 32 c.in_ok-rest.rest.now c.in_ok-name.name.now c.in_ok-name.rest.now c.in-Some.archive c.in_ok-name.ensures.found (sym c.in-Some.ensures.1) (subst IsArchiveName (sym c.in-Some.ensures.1) c.in-Some.ensures.0) in
     passed_on head text c.from_residual-in_err-original.result c.in_err-original.field-0.0 c.from_residual-in_err-original.ensures.1
-    (refused_with (field IsOriginal 10) head text _ (head_leaves_original text _ c.in_ok-rest.ensures.found _ _ archive _ _ c.in_ok-revision.ensures.found _ _ c.in_ok-count.ensures.found) c.in_err-original.field-0.0 c.in_err-original.ensures.refused)
+    (refused_with (field IsOriginal 10) head text _ (line_leaves_original IsWholeField whole_field text _ c.in_ok-rest.ensures.found _ _ archive whole_once _ _ c.in_ok-whole.ensures.found _ _ c.in_ok-revisions.ensures.found) c.in_err-original.field-0.0 c.in_err-original.ensures.refused)
 
 pub returns-clause-found : goal.returns-clause-found
 returns-clause-found c =
     let archive = ended_found IsArchiveName (λ text. text) 32 c.in_ok-rest.rest.now c.in_ok-name.name.now c.in_ok-name.rest.now c.in-Some.archive c.in_ok-name.ensures.found (sym c.in-Some.ensures.1) (subst IsArchiveName (sym c.in-Some.ensures.1) c.in-Some.ensures.0) in
-    head_found c.args.text.now _ c.in_ok-rest.ensures.found _ _ archive _ _ c.in_ok-revision.ensures.found _ _ c.in_ok-count.ensures.found _ _ c.in_ok-original.ensures.found
+    line_found IsWholeField whole_field c.args.text.now _ c.in_ok-rest.ensures.found _ _ archive whole_once _ _ c.in_ok-whole.ensures.found _ _ c.in_ok-revisions.ensures.found _ _ c.in_ok-original.ensures.found
 
 pub read_original-requires : goal.read_original-requires
 read_original-requires c =
     let archive = ended_found IsArchiveName (λ text. text) 32 c.in_ok-rest.rest.now c.in_ok-name.name.now c.in_ok-name.rest.now c.in-Some.archive c.in_ok-name.ensures.found (sym c.in-Some.ensures.1) (subst IsArchiveName (sym c.in-Some.ensures.1) c.in-Some.ensures.0) in
     let behind_word = end_behind _ _ (codes "entry ") _ c.requires c.in_ok-rest.ensures.found in
     let behind_archive = end_after (ended IsArchiveName (λ text. text) 32) _ _ _ _ behind_word archive in
-    end_after (number 32) _ _ _ _ (end_after (number 32) _ _ _ _ behind_archive c.in_ok-revision.ensures.found) c.in_ok-count.ensures.found
+    end_after (number 32) _ _ _ _ (end_after (ended IsWholeField whole_field 32) _ _ _ _ behind_archive c.in_ok-whole.ensures.found) c.in_ok-revisions.ensures.found

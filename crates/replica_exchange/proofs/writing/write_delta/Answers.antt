@@ -13,7 +13,7 @@ pub returns-clause-written : goal.returns-clause-written
 returns-clause-written c =
     let s = c.args.stamped.now in
     let start : c.start_from-start.result ≡ start_from s c.args.cursor = c.start_from-start.ensures.start in
-    let first = c.in_ok-extend_from_slice.ensures.items ∙ ap (λ (u : List ℕ). u ++ codes "memento-delta 1\n") c.new-out.ensures.items in
+    let first = c.in_ok-extend_from_slice.ensures.items ∙ ap (λ (u : List ℕ). u ++ codes "memento-delta 2\n") c.new-out.ensures.items in
     let spanned = c.in_ok-write_span.ensures.written ∙ (λ i. c.extend_from_slice.new.self.items ++ from_line (c.incarnation.ensures i) (start i) (c.number.ensures i)) in
     let count = c.count_above.ensures ∙ (λ i. length (fmap.entries (entries_above s (start i)))) in
     let listed = c.in_ok-write_entries_above.ensures.written ∙ (λ i. c.write_number.new.out.items ++ flat_map entry_text (fmap.entries (entries_above s (start i)))) in
