@@ -252,8 +252,8 @@ fn refusals(rt: HostRuntime) -> Result<()> {
     let alloc = rt.alloc();
     let mut world = one_replica(alloc)?;
     assert!(rt; refuses_what_is_not_there(&mut world));
-    for bytes in [
-        b"memento-state 2\nentries 0\nend\n\n".as_slice(),
+    let no_states: [&[u8]; 8] = [
+        b"memento-state 2\nentries 0\nend\n\n",
         b"memento-state 3\nentries 0\nend\n",
         b"memento-state 1\nentries 1\nentry a1 7 1 http://a.example/\nat 7 0\nend\n",
         b"memento-state 2\nentries 1\nentry a1 7 0 http://a.example/\nend\n",
@@ -261,7 +261,8 @@ fn refusals(rt: HostRuntime) -> Result<()> {
         b"memento-state 2\nentries 1\nentry a1 7 2 http://a.example/\nat 6 0\nat 7 0\nend\n",
         b"memento-state 2\nentries 1\nentry a1 - 2 http://a.example/\nat 7 0\nat 6 0\nend\n",
         THIRD_MERGE,
-    ] {
+    ];
+    for bytes in no_states {
         assert!(rt; refuses_bytes(alloc, &mut world, bytes)?);
     }
     assert!(rt; receives(alloc, &mut world, 1, EMPTY_STATE)?);
