@@ -24,7 +24,7 @@ const JOBS_EACH: usize = 8;
 #[derive(Clone, Copy, Debug, PartialEq, Eq)]
 pub(crate) struct Round {
     jobs: u64,
-    /// Harvests that were appended.
+    /// Harvests that were appended, whole ones and those of a part.
     harvests: u64,
     /// Deltas of peers that were appended.
     pulls: u64,
@@ -105,6 +105,7 @@ impl Round {
                 number: _,
                 job: _,
                 fetched: _,
+                lost: _,
                 result,
             } = outcome;
             let Ok(harvest) = result else {

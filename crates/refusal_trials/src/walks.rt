@@ -1,4 +1,4 @@
-//! A walk over three pages of a TimeMap.
+//! A walk over three pages of a TimeMap, of which a fourth is lost.
 use anyhow::{Context, Result, bail};
 use harvester::{Answer, Job, MemoryFetch, Outcome, WalkFault, walk};
 use memento_time::{ArchiveName, Clean, Items, Octets, Original};
@@ -16,14 +16,14 @@ pub(crate) struct Archive {
     job: Job,
 }
 
-/// An archive whose first page lists two further ones.
+/// An archive whose first page lists three further ones, the last of which doesn't answer.
 pub(crate) fn make_archive(alloc: Global) -> Result<Archive> {
     let mut fetch = MemoryFetch::new(alloc);
     add(
         &mut fetch,
         alloc,
         b"http://arc.example/i",
-        b"</p1>;rel=timemap,</p2>;rel=timemap",
+        b"</p1>;rel=timemap,</p2>;rel=timemap,</p3>;rel=timemap",
     )?;
     add(
         &mut fetch,
@@ -58,15 +58,15 @@ fn add(fetch: &mut MemoryFetch, alloc: Global, url: &[u8], body: &[u8]) -> Resul
     Ok(())
 }
 
-/// Whether the walk that was refused memory fetched the same up to there.
-fn is_beginning(refused: &Outcome<'_>, whole: &Outcome<'_>) -> bool {
-    refused.fetched.as_slice().len() <= whole.fetched.as_slice().len()
-        && refused
-            .fetched
-            .as_slice()
-            .iter()
-            .zip(whole.fetched.as_slice())
-            .all(|(one, other)| one == other)
+/// Whether one list is where the other begins.
+fn is_beginning<T: PartialEq>(front: &[T], whole: &[T]) -> bool {
+    front.len() <= whole.len() && front.iter().zip(whole).all(|(one, other)| one == other)
+}
+
+/// Whether the walk that was refused memory fetched and lost the same up to there.
+fn is_same_walk(refused: &Outcome<'_>, whole: &Outcome<'_>) -> bool {
+    is_beginning(refused.fetched.as_slice(), whole.fetched.as_slice())
+        && is_beginning(refused.lost.as_slice(), whole.lost.as_slice())
 }
 
 pub(crate) fn print_outcome(rt: &HostRuntime, outcome: &Outcome<'_>) -> Result<()> {
@@ -75,8 +75,14 @@ pub(crate) fn print_outcome(rt: &HostRuntime, outcome: &Outcome<'_>) -> Result<(
         rt.stdout().write_all(entry.0.as_bytes())?;
         println!(rt; "")?;
     }
+    for (url, fault) in outcome.lost.as_slice() {
+        print!(rt; "lost ")?;
+        rt.stdout().write_all(url.as_bytes())?;
+        println!(rt; " {fault}")?;
+    }
     match &outcome.result {
         Ok(harvest) => {
+            println!(rt; "part {}", harvest.is_part())?;
             for memento in harvest.mementos() {
                 let second = memento.at.secs();
                 print!(rt; "memento {second} ")?;
@@ -102,7 +108,7 @@ where
         return Ok(outcome);
     }
     let again = walk(rt, &archive.fetch, &archive.job);
-    if !is_beginning(&outcome, &again) {
+    if !is_same_walk(&outcome, &again) {
         bail!("a refused walk fetched something else");
     }
     Ok(again)

@@ -1,5 +1,5 @@
-//! Walks over archives in memory: which pages are fetched and in which order, where a walk ends, and that the workers of
-//! a round run at once.
+//! Walks over archives in memory: which pages are fetched and in which order, which are lost, where a walk ends, and that
+//! the workers of a round run at once.
 use anyhow::{Result, bail};
 use harvest_lattice::Harvest;
 use harvester::{
@@ -112,6 +112,22 @@ fn has_fetched(outcome: &Outcome<'_>, urls: &[&str]) -> bool {
             .all(|(entry, url)| entry.0.as_bytes() == url.as_bytes())
 }
 
+/// Whether these URLs are lost by these faults, in this order.
+fn has_lost(outcome: &Outcome<'_>, lost: &[(&str, WalkFault)]) -> bool {
+    let losses = outcome.lost.as_slice();
+    losses.len() == lost.len()
+        && losses.iter().zip(lost).all(|(loss, (url, fault))| loss.0.as_bytes() == url.as_bytes()
+            && loss.1 == *fault)
+}
+
+/// Whether the harvest is whole.
+fn is_whole(outcome: &Outcome<'_>) -> bool {
+    match &outcome.result {
+        Ok(harvest) => !harvest.is_part(),
+        Err(_) => false,
+    }
+}
+
 /// Whether the harvest has just these mementos.
 fn has_harvested(outcome: &Outcome<'_>, uris: &[&str]) -> bool {
     match &outcome.result {
@@ -150,7 +166,8 @@ fn walk_counts<
     Ok((count, outcome.fetched.as_slice().len()))
 }
 
-/// Whether a walk from this URL fetches just these pages, in this order, and harvests just these mementos.
+/// Whether a walk from this URL fetches just these pages, in this order, and harvests just these mementos, with nothing
+/// lost.
 fn walk_harvests<
     R: Wait + Clock + Net<Listener = TcpListener, Stream = TcpStream> + RandomSource + AllocGlobal,
 >(rt: &R, table: &MemoryFetch, first: &str, urls: &[&str], uris: &[&str]) -> Result<bool> {
@@ -159,7 +176,35 @@ fn walk_harvests<
         bail!("no first URL");
     }
     let outcome = walk(rt, table, &job);
-    Ok(outcome.number == 0 && has_fetched(&outcome, urls) && has_harvested(&outcome, uris))
+    let is_as_said = outcome.number == 0
+        && has_fetched(&outcome, urls)
+        && has_lost(&outcome, &[])
+        && is_whole(&outcome)
+        && has_harvested(&outcome, uris);
+    Ok(is_as_said)
+}
+
+/// Whether a walk from the index fetches just these pages, in this order, loses just these, in this order, and gives a
+/// part harvest of just these mementos.
+fn walk_loses<
+    R: Wait + Clock + Net<Listener = TcpListener, Stream = TcpStream> + RandomSource + AllocGlobal,
+>(
+    rt: &R,
+    table: &MemoryFetch,
+    urls: &[&str],
+    lost: &[(&str, WalkFault)],
+    uris: &[&str],
+) -> Result<bool> {
+    let job = job(rt.alloc(), "http://arc.example/i")?;
+    if !job.has_first_url() {
+        bail!("no first URL");
+    }
+    let outcome = walk(rt, table, &job);
+    let is_as_said = has_fetched(&outcome, urls)
+        && has_lost(&outcome, lost)
+        && !is_whole(&outcome)
+        && has_harvested(&outcome, uris);
+    Ok(is_as_said)
 }
 
 const FROM_THE_INDEX: [&str; 3] = [
@@ -193,19 +238,69 @@ fn an_archive_without_the_original(rt: HostRuntime) -> Result<()> {
 }
 
 #[test]
-fn where_walks_fail(rt: HostRuntime) -> Result<()> {
+fn the_first_page_fails(rt: HostRuntime) -> Result<()> {
     let index = "http://arc.example/i";
     let other = "http://arc.example/other";
+    let p1 = "http://arc.example/p1";
     let cases = [
-        ("", 404, index, WalkFault::Status(404), 3),
-        ("gzip", 200, index, WalkFault::Encoded, 2),
-        ("", 200, other, WalkFault::Fetch(FetchFault::Failed), 0),
+        (500, "", index, WalkFault::Status(500), 1),
+        (200, "gzip", p1, WalkFault::Encoded, 1),
+        (200, "", other, WalkFault::Fetch(FetchFault::Failed), 0),
     ];
-    for (coding, last, first, fault, fetched) in cases {
-        let table = three_pages(rt.alloc(), 200, coding, last)?;
+    for (status, coding, first, fault, fetched) in cases {
+        let table = three_pages(rt.alloc(), status, coding, 200)?;
         let counts = walk_counts(&rt, &table, first)?;
         assert_eq!(rt; counts, (Err(fault), fetched));
     }
+    Ok(())
+}
+
+#[test]
+fn a_lost_page(rt: HostRuntime) -> Result<()> {
+    let missing = three_pages(rt.alloc(), 200, "", 404)?;
+    let lost = [("http://arc.example/p2", WalkFault::Status(404))];
+    assert!(rt; walk_loses(&rt, &missing, &FROM_THE_INDEX, &lost, &BOTH_MEMENTOS[..1])?);
+    let coded = three_pages(rt.alloc(), 200, "gzip", 200)?;
+    let lost = [("http://arc.example/p1", WalkFault::Encoded)];
+    assert!(rt; walk_loses(&rt, &coded, &FROM_THE_INDEX, &lost, &BOTH_MEMENTOS[1..])?);
+    Ok(())
+}
+
+#[test]
+fn both_pages_lost(rt: HostRuntime) -> Result<()> {
+    let table = three_pages(rt.alloc(), 200, "gzip", 404)?;
+    let lost = [
+        ("http://arc.example/p1", WalkFault::Encoded),
+        ("http://arc.example/p2", WalkFault::Status(404)),
+    ];
+    assert!(rt; walk_loses(&rt, &table, &FROM_THE_INDEX, &lost, &[])?);
+    Ok(())
+}
+
+/// An archive whose first page lists two, of which only the last answers. That page lists all.
+fn silent_page(alloc: Global) -> Result<MemoryFetch> {
+    let mut table = MemoryFetch::new(alloc);
+    add(&mut table, alloc, "http://arc.example/i", 200, "", PAGES)?;
+    add_page(
+        &mut table,
+        alloc,
+        "http://arc.example/p2",
+        200,
+        "",
+        MEMENTO_2,
+    )?;
+    Ok(table)
+}
+
+#[test]
+fn a_page_without_an_answer(rt: HostRuntime) -> Result<()> {
+    let table = silent_page(rt.alloc())?;
+    let fetched = ["http://arc.example/i", "http://arc.example/p2"];
+    let lost = [(
+        "http://arc.example/p1",
+        WalkFault::Fetch(FetchFault::Failed),
+    )];
+    assert!(rt; walk_loses(&rt, &table, &fetched, &lost, &BOTH_MEMENTOS[1..])?);
     Ok(())
 }
 
@@ -240,6 +335,30 @@ fn chains(rt: HostRuntime) -> Result<()> {
     assert_eq!(rt; whole, (Ok(0), MAX_PAGES));
     let long = walk_counts(&rt, &chain(rt.alloc(), 65)?, first)?;
     assert_eq!(rt; long, (Err(WalkFault::TooManyPages), MAX_PAGES));
+    Ok(())
+}
+
+/// A chain of 63 pages, the first of which also lists a page that doesn't answer, and the last of which lists one more
+/// where it is told to.
+fn chain_with_a_silent_page(alloc: Global, last: &str) -> Result<MemoryFetch> {
+    let mut table = MemoryFetch::new(alloc);
+    let first = "<http://arc.example/2>;rel=timemap,<http://arc.example/silent>;rel=timemap";
+    add(&mut table, alloc, "http://arc.example/1", 200, "", first)?;
+    for page in 2..63 {
+        add_link(&mut table, alloc, page, 63)?;
+    }
+    add(&mut table, alloc, "http://arc.example/63", 200, "", last)?;
+    Ok(table)
+}
+
+#[test]
+fn lost_pages_count(rt: HostRuntime) -> Result<()> {
+    let first = "http://arc.example/1";
+    let most = walk_counts(&rt, &chain_with_a_silent_page(rt.alloc(), "")?, first)?;
+    assert_eq!(rt; most, (Ok(0), 63));
+    let more = "<http://arc.example/64>;rel=timemap";
+    let many = walk_counts(&rt, &chain_with_a_silent_page(rt.alloc(), more)?, first)?;
+    assert_eq!(rt; many, (Err(WalkFault::TooManyPages), 63));
     Ok(())
 }
 
