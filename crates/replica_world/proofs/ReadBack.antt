@@ -1,5 +1,5 @@
 -- What is written as a TimeMap, as a page of one or as the index of its pages is read as just what it lists.
-use Rattle.std.proofs.Common.{◌≡◌, ℕ, zero, suc, ◌+◌, ◌-◌, ◌*◌, ◌^◌, ◌<◌, ◌≤◌, ◌==◌, nat_lt, Bool, true, false, List, [], ◌∷◌, ◌++◌, length, take, drop, map, codes, Option, Some, None, Ok, refl, ap, subst, ◌∙◌, append_assoc, arith}
+use Rattle.std.proofs.Common.{◌≡◌, ℕ, zero, suc, ◌+◌, ◌-◌, ◌*◌, ◌^◌, ◌<◌, ◌≤◌, ◌==◌, nat_lt, Bool, true, false, List, [], ◌∷◌, ◌++◌, length, take, drop, map, codes, Option, Some, None, Ok, refl, sym, ap, subst, ◌∙◌, append_assoc, arith}
 use Rattle.std.specs.Prelude.{All, slice_get}
 use Rattle.std.specs.List.{range_with_len}
 use Rattle.std.proofs.lemmas.List.{length-append, length-take}
@@ -161,7 +161,7 @@ page_line address ms =
     let start = codes "<" ++ address ++ codes ">" in
     let more = params_text (period ms) in
     let parts : link_text (timemap_link (codes "timemap") address ms) ≡ start ++ ((relation ++ kind) ++ more) = simp append_assoc in
-    rw parts (longer_right start ((relation ++ kind) ++ more) 42 (longer_left (relation ++ kind) more 42 both))
+    subst (λ (t : List ℕ). 42 ≤ length t) (sym parts) (longer_right start ((relation ++ kind) ++ more) 42 (longer_left (relation ++ kind) more 42 both))
 
 page_lines_length : (base original : List ℕ) (ms : List Memento) (separator : List ℕ) (from count : ℕ)
     → 42 * count ≤ length (followed separator (map (page_link base original ms) (range_with_len from count)))

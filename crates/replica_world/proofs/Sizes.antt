@@ -76,7 +76,7 @@ line_short : (first last : Bool) (m : Memento) → IsMemento m → length (link_
 line_short first last m is =
     let relations = param_text (codes "rel") (Some (memento_relations first last)) in
     let date = param_text (codes "datetime") (Some (imf m.at)) in
-    let params : length (params_text (memento_link first last m).params) ≡ length relations + length date = rw (length-append, length-append) (omega arith) in
+    let params : length (params_text (memento_link first last m).params) ≡ length relations + length date = simp length-append (omega arith) in
     omega (arith, link_length (memento_link first last m), params, param_short (codes "rel") (memento_relations first last), relations_short first last, date_short (codes "datetime") m (omega arith) is.at, is.uri.0.1)
 
 lines_short : (first more : Bool) (ms : List Memento) → All IsMemento ms → length (followed (codes ",\n") (stretch_links first more ms)) ≤ 8311 * length ms
