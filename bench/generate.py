@@ -1,12 +1,14 @@
 #!/usr/bin/env python3
 """Writes the inputs of the benchmarks to standard output, always the same ones.
 
-generate.py page N     an archive's page of N mementos
-generate.py take N     a script that takes that page and asks for its TimeMap
+generate.py page N     an archive's page of N mementos, 61 seconds apart, with their parameters in one order
+generate.py mixed N    another one: captures days apart, at any time of the day, with their parameters in mixed order
+generate.py take N     a script that takes the first page and asks for its TimeMap
 generate.py keys N     a script that takes one memento for each of N originals, one by one
 generate.py world N    a script of N events over 16 replicas
 generate.py state N    a state's text with N mementos, 100 in each entry
 generate.py hostile N  a state's text with N entries of nothing, each of another archive and another original
+generate.py revisions N  a state's text with one entry of N part revisions, each of another memento
 """
 import sys
 from email.utils import formatdate
@@ -25,6 +27,27 @@ def page(count):
         lines.append(
             f'<http://m.example/{k}>; rel="memento"; datetime="{date(FIRST + 61 * k)}",'
         )
+    return "\n".join(lines) + "\n"
+
+
+MIXED = (
+    'rel="memento"; datetime="{date}"',
+    'datetime="{date}"; rel="memento"',
+    'rel=memento; datetime="{date}"; type="text/html"',
+    'type="text/html"; datetime="{date}"; rel="memento"; license="http://m.example/{k}/license"',
+    'title="capture {k} of \\"a.example\\""; rel="memento"; datetime="{date}"',
+)
+
+
+def mixed_page(count):
+    """Captures 1 to 9 days apart: few share their day with the one before, so nearly every date is read whole."""
+    random = Random()
+    day = FIRST
+    lines = [f'<{ORIGINAL}>; rel="original",']
+    for k in range(count):
+        day += 86400 * (1 + random.below(9))
+        params = MIXED[random.below(len(MIXED))].format(date=date(day + random.below(86400)), k=k)
+        lines.append(f"<http://m.example/{k}>; {params},")
     return "\n".join(lines) + "\n"
 
 
@@ -76,6 +99,8 @@ def main():
     write = sys.stdout.write
     if kind == "page":
         write(page(count))
+    elif kind == "mixed":
+        write(mixed_page(count))
     elif kind == "take":
         write("replicas 1 http://agg.example\n")
         write(take(1, "arc.example", 1, ORIGINAL, page(count)))
@@ -88,16 +113,21 @@ def main():
         world(count, write)
     elif kind == "state":
         entries = count // 100
-        write(f"memento-state 1\nentries {entries}\n")
+        write(f"memento-state 2\nentries {entries}\n")
         for e in range(entries):
-            write(f"entry arc.example 1 100 http://a.example/{e:07d}\n")
+            write(f"entry arc.example 1 1 http://a.example/{e:07d}\nat 1 100\n")
             for k in range(100):
                 write(f"{FIRST + k} http://m.example/{e:07d}/{k:03d}\n")
         write("end\n")
     elif kind == "hostile":
-        write(f"memento-state 1\nentries {count}\n")
+        write(f"memento-state 2\nentries {count}\n")
         for e in range(count):
-            write(f"entry a{e:06d} 1 0 http://a.example/{e:06d}\n")
+            write(f"entry a{e:06d} 1 1 http://a.example/{e:06d}\nat 1 0\n")
+        write("end\n")
+    elif kind == "revisions":
+        write(f"memento-state 2\nentries 1\nentry a1 - {count} http://a.example/\n")
+        for revision in range(count):
+            write(f"at {revision} 1\n{FIRST} http://m.example/{revision}\n")
         write("end\n")
     else:
         sys.exit(__doc__)

@@ -5,6 +5,7 @@
 //!
 //! prints how many keys there are then.
 use std::collections::BTreeMap;
+use std::collections::btree_map::Entry;
 
 #[derive(PartialEq, Eq, PartialOrd, Ord)]
 struct Memento {
@@ -18,6 +19,18 @@ struct Latest {
     mementos: Vec<Memento>,
 }
 
+impl Latest {
+    fn join(&mut self, mut other: Latest) {
+        if other.revision > self.revision {
+            *self = other;
+        } else if other.revision == self.revision {
+            self.mementos.append(&mut other.mementos);
+            self.mementos.sort();
+            self.mementos.dedup();
+        }
+    }
+}
+
 #[derive(Default)]
 struct State {
     rows: BTreeMap<(String, String), Latest>,
@@ -27,17 +40,10 @@ impl State {
     fn merge(&mut self, archive: &str, original: String, revision: u64, mut mementos: Vec<Memento>) {
         mementos.sort();
         mementos.dedup();
-        match self.rows.get_mut(&(archive.to_string(), original.clone())) {
-            Some(latest) if revision > latest.revision => *latest = Latest { revision, mementos },
-            Some(latest) if revision == latest.revision => {
-                latest.mementos.append(&mut mementos);
-                latest.mementos.sort();
-                latest.mementos.dedup();
-            }
-            Some(_) => {}
-            None => {
-                self.rows.insert((archive.to_string(), original), Latest { revision, mementos });
-            }
+        let latest = Latest { revision, mementos };
+        match self.rows.entry((archive.to_string(), original)) {
+            Entry::Vacant(place) => drop(place.insert(latest)),
+            Entry::Occupied(mut standing) => standing.get_mut().join(latest),
         }
     }
 }

@@ -6,23 +6,38 @@
 //! parameters, and the bytes of the first values of `rel` and `datetime`.
 mod scanner;
 
-use scanner::{Link, read_links};
+use scanner::{Fault, Links};
 use std::io::Read;
+
+#[derive(Default)]
+struct Counts {
+    links: usize,
+    targets: usize,
+    params: usize,
+    rel: usize,
+    datetime: usize,
+}
+
+fn counts_of(page: &[u8]) -> Result<Counts, Fault> {
+    let mut counts = Counts::default();
+    for link in Links::of(page) {
+        let link = link?;
+        counts.links += 1;
+        counts.targets += link.target.len();
+        counts.params += link.count;
+        counts.rel += link.rel.map_or(0, |value| value.len());
+        counts.datetime += link.datetime.map_or(0, |value| value.len());
+    }
+    Ok(counts)
+}
 
 fn main() -> std::io::Result<()> {
     let times = std::env::args().nth(1).and_then(|word| word.parse().ok());
     let mut page = Vec::new();
     std::io::stdin().read_to_end(&mut page)?;
     for _ in 0..times.unwrap_or(1) {
-        match read_links(&page) {
-            Ok(links) => {
-                let targets: usize = links.iter().map(|link| link.target.len()).sum();
-                let params: usize = links.iter().map(|link| link.count).sum();
-                let value_len = |link: &Link, name| link.value(name).map_or(0, |value| value.len());
-                let rel: usize = links.iter().map(|link| value_len(link, b"rel".as_slice())).sum();
-                let datetime: usize = links.iter().map(|link| value_len(link, b"datetime".as_slice())).sum();
-                println!("{} {targets} {params} {rel} {datetime}", links.len());
-            }
+        match counts_of(&page) {
+            Ok(Counts { links, targets, params, rel, datetime }) => println!("{links} {targets} {params} {rel} {datetime}"),
             Err(fault) => println!("refused: {fault:?}"),
         }
     }

@@ -3,12 +3,12 @@
 //!     pages TIMES < PAGE
 //!
 //! reads the page that many times, and prints for each how many mementos and further TimeMaps it names, and how many
-//! links were left out. It does the same job as `read_page`, with the standard library alone, and keeps spans of links as
-//! that does: relative targets are joined for the forms that archives use.
+//! links were left out. It does the same job as `read_page`, with the standard library alone, and as that does in one pass,
+//! without a list of links: relative targets are joined for the forms that archives use.
 
 mod scanner;
 
-use scanner::{Link, is_blank, read_links};
+use scanner::{Link, Links, is_blank};
 use std::collections::HashSet;
 use std::io::Read;
 
@@ -76,16 +76,23 @@ fn is_http_target(target: &[u8]) -> bool {
     starts(b"http://") || starts(b"https://")
 }
 
+fn is_clean_byte(byte: u8) -> bool {
+    matches!(byte, 0x21..=0x7e) && !matches!(byte, b'"' | b'<' | b'>')
+}
+
 fn clean(text: &[u8]) -> Option<String> {
-    let mut clean = String::with_capacity(text.len());
-    for byte in text {
-        match byte {
-            b'"' | b'<' | b'>' => clean.push_str(&format!("%{byte:02X}")),
-            0x21..=0x7e => clean.push(*byte as char),
-            _ => clean.push_str(&format!("%{byte:02X}")),
-        }
+    let mut clean = Vec::with_capacity(text.len());
+    let mut rest = text;
+    while let Some(at) = rest.iter().position(|byte| !is_clean_byte(*byte)) {
+        clean.extend_from_slice(&rest[..at]);
+        clean.extend(format!("%{:02X}", rest[at]).bytes());
+        rest = &rest[at + 1..];
     }
-    (clean.len() <= MAX_ADDRESS).then_some(clean)
+    clean.extend_from_slice(rest);
+    if clean.len() > MAX_ADDRESS {
+        return None;
+    }
+    String::from_utf8(clean).ok()
 }
 
 /// The address of a target, before its bytes are cleaned.
@@ -140,9 +147,8 @@ fn trim(text: &[u8], is_cut: impl Fn(u8) -> bool) -> &[u8] {
 }
 
 fn memento(base: &str, link: &Link) -> Option<Memento> {
-    let at = read_imf(trim(&link.value(b"datetime")?, |byte| {
-        byte == b' ' || byte == b'\t'
-    }))?;
+    let datetime = link.datetime.as_deref()?;
+    let at = read_imf(trim(datetime, |byte| matches!(byte, b' ' | b'\t')))?;
     let uri = if is_http_target(link.target) {
         clean(link.target)
     } else {
@@ -166,8 +172,9 @@ fn read_page(base: &str, body: &[u8]) -> Result<Page, Fault> {
     }
     let mut page = Page::default();
     let mut seen = HashSet::new();
-    for link in read_links(body).map_err(Fault::Links)? {
-        let rel = link.value(b"rel").unwrap_or_default();
+    for link in Links::of(body) {
+        let link = link.map_err(Fault::Links)?;
+        let rel = link.rel.as_deref().unwrap_or_default();
         let has = |name: &str| {
             rel.split(|byte| is_blank(*byte))
                 .any(|word| word.eq_ignore_ascii_case(name.as_bytes()))
@@ -178,16 +185,13 @@ fn read_page(base: &str, body: &[u8]) -> Result<Page, Fault> {
                 None => page.dropped += 1,
             }
         }
-        let is_link_format = |value: &[u8]| {
-            let media_type = value.split(|byte| *byte == b';').next().unwrap_or_default();
-            trim(media_type, is_blank).eq_ignore_ascii_case(b"application/link-format")
+        let is_link_format = || {
+            link.media_type.as_deref().is_none_or(|value| {
+                let media_type = value.split(|byte| *byte == b';').next().unwrap_or_default();
+                trim(media_type, is_blank).eq_ignore_ascii_case(b"application/link-format")
+            })
         };
-        if has("timemap")
-            && !has("self")
-            && link
-                .value(b"type")
-                .is_none_or(|value| is_link_format(&value))
-        {
+        if has("timemap") && !has("self") && is_link_format() {
             match further(base, &link) {
                 Some(address) => {
                     if seen.insert(address.clone()) {

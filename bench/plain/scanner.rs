@@ -1,21 +1,26 @@
-//! The link-format scanner that a Rust programmer would write with std alone. A link keeps its target and the span of its
-//! parameters, which are read again where one is asked for: so does the crate link_format.
+//! The link-format scanner that a Rust programmer would write with std alone: an iterator over the links of a text, in one
+//! pass. A link comes with the first values of the parameters that its readers look at, which it lends from the text where
+//! nothing in them is escaped. What passes a limit is told at the end, since what comes behind it may be worse.
 use std::borrow::Cow;
 
-struct Param<'a> {
-    name: &'a [u8],
-    value: Option<Value<'a>>,
-}
+const MAX_LINKS: usize = 200_000;
+const MAX_PARAMS: usize = 32;
+const MAX_TARGET: usize = 8_192;
 
 struct Value<'a> {
     text: &'a [u8],
     escaped: bool,
 }
 
+/// A link: its target, how many parameters it has, and the first values of three; empty where a parameter has none.
+#[derive(Default)]
 pub struct Link<'a> {
     pub target: &'a [u8],
-    params: &'a [u8],
     pub count: usize,
+    pub rel: Option<Cow<'a, [u8]>>,
+    pub datetime: Option<Cow<'a, [u8]>>,
+    #[allow(dead_code)]
+    pub media_type: Option<Cow<'a, [u8]>>,
 }
 
 #[derive(Debug)]
@@ -27,9 +32,14 @@ pub enum Fault {
     TargetTooLong,
 }
 
-struct Scanner<'a> {
+/// The links of a text, in its order, and behind them the fault, if there is one.
+pub struct Links<'a> {
     text: &'a [u8],
     at: usize,
+    count: usize,
+    has_many_params: bool,
+    has_long_target: bool,
+    ended: bool,
 }
 
 pub fn is_blank(b: u8) -> bool {
@@ -37,7 +47,10 @@ pub fn is_blank(b: u8) -> bool {
 }
 
 fn is_name_byte(b: u8) -> bool {
-    matches!(b, b'a'..=b'z' | b'A'..=b'Z' | b'0'..=b'9' | b'!' | b'#' | b'$' | b'&' | b'*' | b'+' | b'-' | b'.' | b'^' | b'_' | b'`' | b'|' | b'~')
+    matches!(
+        b,
+        b'a'..=b'z' | b'A'..=b'Z' | b'0'..=b'9' | b'!' | b'#' | b'$' | b'&' | b'*' | b'+' | b'-' | b'.' | b'^' | b'_' | b'`' | b'|' | b'~'
+    )
 }
 
 fn is_token_byte(b: u8) -> bool {
@@ -52,9 +65,9 @@ fn is_target_byte(b: u8) -> bool {
     b >= 0x20 && b != b'>' && b != 0x7f
 }
 
-impl<'a> Scanner<'a> {
-    fn new(text: &'a [u8]) -> Self {
-        Scanner { text, at: 0 }
+impl<'a> Links<'a> {
+    pub fn of(text: &'a [u8]) -> Self {
+        Links { text, at: 0, count: 0, has_many_params: false, has_long_target: false, ended: false }
     }
 
     fn peek(&self) -> Option<u8> {
@@ -110,95 +123,108 @@ impl<'a> Scanner<'a> {
         }
     }
 
-    /// What stands behind a `;`: a parameter, or nothing.
-    fn param(&mut self) -> Result<Option<Param<'a>>, Fault> {
-        let name = self.skip(is_name_byte);
-        if name.is_empty() {
-            return Ok(None);
-        }
+    /// What stands behind a name: the value behind a `=`, or nothing.
+    fn value_behind_name(&mut self) -> Result<Value<'a>, Fault> {
         let behind = self.at;
         self.skip(is_blank);
         if !self.eat(b'=') {
             self.at = behind;
-            return Ok(Some(Param { name, value: None }));
+            return Ok(Value { text: b"", escaped: false });
         }
         self.skip(is_blank);
-        Ok(Some(Param { name, value: Some(self.value()?) }))
+        self.value()
     }
 
-    /// The next parameter of a link, or none where they end.
-    fn next_param(&mut self) -> Result<Option<Param<'a>>, Fault> {
+    /// Reads the parameters behind a target.
+    fn params(&mut self, link: &mut Link<'a>) -> Result<(), Fault> {
         loop {
             self.skip(is_blank);
             if !self.eat(b';') {
-                return Ok(None);
+                return Ok(());
             }
             self.skip(is_blank);
-            if let Some(param) = self.param()? {
-                return Ok(Some(param));
+            let name = self.skip(is_name_byte);
+            if name.is_empty() {
+                continue;
             }
+            link.count += 1;
+            let value = self.value_behind_name()?;
+            let place = if name.eq_ignore_ascii_case(b"rel") {
+                &mut link.rel
+            } else if name.eq_ignore_ascii_case(b"datetime") {
+                &mut link.datetime
+            } else if name.eq_ignore_ascii_case(b"type") {
+                &mut link.media_type
+            } else {
+                continue;
+            };
+            place.get_or_insert_with(|| match value {
+                Value { text, escaped: true } => Cow::Owned(unescaped(text)),
+                Value { text, escaped: false } => Cow::Borrowed(text),
+            });
         }
     }
 
     fn link(&mut self) -> Result<Link<'a>, Fault> {
-        let target = self.skip(is_target_byte);
+        let mut link = Link { target: self.skip(is_target_byte), ..Link::default() };
         if !self.eat(b'>') {
             return self.fault();
         }
-        let params = &self.text[self.at..];
-        let mut count = 0;
-        while self.next_param()?.is_some() {
-            count += 1;
+        self.params(&mut link)?;
+        self.count += 1;
+        self.has_many_params |= link.count > MAX_PARAMS;
+        self.has_long_target |= link.target.len() > MAX_TARGET;
+        Ok(link)
+    }
+
+    /// The limit that the links passed, if they did.
+    fn passed_limit(&self) -> Option<Fault> {
+        if self.count > MAX_LINKS {
+            Some(Fault::TooManyLinks)
+        } else if self.has_many_params {
+            Some(Fault::TooManyParams)
+        } else if self.has_long_target {
+            Some(Fault::TargetTooLong)
+        } else {
+            None
         }
-        Ok(Link { target, params, count })
+    }
+
+    /// The next link, or none at the end of the text.
+    fn next_link(&mut self) -> Result<Option<Link<'a>>, Fault> {
+        loop {
+            self.skip(is_blank);
+            let link = if self.eat(b'<') { Some(self.link()?) } else { None };
+            self.skip(is_blank);
+            if self.at == self.text.len() {
+                self.ended = true;
+            } else if !self.eat(b',') {
+                return self.fault();
+            }
+            if link.is_some() || self.ended {
+                return Ok(link);
+            }
+        }
     }
 }
 
-pub fn read_links(text: &[u8]) -> Result<Vec<Link<'_>>, Fault> {
-    let mut scanner = Scanner::new(text);
-    let mut links = Vec::new();
-    loop {
-        scanner.skip(is_blank);
-        if scanner.eat(b'<') {
-            let link = scanner.link()?;
-            if links.len() <= 200_000 {
-                links.push(link);
-            }
-        }
-        scanner.skip(is_blank);
-        if scanner.at == text.len() {
-            break;
-        }
-        if !scanner.eat(b',') {
-            return scanner.fault();
-        }
-    }
-    if links.len() > 200_000 {
-        return Err(Fault::TooManyLinks);
-    }
-    if links.iter().any(|link| link.count > 32) {
-        return Err(Fault::TooManyParams);
-    }
-    if links.iter().any(|link| link.target.len() > 8_192) {
-        return Err(Fault::TargetTooLong);
-    }
-    Ok(links)
-}
+impl<'a> Iterator for Links<'a> {
+    type Item = Result<Link<'a>, Fault>;
 
-impl<'a> Link<'a> {
-    /// The first value of this name; empty where that parameter has none.
-    pub fn value(&self, name: &[u8]) -> Option<Cow<'a, [u8]>> {
-        let mut scanner = Scanner::new(self.params);
-        while let Ok(Some(param)) = scanner.next_param() {
-            if param.name.eq_ignore_ascii_case(name) {
-                return Some(match param.value {
-                    None => Cow::Borrowed(b""),
-                    Some(value) if value.escaped => Cow::Owned(unescaped(value.text)),
-                    Some(value) => Cow::Borrowed(value.text),
-                });
+    fn next(&mut self) -> Option<Self::Item> {
+        if !self.ended {
+            match self.next_link() {
+                Ok(Some(link)) => return Some(Ok(link)),
+                Ok(None) => {}
+                Err(fault) => {
+                    *self = Links { ended: true, ..Links::of(self.text) };
+                    return Some(Err(fault));
+                }
             }
         }
-        None
+        let fault = self.passed_limit();
+        *self = Links { ended: true, ..Links::of(self.text) };
+        fault.map(Err)
     }
 }
 

@@ -16,9 +16,15 @@ struct Memento {
     uri: Vec<u8>,
 }
 
-struct Entry {
+struct Part {
     revision: u64,
     mementos: Vec<Memento>,
+}
+
+/// The greatest revision of a whole harvest, if there is one, and each revision that isn't older.
+struct Entry {
+    whole: Option<u64>,
+    parts: Vec<Part>,
 }
 
 type State = BTreeMap<(Vec<u8>, Vec<u8>), Entry>;
@@ -37,20 +43,32 @@ fn write_state(state: &State) -> Vec<u8> {
 }
 
 fn write_lines(out: &mut Vec<u8>, state: &State) -> std::io::Result<()> {
-    write!(out, "memento-state 1\nentries {}\n", state.len())?;
+    write!(out, "memento-state 2\nentries {}\n", state.len())?;
     for ((archive, original), entry) in state {
         out.extend_from_slice(b"entry ");
         out.extend_from_slice(archive);
-        write!(out, " {} {} ", entry.revision, entry.mementos.len())?;
+        match entry.whole {
+            Some(revision) => write!(out, " {revision} ")?,
+            None => out.extend_from_slice(b" - "),
+        }
+        write!(out, "{} ", entry.parts.len())?;
         out.extend_from_slice(original);
         out.push(b'\n');
-        for memento in &entry.mementos {
-            write!(out, "{} ", memento.at)?;
-            out.extend_from_slice(&memento.uri);
-            out.push(b'\n');
+        for part in &entry.parts {
+            write_part(out, part)?;
         }
     }
     out.extend_from_slice(b"end\n");
+    Ok(())
+}
+
+fn write_part(out: &mut Vec<u8>, part: &Part) -> std::io::Result<()> {
+    write!(out, "at {} {}\n", part.revision, part.mementos.len())?;
+    for memento in &part.mementos {
+        write!(out, "{} ", memento.at)?;
+        out.extend_from_slice(&memento.uri);
+        out.push(b'\n');
+    }
     Ok(())
 }
 
@@ -116,12 +134,20 @@ impl<'a> Reader<'a> {
         Ok(Memento { at, uri })
     }
 
-    fn entry(&mut self) -> Result<((Vec<u8>, Vec<u8>), Entry), Fault> {
-        self.skip(b"entry ")?;
-        let archive = self.archive()?;
+    fn whole(&mut self) -> Result<Option<u64>, Fault> {
+        match self.rest.strip_prefix(b"- ") {
+            Some(rest) => {
+                self.rest = rest;
+                Ok(None)
+            }
+            None => Ok(Some(self.number(b' ')?)),
+        }
+    }
+
+    fn part(&mut self) -> Result<Part, Fault> {
+        self.skip(b"at ")?;
         let revision = self.number(b' ')?;
-        let count = self.number(b' ')?;
-        let original = self.clean(4_096)?;
+        let count = self.number(b'\n')?;
         let mut mementos = Vec::new();
         for _ in 0..count {
             let memento = self.memento()?;
@@ -130,7 +156,28 @@ impl<'a> Reader<'a> {
             }
             mementos.push(memento);
         }
-        Ok(((archive, original), Entry { revision, mementos }))
+        Ok(Part { revision, mementos })
+    }
+
+    fn entry(&mut self) -> Result<((Vec<u8>, Vec<u8>), Entry), Fault> {
+        self.skip(b"entry ")?;
+        let archive = self.archive()?;
+        let whole = self.whole()?;
+        let count = self.number(b' ')?;
+        let original = self.clean(4_096)?;
+        let mut parts: Vec<Part> = Vec::new();
+        for _ in 0..count {
+            let part = self.part()?;
+            if parts.last().is_some_and(|last| last.revision >= part.revision) {
+                return Err(Fault::NotState);
+            }
+            parts.push(part);
+        }
+        let first = parts.first().ok_or(Fault::NotState)?;
+        if whole.is_some_and(|revision| revision != first.revision) {
+            return Err(Fault::NotState);
+        }
+        Ok(((archive, original), Entry { whole, parts }))
     }
 }
 
@@ -139,7 +186,7 @@ fn read_state(text: &[u8]) -> Result<State, Fault> {
         return Err(Fault::TooLong);
     }
     let mut reader = Reader { rest: text };
-    reader.skip(b"memento-state 1\nentries ")?;
+    reader.skip(b"memento-state 2\nentries ")?;
     let count = reader.number(b'\n')?;
     let mut entries = Vec::new();
     for _ in 0..count {

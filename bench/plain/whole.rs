@@ -121,11 +121,14 @@ fn params(text: &[u8]) -> Result<(Params<'_>, &[u8]), NotLinkFormat> {
             found = read;
             rest = skip_blanks(after);
         }
-        let place = match name.to_ascii_lowercase().as_slice() {
-            b"rel" => &mut params.rel,
-            b"datetime" => &mut params.datetime,
-            b"type" => &mut params.media_type,
-            _ => continue,
+        let place = if name.eq_ignore_ascii_case(b"rel") {
+            &mut params.rel
+        } else if name.eq_ignore_ascii_case(b"datetime") {
+            &mut params.datetime
+        } else if name.eq_ignore_ascii_case(b"type") {
+            &mut params.media_type
+        } else {
+            continue;
         };
         place.get_or_insert(found);
     }

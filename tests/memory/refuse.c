@@ -1,6 +1,7 @@
 /*
- * Refuses one request for memory: the one whose number REFUSE names, counted from 1. The number of requests up to now is
- * kept in the file that COUNT names: a program may end by _exit, which runs nothing of ours. To be preloaded.
+ * Refuses one request for memory: the one whose number REFUSE names, counted from 1; and each that is made while there is a
+ * file of the name REFUSE_WHILE. The number of requests up to now is kept in the file that COUNT names: a program may end by
+ * _exit, which runs nothing of ours. To be preloaded.
  */
 #define _GNU_SOURCE
 #include <dlfcn.h>
@@ -30,13 +31,15 @@ static void tell(void) {
 
 static int is_refused(void) {
     static long wanted = -1;
+    static const char *sign;
     if (wanted < 0) {
         const char *word = getenv("REFUSE");
         wanted = word ? atol(word) : 0;
+        sign = getenv("REFUSE_WHILE");
     }
     asked++;
     tell();
-    if (asked != wanted)
+    if (asked != wanted && !(sign && access(sign, F_OK) == 0))
         return 0;
     errno = ENOMEM;
     return 1;

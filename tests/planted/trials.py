@@ -1,11 +1,13 @@
-"""Where the tests of a crate stand: in a crate of trials, or else in the crate itself."""
+"""Where the tests of a crate stand: in a crate of trials, or else in the crate itself.
+
+`aggregator_service` has none in Rattle: `tests/rounds` and `tests/settings` try it as it runs."""
 
 # The crates of trials, and the crates whose tests they have.
 TRIALS = {
     "text_trials": ("memento_time", "link_format", "text_fields", "url_texts", "timemap_reader", "timemap_writer"),
     "knowledge_trials": ("memento_sets", "harvest_lattice", "memento_index", "replica_exchange", "timegate"),
     "world_trials": ("replica_world",),
-    "service_trials": ("published_index", "harvester", "hyper_edge", "aggregator_service"),
+    "service_trials": ("published_index", "harvester", "hyper_edge"),
 }
 
 

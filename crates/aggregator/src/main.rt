@@ -16,7 +16,7 @@ use replica_world::{Watched, replay};
 use std::env::{self, Env};
 use std::process::ExitCode;
 
-// What the words of the command line ask for.
+/// What the words of the command line ask for.
 fn command_of(rt: &(impl Env + AllocGlobal)) -> Result<Command, Failure> {
     let mut words = match env::args(rt) {
         Ok(words) => words.skip(1),
@@ -32,7 +32,7 @@ fn command_of(rt: &(impl Env + AllocGlobal)) -> Result<Command, Failure> {
     command_named(word.as_str(), file)
 }
 
-// Replays the script on standard input.
+/// Replays the script on standard input.
 fn replay_input(rt: &HostRuntime) -> Result<(), Failure> {
     let mut input = Watched::new(rt.stdin());
     let mut output = Watched::new(rt.stdout());

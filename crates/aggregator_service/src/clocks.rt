@@ -15,7 +15,7 @@ pub(crate) fn incarnation_now(rt: &impl Clock) -> u64 {
     incarnation_after(passed_since_1970(rt))
 }
 
-// What has passed since 1970: nothing before, or where there is no clock.
+/// What has passed since 1970: nothing before, or where there is no clock.
 fn passed_since_1970(rt: &impl Clock) -> Duration {
     let Ok(now) = SystemTime::now(rt) else {
         return Duration::ZERO;
@@ -23,8 +23,8 @@ fn passed_since_1970(rt: &impl Clock) -> Duration {
     now.duration_since(UNIX_EPOCH).unwrap_or(Duration::ZERO)
 }
 
-// The incarnation of a replica that starts so long after the start of 1970: as many nanoseconds as 64 bits tell, which
-// is into the year 2554.
+/// The incarnation of a replica that starts so long after the start of 1970: as many nanoseconds as 64 bits tell, which
+/// is into the year 2554.
 fn incarnation_after(passed: Duration) -> u64
     ensures { result ≡ min (as_nanos passed) (2 ^ 64 - 1) }
 {

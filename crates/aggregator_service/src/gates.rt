@@ -84,7 +84,7 @@ where
     start_all(rt, doors, fault)
 }
 
-// Starts a gate's thread.
+/// Starts a gate's thread.
 fn open_door<R>(rt: &R, gate: Gate, address: &str, connections: u64) -> Result<Door, ServeFault>
 where
     R: SocketRuntime + Threads + Sync + Send + Clone + Drop + 'static,
@@ -111,7 +111,7 @@ where
     }
 }
 
-// What a gate's thread does: it binds, says so, and serves once it is told to.
+/// What a gate's thread does: it binds, says so, and serves once it is told to.
 fn keep<R>(rt: &R, post: Post) -> Ending
 where
     R: SocketRuntime + Clone + Drop,
@@ -136,7 +136,8 @@ where
     Ok(())
 }
 
-// Lets the gates serve, where all of them are bound and nothing went wrong before. Else none does, and all threads end.
+/// Lets the gates serve, where all of them are bound and nothing went wrong before. Else none does, and all threads
+/// end.
 fn start_all<R>(rt: &R, doors: Vec<Door>, before: Option<ServeFault>) -> Result<Doors, ServeFault>
 where
     R: Threads + Wait + AllocGlobal,

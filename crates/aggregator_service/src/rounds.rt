@@ -7,7 +7,7 @@ ghost use Rattle.aggregator_service.specs.Pulls.{Pulls, PullsNothing};
 use crate::clocks::revision_now;
 use crate::runtimes::SocketRuntime;
 use crate::settings::Settings;
-use harvester::{Job, Outcome, have_first_urls, run_round};
+use harvester::{Job, MAX_WORKERS, Outcome, have_first_urls, run_round};
 use hyper_edge::{HyperFetch, pull_state};
 use memento_index::Merge;
 use memento_time::{ArchiveName, Clean, Original};
@@ -68,7 +68,7 @@ impl Round {
         round
     }
 
-    // Walks an archive for each original, a batch at a time.
+    /// Walks an archive for each original, a batch at a time.
     fn harvest<R>(
         &mut self,
         rt: &R,
@@ -90,11 +90,11 @@ impl Round {
         }
     }
 
-    // Walks the jobs, and appends their harvests.
+    /// Walks the jobs, and appends their harvests.
     fn append_harvests<R>(&mut self, rt: &R, merger: &mut Merger, jobs: &[Job], workers: usize)
     where
         R: SocketRuntime + Threads + Sync,
-        requires workers { 1 ≤ workers × workers ≤ 64 }
+        requires workers { 1 ≤ workers × workers ≤ MAX_WORKERS }
         requires first_urls { All HasFirstUrl jobs.now }
     {
         let Ok(outcomes) = run_round(rt, &HyperFetch, jobs, workers) else {
@@ -117,8 +117,8 @@ impl Round {
         }
     }
 
-    // Appends what the peer of this number has learnt since it was pulled last, where it answers with a delta that
-    // follows on the held cursor. Else the cursor stays, and the next round asks from it again.
+    /// Appends what the peer of this number has learnt since it was pulled last, where it answers with a delta that
+    /// follows on the held cursor. Else the cursor stays, and the next round asks from it again.
     fn pull<R>(&mut self, rt: &R, merger: &mut Merger, number: u64, peer: &Clean)
     where
         R: SocketRuntime,
@@ -134,7 +134,7 @@ impl Round {
     }
 }
 
-// The jobs of an archive for these originals, but for those that memory is refused for.
+/// The jobs of an archive for these originals, but for those that memory is refused for.
 fn jobs_of(
     alloc: Global,
     archive: ArchiveName,
@@ -151,8 +151,8 @@ fn jobs_of(
     jobs
 }
 
-// The job of an archive for an original: its first URL is the archive's `timemap` with the original behind it. None
-// where memory is refused, or the URL is too long.
+/// The job of an archive for an original: its first URL is the archive's `timemap` with the original behind it. None
+/// where memory is refused, or the URL is too long.
 fn job_of(
     alloc: Global,
     archive: ArchiveName,

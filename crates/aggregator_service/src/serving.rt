@@ -100,7 +100,7 @@ where
     Ok(())
 }
 
-// Opens the gates' doors, makes the rounds, and waits for the gates to end.
+/// Opens the gates' doors, makes the rounds, and waits for the gates to end.
 fn serve_gates<R, W>(
     rt: &R,
     settings: &Settings,
@@ -123,7 +123,7 @@ where
     ended
 }
 
-// A line for each gate, in the order of the settings.
+/// A line for each gate, in the order of the settings.
 fn say_ports<W: Write>(doors: &Doors, settings: &Settings, out: &mut W) -> Result<(), ServeFault> {
     for (address, port) in settings.gates.iter().zip(doors.ports()) {
         if let Ok(mut address) = address.parse::<SocketAddr>() {
@@ -135,7 +135,7 @@ fn say_ports<W: Write>(doors: &Doors, settings: &Settings, out: &mut W) -> Resul
     Ok(())
 }
 
-// The rounds, each with a line of its own.
+/// The rounds, each with a line of its own.
 fn make_rounds<R, W>(
     rt: &R,
     settings: &Settings,

@@ -2,14 +2,17 @@
 //!
 //! Keys are looked for in the order of `Key`, and the first that is missing or holds what it may not is the fault.
 //! Other keys aren't looked at.
-ghost use Rattle.std.specs.Prelude.{◌≡◌, ◌<◌, ◌≤◌, length};
+ghost use Rattle.std.specs.Prelude.{◌≡◌, ◌<◌, length};
+ghost use Rattle.aggregator_service.specs.Limits.{IsWithin};
+ghost use Rattle.aggregator_service.specs.declared.settings.fault.Key.TheVariants.{Gates, Connections, Rounds, Pause};
+ghost use Rattle.aggregator_service.specs.declared.settings.fault.Key.TheVariants.{Workers, Originals, Peers, Archives};
 
 mod archives;
 mod fault;
 mod values;
 
 use crate::settings::archives::archives_at;
-use crate::settings::values::{Range, gates_at, number_at, originals_at, peers_at, service_at};
+use crate::settings::values::{gates_at, number_at, originals_at, peers_at, service_at};
 pub use fault::{Key, SettingsFault};
 use memento_time::{ArchiveName, Clean, Original};
 use std::alloc::Global;
@@ -19,12 +22,12 @@ use toml::Table;
 /// The most bytes that a settings text may have.
 pub const MAX_TEXT: usize = 1_048_576;
 
-/// What a service is to do, by the keys of its settings.
+/// What a service is to do, by the keys of its settings, each within its limits (`Key::limits`).
 #[derive(Drop)]
 pub struct Settings {
     /// The address under which readers reach the service.
     pub base: Service,
-    /// Where gates listen: 1 to 64 texts that std reads as socket addresses.
+    /// Where gates listen: texts that std reads as socket addresses.
     pub gates: Vec<String>,
     /// How many connections each gate serves.
     pub connections: u64,
@@ -41,14 +44,14 @@ pub struct Settings {
     /// The archives: names, none twice, and the text that stands before an original in the address of its TimeMap.
     pub archives: Vec<(ArchiveName, Clean)>,
 
-    ghost gates_in_range: { (1 ≤ length gates.items) × (length gates.items ≤ 64) },
-    ghost connections_in_range: { (1 ≤ connections) × (connections ≤ 1000000000) },
-    ghost rounds_in_range: { (1 ≤ rounds) × (rounds ≤ 1000000000) },
-    ghost pause_in_range: { pause ≤ 86400 },
-    ghost workers_in_range: { (1 ≤ workers) × (workers ≤ 64) },
-    ghost few_originals: { length originals.items ≤ 100000 },
-    ghost few_peers: { length peers.items ≤ 15 },
-    ghost few_archives: { length archives.items ≤ 1000 },
+    ghost few_gates: { IsWithin Gates (length gates.items) },
+    ghost few_connections: { IsWithin Connections connections },
+    ghost few_rounds: { IsWithin Rounds rounds },
+    ghost short_pause: { IsWithin Pause pause },
+    ghost few_workers: { IsWithin Workers workers },
+    ghost few_originals: { IsWithin Originals (length originals.items) },
+    ghost few_peers: { IsWithin Peers (length peers.items) },
+    ghost few_archives: { IsWithin Archives (length archives.items) },
 }
 
 /// Reads settings: `Text` where the text is no TOML or has over 1,048,576 bytes.
@@ -68,10 +71,10 @@ pub fn read_settings(alloc: Global, text: &str) -> Result<Settings, SettingsFaul
 fn settings_of(alloc: Global, table: &Table) -> Result<Settings, SettingsFault> {
     let base = service_at(alloc, table)?;
     let gates = gates_at(alloc, table)?;
-    let connections = number_at(table, Key::Connections, Range::new(1, 1_000_000_000))?;
-    let rounds = number_at(table, Key::Rounds, Range::new(1, 1_000_000_000))?;
-    let pause = number_at(table, Key::Pause, Range::new(0, 86_400))?;
-    let workers = number_at(table, Key::Workers, Range::new(1, 64))?;
+    let connections = number_at(table, Key::Connections)?;
+    let rounds = number_at(table, Key::Rounds)?;
+    let pause = number_at(table, Key::Pause)?;
+    let workers = number_at(table, Key::Workers)?;
     let originals = originals_at(alloc, table)?;
     let peers = peers_at(alloc, table)?;
     let archives = archives_at(alloc, table)?;

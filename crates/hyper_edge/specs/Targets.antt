@@ -1,8 +1,8 @@
 -- Which target a request for a URL names (RFC 9112, section 3.2.1).
 --
 -- It is the URL's own text, and not what `url` would write: dot segments in an archived address must stay. So it has to
--- begin where `url` ends the authority. The text is clean (`IsClean`): it has no tab, line feed or space, of which `url`
--- leaves out some.
+-- begin where `url` ends the authority. The text is clean (`IsClean`): it has no tab, line feed or space, of which
+-- `url` leaves out some.
 use Rattle.std.specs.Prelude.{◌≡◌, ℕ, Bool, not, ◌||◌, ◌==◌, List, [], ◌∷◌, drop, codes, Option, Some, None, if◌then◌else◌}
 use Rattle.std.specs.List.{position_or_len}
 use Rattle.memento_time.specs.Text.{before_fragment}

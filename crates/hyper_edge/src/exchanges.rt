@@ -50,7 +50,7 @@ fn fault_of(error: &io::Error) -> FetchFault {
     }
 }
 
-// What an error of a connection is: want of memory below is want of memory here.
+/// What an error of a connection is: want of memory below is want of memory here.
 fn fault_of_hyper(error: &hyper::Error) -> FetchFault
     ensures memory { (result ≡ FetchFault.NoMemory) ↔ (kind_of error.now ≡ HyperOutOfMemory) }
     ensures either { (result ≡ FetchFault.NoMemory) ⊎ (result ≡ FetchFault.Failed) }
@@ -62,7 +62,7 @@ fn fault_of_hyper(error: &hyper::Error) -> FetchFault
     }
 }
 
-// The request for a URL.
+/// The request for a URL.
 fn request_for(alloc: Global, url: &str, address: &Url) -> Result<Request<Empty<Bytes>>, FetchFault>
     ensures { IfOk result (IsRequestFor url.now address.now) }
 {
@@ -83,7 +83,7 @@ fn request_for(alloc: Global, url: &str, address: &Url) -> Result<Request<Empty<
     }
 }
 
-// A connection to the first of the host's addresses that takes one.
+/// A connection to the first of the host's addresses that takes one.
 fn connect<R>(rt: &R, runtime: &mut LocalRuntime, url: &Url) -> Result<net::TcpStream, FetchFault>
 where
     R: Wait + Clock + Net + RandomSource + AllocGlobal,
@@ -106,7 +106,7 @@ where
     Err(FetchFault::Failed)
 }
 
-// What `wanted` gives, while the connection is kept going, and the connection if it hasn't ended.
+/// What `wanted` gives, while the connection is kept going, and the connection if it hasn't ended.
 fn while_connected<R, F, C>(
     rt: &R,
     runtime: &mut LocalRuntime,
@@ -135,7 +135,7 @@ where
     }
 }
 
-// Sends the request and takes the whole answer.
+/// Sends the request and takes the whole answer.
 fn exchange<R, I>(
     rt: &R,
     runtime: &mut LocalRuntime,
@@ -207,7 +207,7 @@ fn answer_of(
     })
 }
 
-// The bytes of a body: its own block, where nobody else holds it.
+/// The bytes of a body: its own block, where nobody else holds it.
 fn body_of(alloc: Global, collected: Collected) -> Result<Vec<u8>, AllocError>
     ensures { IfOk result (λ body. body.items ≡ collected_bytes collected) }
 {

@@ -1,7 +1,25 @@
 //! Laws for readers: the functions do nothing when they run.
+ghost use Rattle.std.specs.Prelude.{◌≡◌, ℕ, List};
+ghost use Rattle.harvest_lattice.specs.Knowledge.{Harvested};
+ghost use Rattle.memento_index.specs.declared.merge.Merge.{Merge};
+ghost use Rattle.replica_exchange.specs.Stamps.{StampedState, IsStamped};
+ghost use Rattle.timegate.specs.declared.request.Request.{Request};
+ghost use Rattle.timegate.specs.declared.reply.Reply.{Reply};
+ghost use Rattle.timegate.specs.Reply.{reply, reply_of};
+ghost use Rattle.timegate.specs.Route.{IsOfTaken};
+ghost use Rattle.hyper_edge.specs.Gates.{IsSomeReply};
 ghost use Rattle.hyper_edge.specs.Targets.{AreTargets};
 
 /// What the requests for some URLs name.
 pub fn targets_by_example()
     ensures { AreTargets }
+{}
+
+/// What a gate may answer, whichever it is, to a request that asks for no delta: the reply of a replica that has taken
+/// some harvests, and nothing else. And whatever a replica answers to a request, a gate may answer.
+pub fn gates_answer_as_replicas()
+    ensures taken { (q : Request) (made : Reply) → IsSomeReply q made → IsOfTaken q
+        → (base : List ℕ) × (known : List Harvested) × (made ≡ reply base known q) }
+    ensures each { (base : List ℕ) (merges : List Merge) (s : StampedState) (q : Request) → IsStamped merges s
+        → IsSomeReply q (reply_of base s q) }
 {}

@@ -22,7 +22,7 @@ pub use answers::Answers;
 pub use binding::{Bound, bind};
 pub use faults::{EdgeFault, FormFault, PullFault, RespondFault};
 pub use fetching::HyperFetch;
-pub use laws::targets_by_example;
+pub use laws::{gates_answer_as_replicas, targets_by_example};
 pub use pulls::pull_state;
 pub use requests::request_of;
 pub use responses::form;

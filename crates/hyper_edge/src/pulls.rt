@@ -34,7 +34,7 @@ where
     delta_in(alloc, &answer)
 }
 
-// The delta that a peer's answer brings, or why it brings none.
+/// The delta that a peer's answer brings, or why it brings none.
 fn delta_in(alloc: Global, answer: &Answer) -> Result<Delta, PullFault>
     ensures ok { IfOk result (Brings answer.now) }
     ensures err { IfErr result (IsRefusedFor answer.now) }
@@ -49,7 +49,7 @@ fn delta_in(alloc: Global, answer: &Answer) -> Result<Delta, PullFault>
     }
 }
 
-// The address of the delta under the peer's base.
+/// The address of the delta under the peer's base.
 fn delta_url(alloc: Global, peer: &Clean, cursor: Option<Cursor>) -> Result<String, PullFault>
     ensures address { IfOk result (λ url. string_bytes url ≡ peer.now ++ delta_target cursor) }
     ensures status { IfErr result (λ fault. fault ≢ PullFault.Status 200) }

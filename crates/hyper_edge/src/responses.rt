@@ -9,7 +9,7 @@ use http::{HeaderName, HeaderValue, Response, StatusCode};
 use std::alloc::Global;
 use timegate::Reply;
 
-// The head of the response.
+/// The head of the response.
 fn head(alloc: Global, reply: &Reply) -> Result<Parts, FormFault>
     ensures { IfOk result (IsHeadOf reply.now) }
 {

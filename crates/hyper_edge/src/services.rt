@@ -66,7 +66,7 @@ impl<G: Answers, R: Wait + Drop> GateService<G, R> {
         Ok(into_form(shared.alloc, reply)?)
     }
 
-    // The form of the reply to what was sent, or the response that stands for a fault.
+    /// The form of the reply to what was sent, or the response that stands for a fault.
     fn respond_or_refuse<B>(&self, sent: &hyper::Request<B>) -> Response<Bytes>
         ensures { ((asked : Asked) × (reply : Answered) × IsAskedBy sent.now asked
             × G.replies asked reply × IsFormOf reply result) ⊎ IsRefusal result }

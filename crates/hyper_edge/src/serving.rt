@@ -52,7 +52,7 @@ where
     Ok(faults)
 }
 
-// Serves one connection to its end, and tells whether it ended well.
+/// Serves one connection to its end, and tells whether it ended well.
 fn serve_connection<R, G, I, T>(
     rt: &R,
     runtime: &mut LocalRuntime,

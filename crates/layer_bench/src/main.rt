@@ -7,8 +7,8 @@
 //! - `layer_bench hostile COUNT < TEXT`: reads the text of a state and absorbs it in an index of nothing, COUNT times.
 //! - `layer_bench memory COUNT`: fills an index with COUNT mementos, ten of each original.
 //! - `layer_bench stamped COUNT`: takes these mementos with a replica that stamps its entries.
-//! - `layer_bench last COUNT`, `layer_bench all COUNT`: takes them too, and writes ten times the delta with the last merge, or
-//!   with all merges.
+//! - `layer_bench last COUNT`, `layer_bench all COUNT`: takes them too, and writes ten times the delta with the last
+//!   merge, or with all merges.
 //! - `layer_bench walk COUNT`: walks over 64 pages of 1,500 mementos each, COUNT times.
 //! - `layer_bench read COUNT`: fetches and reads these pages COUNT times, and does no more with them.
 //! - `layer_bench round WORKERS`: a round of 1,000 jobs, each of a page that takes a millisecond.

@@ -94,10 +94,12 @@ impl<'a> LinkReader<'a> {
     /// The next link; None where there is no more.
     ///
     /// A link is given before what follows it is looked at. So it is a link of the text whether or not the text has a
-    /// reading: with those before it, it is the reading of a beginning that ends at a comma or with the text (`begins`).
+    /// reading: with those before it, it is the reading of a beginning that ends at a comma or with the text
+    /// (`begins`).
     ///
     /// A fault is the text's, as `read_links` tells it, and leaves the reader as it was. It is told once reading comes
-    /// to it: the links before it are read. A link that passes a limit has the whole text read, to tell the first fault.
+    /// to it: the links before it are read. A link that passes a limit has the whole text read, to tell the first
+    /// fault.
     pub fn read(&mut self) -> Result<Option<LinkRef<'a>>, LinkFault>
         ensures link { IfOk result (λ found. IfSome found (λ link.
             (links : List Link) → Reading self.old.text links → slice_get links self.old.count ≡ Some link)) }

@@ -1,5 +1,5 @@
-//! The parameters that nearly every link of a TimeMap begins with, read by their words: the relation type `memento`, and
-//! a datetime (RFC 7089, section 5).
+//! The parameters that nearly every link of a TimeMap begins with, read by their words: the relation type `memento`,
+//! and a datetime (RFC 7089, section 5).
 ghost use Rattle.std.specs.Prelude.{◌≡◌, ◌+◌, ◌≤◌, ◌++◌, length, codes, IfSome};
 ghost use Rattle.link_format.specs.Scan.{behind_params, params_of};
 ghost use Rattle.link_format.specs.Usual.{usual_params, FollowsRelation, FollowsSemicolon};

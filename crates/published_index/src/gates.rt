@@ -76,8 +76,8 @@ impl Gate {
         self.answer_then(request, || ())
     }
 
-    /// `answer`, which calls `then` once the reply is made and before the entry ends: until then other gates answer, and a
-    /// publish may have to wait.
+    /// `answer`, which calls `then` once the reply is made and before the entry ends: until then other gates answer,
+    /// and a publish may have to wait.
     pub fn answer_then<F: FnOnce()>(
         &mut self,
         request: &Request,

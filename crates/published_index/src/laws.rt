@@ -34,7 +34,8 @@ pub fn answers_never_go_back()
 {}
 
 /// A gate that learnt a receipt serves each merge in it: each later reply is made from a front that begins with the
-/// receipt's list, and so has each of its merges and of its harvests. In a publish's receipt is each merge of its batch.
+/// receipt's list, and so has each of its merges and of its harvests. In a publish's receipt is each merge of its
+/// batch.
 pub fn what_is_learnt_is_served()
     ensures front { (start end : Pass) (before between after : List Call) (list front : List Batch)
         → Calls start (before ++ Learn list ∷ (between ++ Answer front ∷ after)) end → IsPrefix list front }
@@ -46,8 +47,9 @@ pub fn what_is_learnt_is_served()
         → Contains (merges_of (receipt_of (with_publish m)).batches) merge }
 {}
 
-/// Whatever a merger was called: what it published, and behind it what is pending, is each merge that it was handed, once
-/// and in the order of the calls. After a publish all of that is published, and what was published stays at the start.
+/// Whatever a merger was called: what it published, and behind it what is pending, is each merge that it was handed,
+/// once and in the order of the calls. After a publish all of that is published, and what was published stays at the
+/// start.
 pub fn each_merge_is_published_once()
     ensures handed { (m : MergerView) (calls : List MergerCall)
         → merges_with_pending (fold after_call m calls) ≡ merges_with_pending m ++ flat_map handed_by calls }
@@ -104,8 +106,8 @@ pub fn held_cursors_are_reached()
 {}
 
 /// Deltas that are asked for from the held cursor follow each other: each fits, and once one is appended the next that
-/// this incarnation of the peer makes begins no earlier than where that one ended, unless the cursor was beyond what the
-/// peer has. The cursors of other peers stay.
+/// this incarnation of the peer makes begins no earlier than where that one ended, unless the cursor was beyond what
+/// the peer has. The cursors of other peers stay.
 pub fn deltas_follow_each_other()
     ensures fits { (s : StampedState) (held : Option Cursor) → fits held (delta_from s held) ≡ true }
     ensures next { (m : MergerView) (peer : ℕ) (d : Delta) (s : StampedState) → s.incarnation ≡ d.incarnation

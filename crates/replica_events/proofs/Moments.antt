@@ -9,7 +9,7 @@ use Rattle.memento_index.specs.declared.merge.Merge.TheVariants as merge
 use Rattle.harvest_lattice.specs.Lattice.{Entries, AtMost}
 use Rattle.harvest_lattice.specs.Knowledge.{Harvested, lat, adds}
 use Rattle.harvest_lattice.proofs.Entries.{at_most_left, at_most_right, at_most_trans}
-use Rattle.harvest_lattice.proofs.Knowledge.{lat-append, join_nil, at_most_nil}
+use Rattle.harvest_lattice.proofs.Knowledge.{lat-append, at_most_nil}
 use Rattle.replica_exchange.specs.declared.cursor.Cursor.{Cursor}
 use Rattle.replica_exchange.specs.Stamps.{state_after, StampedState, IsStamped}
 use Rattle.replica_exchange.specs.CursorRule.{delta_from, fits, end_of, moved, taken_from}
@@ -19,7 +19,7 @@ use Rattle.replica_events.specs.Cursors.{GoesOn, IsReached}
 use Rattle.replica_events.proofs.Numbers.{IsPlaced, replica_placed, messages_stay, Pushed, pushed}
 use Rattle.replica_events.proofs.Changes as change
 use Rattle.replica_events.proofs.Changes.{Change, step_changes}
-use Rattle.replica_events.proofs.Sound.{Logs, logs_with, Sound, sound_taken, sound_received, sound_joined, sound_sent, sound_restarted}
+use Rattle.replica_events.proofs.Sound.{join_nil, Logs, logs_with, Sound, sound_taken, sound_received, sound_joined, sound_sent, sound_restarted}
 
 -- ---- what was met
 

@@ -13,13 +13,17 @@ use Rattle.harvest_lattice.specs.Lattice.{Entries, AtMost, join}
 use Rattle.harvest_lattice.specs.Knowledge.{Harvested, lat, adds}
 use Rattle.memento_index.specs.Merges.{adds_of}
 use Rattle.harvest_lattice.proofs.Entries.{at_most_left, at_most_right, at_most_refl, at_most_trans}
-use Rattle.harvest_lattice.proofs.Knowledge.{lat-append, lat-adds, join_nil}
+use Rattle.harvest_lattice.proofs.Knowledge.{lat-append, lat-adds}
 use Rattle.replica_exchange.specs.declared.cursor.Cursor.{Cursor}
 use Rattle.replica_exchange.specs.Stamps.{state_after, StampedState, IsStamped}
 use Rattle.replica_exchange.specs.CursorRule.{Held, start_from, delta_from, reaches, fits, end_of, moved, taken_from}
 use Rattle.replica_exchange.proofs.StampLemmas.{state_push, prefixes_at_most, above_suffices}
 use Rattle.replica_events.specs.World.{Knowledge, World, Replica, Message, numbered, replica, message, with_replica, with_message, taking, joining, sent_by, fresh, restarting}
 use Rattle.replica_events.proofs.Numbers.{IsPlaced, replica_placed, messages_stay, last_stays, Pushed, pushed}
+
+-- the state of no harvests adds nothing
+pub join_nil : (x : Entries) → join (lat []) x ≡ x
+join_nil x = subst (λ (y : Entries). join (lat []) y ≡ y) (lat-adds x) (sym (lat-append [] (adds x)))
 
 -- of each incarnation all the merges that were ever taken in it
 abbrev pub Logs : Type 0

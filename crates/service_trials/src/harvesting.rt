@@ -1,19 +1,16 @@
-//! Walks over archives in memory: which pages are fetched and in which order, which are lost, where a walk ends, and that
-//! the workers of a round run at once.
+//! Walks over archives in memory: which pages are fetched and in which order, which are lost, and where a walk ends.
 use anyhow::{Result, bail};
-use harvest_lattice::Harvest;
 use harvester::{
-    Answer, Fetch, FetchFault, Job, MAX_PAGES, MAX_WORKERS, MemoryFetch, Outcome, WalkFault,
+    Answer, FetchFault, Job, MAX_PAGES, MAX_WORKERS, MemoryFetch, Outcome, WalkFault,
     have_first_urls, run_round, walk,
 };
-use memento_time::{Clean, Items, Octets};
+use memento_time::Items;
 use std::alloc::{AllocGlobal, Global};
 use std::net::{Net, TcpListener, TcpStream};
 use std::random::RandomSource;
 use std::sync::Wait;
-use std::sync::atomic::{AtomicU64, Ordering};
-use std::thread::{self, Threads};
-use std::time::{Clock, Duration};
+use std::thread::Threads;
+use std::time::Clock;
 use text_trials::makers::{archive, clean, octets, original};
 
 const ALL: &str =
@@ -385,56 +382,6 @@ fn a_page_of_too_many_pages(rt: HostRuntime) -> Result<()> {
     Ok(())
 }
 
-fn push_mementos(body: &mut String, alloc: Global, from: u64, to: u64) -> Result<()> {
-    for k in from..to {
-        body.push_str(&format!(in alloc;
-            ",<http://m.example/{k}>;rel=memento;datetime=\"Sat, 01 Jan 2000 00:00:00 GMT\""
-        )?)?;
-    }
-    Ok(())
-}
-
-/// Adds a page of the mementos from one number up to another, with a link to the page behind it.
-fn add_mementos(
-    table: &mut MemoryFetch,
-    alloc: Global,
-    page: u64,
-    from: u64,
-    to: u64,
-) -> Result<()> {
-    let next = page.saturating_add(1);
-    let mut body = format!(in alloc; "<http://arc.example/{next}>;rel=timemap")?;
-    push_mementos(&mut body, alloc, from, to)?;
-    let url = format!(in alloc; "http://arc.example/{page}")?;
-    add(table, alloc, &url, 200, "", &body)
-}
-
-/// Five pages in a row, each of which lists the next, and the last nothing: the first has one memento, and those from
-/// the second on, which repeat some, as many others as a harvest may have.
-fn many_mementos(alloc: Global) -> Result<MemoryFetch> {
-    let mut table = MemoryFetch::new(alloc);
-    add_mementos(&mut table, alloc, 1, 100_000, 100_001)?;
-    add_mementos(&mut table, alloc, 2, 0, 50_000)?;
-    add_mementos(&mut table, alloc, 3, 0, 10)?;
-    add_mementos(&mut table, alloc, 4, 50_000, 100_000)?;
-    add(&mut table, alloc, "http://arc.example/5", 200, "", "")?;
-    Ok(table)
-}
-
-#[test]
-fn as_many_mementos_as_may_be(rt: HostRuntime) -> Result<()> {
-    let most = walk_counts(&rt, &many_mementos(rt.alloc())?, "http://arc.example/2")?;
-    assert_eq!(rt; most, (Ok(Harvest::MAX_MEMENTOS), 4));
-    Ok(())
-}
-
-#[test]
-fn one_memento_more_than_may_be(rt: HostRuntime) -> Result<()> {
-    let many = walk_counts(&rt, &many_mementos(rt.alloc())?, "http://arc.example/1")?;
-    assert_eq!(rt; many, (Err(WalkFault::TooManyMementos), 4));
-    Ok(())
-}
-
 #[test]
 fn printed_faults(rt: HostRuntime) -> Result<()> {
     let alloc = rt.alloc();
@@ -466,7 +413,12 @@ fn jobs(alloc: Global, firsts: &[&str]) -> Result<Vec<Job>> {
 }
 
 /// What a round of these jobs gives.
-fn round<'a, R, F>(rt: &R, fetcher: &F, jobs: &'a [Job], workers: usize) -> Result<Vec<Outcome<'a>>>
+fn round<'a, R>(
+    rt: &R,
+    table: &MemoryFetch,
+    jobs: &'a [Job],
+    workers: usize,
+) -> Result<Vec<Outcome<'a>>>
 where
     R: Wait
         + Clock
@@ -475,12 +427,11 @@ where
         + AllocGlobal
         + Threads
         + Sync,
-    F: Fetch + Sync,
 {
     if workers == 0 || workers > MAX_WORKERS || !have_first_urls(jobs) {
         bail!("no round");
     }
-    Ok(run_round(rt, fetcher, jobs, workers)?)
+    Ok(run_round(rt, table, jobs, workers)?)
 }
 
 fn are_numbered(outcomes: &[Outcome<'_>]) -> bool {
@@ -517,61 +468,5 @@ fn rounds(rt: HostRuntime) -> Result<()> {
         let outcomes = round(&rt, &table, &jobs, workers)?;
         assert!(rt; are_of_three_jobs(&outcomes) && are_numbered(&outcomes));
     }
-    Ok(())
-}
-
-/// Answers each fetch once two were asked.
-#[derive(Drop)]
-struct Holding {
-    asked: AtomicU64,
-}
-
-impl Fetch for Holding {
-    ghost use Rattle.std.specs.Prelude.{◌≡◌, ⊤};
-    ghost use Rattle.harvester.specs.declared.faults.FetchFault.TheVariants.{Failed};
-
-    ghost answers = { λ _ _ _. ⊤ };
-
-    ghost faults = { λ _ _ fault. fault ≡ Failed };
-
-    fn fetch<R>(&self, rt: &R, _url: &Clean) -> Result<Answer, FetchFault>
-    where
-        R: Wait
-            + Clock
-            + Net<Listener = TcpListener, Stream = TcpStream>
-            + RandomSource
-            + AllocGlobal,
-    {
-        self.asked.fetch_add(1, Ordering::SeqCst);
-        for _ in 0..10_000 {
-            if self.asked.load(Ordering::SeqCst) >= 2 {
-                return Ok(Answer {
-                    status: 200,
-                    encoding: Items::of(Vec::new(rt.alloc())),
-                    body: Octets::of(Vec::new(rt.alloc())),
-                });
-            }
-            thread::sleep(rt, Duration::from_millis(1));
-        }
-        Err(FetchFault::Failed)
-    }
-}
-
-fn harvest_nothing(outcomes: &[Outcome<'_>]) -> bool {
-    outcomes.iter().all(|outcome| has_harvested(outcome, &[]))
-}
-
-#[test]
-fn workers_run_at_once(rt: HostRuntime) -> Result<()> {
-    let holding = Holding {
-        asked: AtomicU64::new(0),
-    };
-    let jobs = jobs(
-        rt.alloc(),
-        &["http://arc.example/1", "http://arc.example/2"],
-    )?;
-    let outcomes = round(&rt, &holding, &jobs, 2)?;
-    assert_eq!(rt; outcomes.len(), 2);
-    assert!(rt; harvest_nothing(&outcomes));
     Ok(())
 }

@@ -1,5 +1,5 @@
-//! Trials of the crates that read and write texts, from `memento_time` up to `timemap_writer`: what their contracts say,
-//! on values from outside. They call public functions alone, so that those crates are proved without them.
+//! Trials of the crates that read and write texts, from `memento_time` up to `timemap_writer`: what their contracts
+//! say, on values from outside. They call public functions alone, so that those crates are proved without them.
 //!
 //! `makers` makes what trials speak of, for those of the crates above too.
 #![tactic(auto)]

@@ -196,8 +196,8 @@ fn keeps_the_limits(rt: HostRuntime) -> Result<(), Fail> {
     Ok(())
 }
 
-/// The parameters of a link, how many there are, and the first values of `rel` and `datetime`; however they are written:
-/// most links of TimeMaps have those of the first text.
+/// The parameters of a link, how many there are, and the first values of `rel` and `datetime`; however they are
+/// written: most links of TimeMaps have those of the first text.
 const ROLES: [(&[u8], usize, &[u8], &[u8]); 8] = [
     (b"; rel=\"memento\"; datetime=\"d\"", 2, b"memento", b"d"),
     (

@@ -171,8 +171,8 @@ pub record AsksDelta (q : Request) (cursor : Option Cursor) : Type 0 where
 abbrev pub IsOfTaken : Request → Type 0
 IsOfTaken q = (cursor : Option Cursor) → ¬ (route_of q ≡ Delta cursor)
 
--- a GET or HEAD of the target of this page: its number has 64 bits and is written as its decimal, and what stands behind
--- it names the original
+-- a GET or HEAD of the target of this page: its number has 64 bits and is written as its decimal, and what stands
+-- behind it names the original
 pub record AsksPage (q : Request) (number : ℕ) (original : List ℕ) : Type 0 where
   pub method : (q.method ≡ codes "GET") ⊎ (q.method ≡ codes "HEAD")
   pub fits : number < 2 ^ 64

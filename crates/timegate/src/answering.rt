@@ -69,7 +69,7 @@ pub fn answer(
     reply_at(alloc, service, stamped, request, &route)
 }
 
-// The reply to what the request asks for.
+/// The reply to what the request asks for.
 fn reply_at(
     alloc: Global,
     service: &Service,
@@ -100,7 +100,7 @@ fn reply_at(
     }
 }
 
-// The redirect to a memento, if there is one.
+/// The redirect to a memento, if there is one.
 fn redirect(
     alloc: Global,
     service: &Service,
@@ -124,7 +124,7 @@ fn redirect(
     Ok(reply_with(request, 302, headers, Vec::new(alloc)))
 }
 
-// The TimeMap or the index of its pages, if any memento is shown.
+/// The TimeMap or the index of its pages, if any memento is shown.
 fn timemap(
     alloc: Global,
     service: &Service,
@@ -149,7 +149,7 @@ fn timemap(
     links_reply(alloc, request, text)
 }
 
-// A page of the TimeMap, if any memento is shown and there is a page of this number.
+/// A page of the TimeMap, if any memento is shown and there is a page of this number.
 fn page(
     alloc: Global,
     service: &Service,
@@ -176,7 +176,7 @@ fn page(
     links_reply(alloc, request, text)
 }
 
-// The page of this number, if the list has one.
+/// The page of this number, if the list has one.
 fn page_of(mementos: &[Memento], number: u64) -> Option<usize>
     ensures found { IfSome result (λ page. (page ≡ number) × IsPage mementos.now page) }
     ensures none { IfNone result ((number == 0 || nat_lt (pages mementos.now) number) ≡ true) }
@@ -187,7 +187,7 @@ fn page_of(mementos: &[Memento], number: u64) -> Option<usize>
     Some(number as usize)
 }
 
-// A text in link-format.
+/// A text in link-format.
 fn links_reply(alloc: Global, request: &Request, text: Vec<u8>) -> Result<Reply, NoMemory>
     ensures { IfOk result (λ answer. answer ≡ links_reply request.now text.items) }
 {
@@ -197,7 +197,7 @@ fn links_reply(alloc: Global, request: &Request, text: Vec<u8>) -> Result<Reply,
     Ok(reply_with(request, 200, headers, text))
 }
 
-// The state bytes, which peers fetch.
+/// The state bytes, which peers fetch.
 fn state(alloc: Global, index: &Index, request: &Request) -> Result<Reply, NoMemory>
     ensures { IfOk result (λ answer. answer ≡ peer_reply request.now (state_text index.now)) }
 {
@@ -209,7 +209,7 @@ fn state(alloc: Global, index: &Index, request: &Request) -> Result<Reply, NoMem
     peer_reply(alloc, request, text)
 }
 
-// What the merges after a cursor changed, which peers fetch.
+/// What the merges after a cursor changed, which peers fetch.
 fn delta(
     alloc: Global,
     stamped: &Stamped,
@@ -227,7 +227,7 @@ fn delta(
     peer_reply(alloc, request, text)
 }
 
-// A text for peers.
+/// A text for peers.
 fn peer_reply(alloc: Global, request: &Request, text: Vec<u8>) -> Result<Reply, NoMemory>
     ensures { IfOk result (λ answer. answer ≡ peer_reply request.now text.items) }
 {
@@ -244,7 +244,7 @@ fn bad_method(alloc: Global, request: &Request) -> Result<Reply, NoMemory>
     short_reply(alloc, request, 405, headers, b"bad method\n")
 }
 
-// A short text, behind these headers.
+/// A short text, behind these headers.
 fn short_reply(
     alloc: Global,
     request: &Request,
@@ -261,7 +261,7 @@ fn short_reply(
     Ok(reply_with(request, status, headers, body))
 }
 
-// What a TimeGate says depends on the moment that is asked for.
+/// What a TimeGate says depends on the moment that is asked for.
 fn push_vary(
     alloc: Global,
     headers: &mut Vec<(Header, Octets)>,
@@ -275,7 +275,7 @@ fn push_vary(
     Ok(())
 }
 
-// HEAD is answered without the body.
+/// HEAD is answered without the body.
 fn reply_with(
     request: &Request,
     status: u16,

@@ -17,7 +17,8 @@ pub fn replies_from_state()
 {}
 
 /// The same harvests, in any order and however often, give every request that asks for no delta the same reply. What a
-/// delta is answered also tells of the merges by which the harvests came; `reply` has for it a delta that tells of none.
+/// delta is answered also tells of the merges by which the harvests came; `reply` has for it a delta that tells of
+/// none.
 pub fn same_harvests_same_reply()
     ensures { (base : List ℕ) (known others : List Harvested) → ((h : Harvested) → Contains known h ↔ Contains others h)
         → (q : Request) → reply base known q ≡ reply base others q }
@@ -60,8 +61,8 @@ pub fn deltas_stand_at_their_cursors()
     ensures { (q : Request) (cursor : Option Cursor) → (route_of q ≡ Delta cursor) ↔ AsksDelta q cursor }
 {}
 
-/// A page of a TimeMap is asked for behind `/timemap/link/page/` at the decimal of its number with a slash behind it, and
-/// a text that names the original. No other request asks for one.
+/// A page of a TimeMap is asked for behind `/timemap/link/page/` at the decimal of its number with a slash behind it,
+/// and a text that names the original. No other request asks for one.
 pub fn pages_stand_at_their_numbers()
     ensures { (q : Request) (number : ℕ) (original : List ℕ) → (route_of q ≡ Page number original)
         ↔ AsksPage q number original }

@@ -56,7 +56,7 @@ fn is_whole_delta(request: &Request) -> bool
     request.target.as_slice() == b"/delta".as_slice()
 }
 
-// What stands behind the front, where the bytes begin with it.
+/// What stands behind the front, where the bytes begin with it.
 fn behind<'a>(bytes: &'a [u8], front: &[u8]) -> Option<&'a [u8]>
     ensures found { IfSome result (λ rest. (starts_with nat_eq bytes.now front.now ≡ true)
         × (rest.now ≡ drop (length front.now) bytes.now)) }
@@ -65,7 +65,7 @@ fn behind<'a>(bytes: &'a [u8], front: &[u8]) -> Option<&'a [u8]>
     bytes.strip_prefix(front)
 }
 
-// The cursor that bytes name: its incarnation, a slash, and its number.
+/// The cursor that bytes name: its incarnation, a slash, and its number.
 fn cursor_at(bytes: &[u8]) -> Option<Cursor>
     ensures { result ≡ cursor_at bytes.now }
 {
@@ -76,7 +76,7 @@ fn cursor_at(bytes: &[u8]) -> Option<Cursor>
     })
 }
 
-// The delta from a cursor, if there is one.
+/// The delta from a cursor, if there is one.
 fn delta_route(cursor: Option<Cursor>) -> Route
     ensures { result ≡ delta_route cursor }
 {
@@ -92,7 +92,7 @@ pub fn is_timegate(request: &Request) -> bool
     request.target.as_slice().starts_with(b"/timegate/")
 }
 
-// The original that bytes name.
+/// The original that bytes name.
 fn original_at(alloc: Global, bytes: &[u8]) -> Result<Option<Original>, NoMemory>
     ensures read { IfOk result (λ original. original ≡ original_at bytes.now) }
     ensures kept { IfOk result (λ original. IfSome original IsAsked) }
@@ -107,7 +107,7 @@ fn original_at(alloc: Global, bytes: &[u8]) -> Result<Option<Original>, NoMemory
     }
 }
 
-// The TimeGate of the original, by the values of `Accept-Datetime`.
+/// The TimeGate of the original, by the values of `Accept-Datetime`.
 fn timegate_route(asked: &[Octets], original: Original) -> Route
     ensures route { result ≡ timegate_route asked.now original }
     ensures original { IfSome (original_in result) (λ o. o ≡ original) }
@@ -122,7 +122,7 @@ fn timegate_route(asked: &[Octets], original: Original) -> Route
     }
 }
 
-// The number of a page and what stands behind it, where the bytes begin with these.
+/// The number of a page and what stands behind it, where the bytes begin with these.
 fn page_in(bytes: &[u8]) -> Option<(u64, &[u8])>
     ensures { option_map (λ page. (page.0, page.1.now)) result ≡ page_in bytes.now }
 {
@@ -130,7 +130,7 @@ fn page_in(bytes: &[u8]) -> Option<(u64, &[u8])>
     Some((read_decimal(number)?, rest))
 }
 
-// A page of a TimeMap, where the bytes begin with its number, and else the TimeMap of the original that they name.
+/// A page of a TimeMap, where the bytes begin with its number, and else the TimeMap of the original that they name.
 fn map_route(alloc: Global, bytes: &[u8]) -> Result<Route, NoMemory>
     ensures route { IfOk result (λ route. route ≡ map_route bytes.now) }
     ensures kept { IfOk result (λ route. IfSome (original_in route) IsAsked) }

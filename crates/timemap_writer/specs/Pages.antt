@@ -1,4 +1,5 @@
--- The pages of a long TimeMap (RFC 7089, section 5.1.2): 1,000 mementos on each, in order, and the index that names them.
+-- The pages of a long TimeMap (RFC 7089, section 5.1.2): 1,000 mementos on each, in order, and the index that names
+-- them.
 use Rattle.std.specs.Prelude.{ℕ, ◌+◌, ◌-◌, ◌*◌, ◌/◌, ◌≤◌, Bool, true, false, ◌&&◌, not, ◌==◌, List, [], ◌∷◌, ◌++◌, length, take, drop, map}
 use Rattle.std.specs.Prelude.{codes, nat_lt, if◌then◌else◌}
 use Rattle.std.specs.List.{range_with_len}

@@ -1,5 +1,6 @@
 //! The archives of settings.
-ghost use Rattle.std.specs.Prelude.{◌≤◌, IfOk, length};
+ghost use Rattle.std.specs.Prelude.{IfOk, length};
+ghost use Rattle.aggregator_service.specs.Limits.{IsWithin};
 
 use crate::settings::fault::{Key, SettingsFault};
 use crate::settings::values::{clean_of, list_at};
@@ -7,9 +8,6 @@ use memento_time::{ArchiveName, Clean};
 use std::alloc::{AllocError, Global};
 use std::collections::BTreeSet;
 use toml::{Table, Value};
-
-/// The most archives.
-const MAX_ARCHIVES: usize = 1_000;
 
 /// The most bytes of the text that stands before an original.
 const MAX_TIMEMAP: usize = 4_096;
@@ -21,9 +19,9 @@ pub(crate) fn archives_at(
     alloc: Global,
     table: &Table,
 ) -> Result<Vec<(ArchiveName, Clean)>, SettingsFault>
-    ensures { IfOk result (λ archives. length archives.items ≤ MAX_ARCHIVES) }
+    ensures { IfOk result (λ archives. IsWithin Key.Archives (length archives.items)) }
 {
-    let list = list_at(table, Key::Archives, MAX_ARCHIVES)?;
+    let list = list_at(table, Key::Archives)?;
     let mut names = BTreeSet::new(alloc);
     let mut archives = Vec::new(alloc);
     for value in list {

@@ -1,8 +1,11 @@
 //! Why a text gives no settings.
 ghost use Rattle.std.specs.Prelude.{◌≡◌};
 ghost use Rattle.aggregator_service.specs.Keys.{name_of};
+ghost use Rattle.aggregator_service.specs.Limits.{limits};
 
+use harvester::MAX_WORKERS;
 use memento_time::NoMemory;
+use published_index::MOST_GATES;
 use std::alloc::AllocError;
 
 /// The keys of settings, in the order in which they are looked for.
@@ -34,6 +37,22 @@ impl Key {
             Key::Originals => "originals",
             Key::Peers => "peers",
             Key::Archives => "archives",
+        }
+    }
+
+    /// The least and the greatest number at the key; for a list, of its elements. The base is one text.
+    pub fn limits(self) -> (u64, u64)
+        ensures { result ≡ limits self }
+    {
+        match self {
+            Key::Base => (1, 1),
+            Key::Gates => (1, MOST_GATES as u64),
+            Key::Connections | Key::Rounds => (1, 1_000_000_000),
+            Key::Pause => (0, 86_400),
+            Key::Workers => (1, MAX_WORKERS as u64),
+            Key::Originals => (0, 100_000),
+            Key::Peers => (0, 15),
+            Key::Archives => (0, 1_000),
         }
     }
 }

@@ -1,5 +1,6 @@
 //! What stands at the keys of settings: numbers, and lists of texts.
-ghost use Rattle.std.specs.Prelude.{◌≡◌, ◌≤◌, ◌<◌, IfOk, length, vec_len};
+ghost use Rattle.std.specs.Prelude.{IfOk, length};
+ghost use Rattle.aggregator_service.specs.Limits.{IsWithin};
 
 use crate::settings::fault::{Key, SettingsFault};
 use memento_time::{Clean, CleanFault, Original};
@@ -10,54 +11,32 @@ use timemap_reader::{OriginalFault, read_original};
 use timemap_writer::{Service, ServiceFault};
 use toml::{Table, Value};
 
-/// The most gates, originals and peers.
-const MAX_GATES: usize = 64;
-
-const MAX_ORIGINALS: usize = 100_000;
-
-const MAX_PEERS: usize = 15;
-
-/// The numbers from `low` to `high`.
-#[derive(Clone, Copy)]
-pub(crate) struct Range {
-    low: u64,
-    high: u64,
-}
-
-impl Range {
-    pub(crate) fn new(low: u64, high: u64) -> Range
-        ensures low { result.low ≡ low }
-        ensures high { result.high ≡ high }
-    {
-        Range { low, high }
-    }
-}
-
-/// The number at a key.
-pub(crate) fn number_at(table: &Table, key: Key, range: Range) -> Result<u64, SettingsFault>
-    ensures low { IfOk result (λ number. range.low ≤ number) }
-    ensures high { IfOk result (λ number. number ≤ range.high) }
+/// The number at a key, where it is within the limits of that key.
+pub(crate) fn number_at(table: &Table, key: Key) -> Result<u64, SettingsFault>
+    ensures { IfOk result (IsWithin key) }
 {
+    let (least, most) = key.limits();
     let number = table.get(key.name()).and_then(Value::as_integer);
     let number = number.and_then(|number| u64::try_from(number).ok());
     match number {
-        Some(number) if range.low <= number && number <= range.high => Ok(number),
+        Some(number) if least <= number && number <= most => Ok(number),
         _ => Err(SettingsFault::Key(key)),
     }
 }
 
-/// The list at a key, where it has at most so many elements.
-pub(crate) fn list_at<'a>(
-    table: &'a Table,
-    key: Key,
-    most: usize,
-) -> Result<&'a [Value], SettingsFault>
-    ensures { IfOk result (λ list. length list.now ≤ most) }
+/// The list at a key, where the number of its elements is within the limits of that key.
+pub(crate) fn list_at<'a>(table: &'a Table, key: Key) -> Result<&'a [Value], SettingsFault>
+    ensures { IfOk result (λ list. IsWithin key (length list.now)) }
 {
-    match table.get(key.name()).and_then(Value::as_array) {
-        Some(list) if list.len() <= most => Ok(list.as_slice()),
-        _ => Err(SettingsFault::Key(key)),
+    let (least, most) = key.limits();
+    let Some(list) = table.get(key.name()).and_then(Value::as_array) else {
+        return Err(SettingsFault::Key(key));
+    };
+    let count = list.len() as u64;
+    if count < least || most < count {
+        return Err(SettingsFault::Key(key));
     }
+    Ok(list.as_slice())
 }
 
 /// The service whose base stands there.
@@ -78,18 +57,14 @@ fn service_of(alloc: Global, text: &str, key: Key) -> Result<Service, SettingsFa
 
 /// The addresses of the gates.
 pub(crate) fn gates_at(alloc: Global, table: &Table) -> Result<Vec<String>, SettingsFault>
-    ensures some { IfOk result (λ gates. 1 ≤ length gates.items) }
-    ensures few { IfOk result (λ gates. length gates.items ≤ MAX_GATES) }
+    ensures { IfOk result (λ gates. IsWithin Key.Gates (length gates.items)) }
 {
-    let list = list_at(table, Key::Gates, MAX_GATES)?;
+    let list = list_at(table, Key::Gates)?;
     let mut gates = Vec::new(alloc);
     for value in list {
         gates
             .push(gate_of(alloc, value)?)
             .map_err(AllocError::from)?;
-    }
-    if gates.is_empty() {
-        return Err(SettingsFault::Key(Key::Gates));
     }
     Ok(gates)
 }
@@ -103,9 +78,9 @@ fn gate_of(alloc: Global, value: &Value) -> Result<String, SettingsFault> {
 
 /// The originals.
 pub(crate) fn originals_at(alloc: Global, table: &Table) -> Result<Vec<Original>, SettingsFault>
-    ensures { IfOk result (λ originals. length originals.items ≤ MAX_ORIGINALS) }
+    ensures { IfOk result (λ originals. IsWithin Key.Originals (length originals.items)) }
 {
-    let list = list_at(table, Key::Originals, MAX_ORIGINALS)?;
+    let list = list_at(table, Key::Originals)?;
     let mut originals = Vec::new(alloc);
     for value in list {
         originals
@@ -129,9 +104,9 @@ fn original_of(alloc: Global, value: &Value) -> Result<Original, SettingsFault> 
 
 /// The bases of the peers, without the last `/`.
 pub(crate) fn peers_at(alloc: Global, table: &Table) -> Result<Vec<Clean>, SettingsFault>
-    ensures { IfOk result (λ peers. length peers.items ≤ MAX_PEERS) }
+    ensures { IfOk result (λ peers. IsWithin Key.Peers (length peers.items)) }
 {
-    let list = list_at(table, Key::Peers, MAX_PEERS)?;
+    let list = list_at(table, Key::Peers)?;
     let mut peers = Vec::new(alloc);
     for value in list {
         peers

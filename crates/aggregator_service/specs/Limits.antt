@@ -1,0 +1,48 @@
+-- How much settings may hold at their keys.
+use Rattle.std.specs.Prelude.{ℕ, ◌≤◌, ◌+◌, ◌*◌, ◌^◌}
+use Rattle.aggregator_service.specs.declared.settings.fault.Key.{Key}
+use Rattle.aggregator_service.specs.declared.settings.fault.Key.TheVariants as key
+
+-- the least and the greatest number at a key; for a list, of its elements. The base is one text.
+abbrev pub limits : Key → ℕ × ℕ
+limits key.Base = (1, 1)
+limits key.Gates = (1, 64)
+limits key.Connections = (1, 1000000000)
+limits key.Rounds = (1, 1000000000)
+limits key.Pause = (0, 86400)
+limits key.Workers = (1, 64)
+limits key.Originals = (0, 100000)
+limits key.Peers = (0, 15)
+limits key.Archives = (0, 1000)
+
+-- the number is neither below the least of a key nor above the greatest
+abbrev pub IsWithin : Key → ℕ → Type 0
+IsWithin k n = ((limits k).0 ≤ n) × (n ≤ (limits k).1)
+
+-- a key takes so much, and no more
+abbrev pub TakesUpTo : Key → ℕ → Type 0
+TakesUpTo k most = IsWithin k most × (¬ IsWithin k (most + 1))
+
+-- Worked examples, on both sides of each limit. With 15 peers there are 16 replicas, as many as a script has; a pause
+-- is a day at most.
+pub record AreLimits : Type 0 where
+  pub no_gate : ¬ IsWithin key.Gates 0
+  pub a_gate : IsWithin key.Gates 1
+  pub gates : TakesUpTo key.Gates (2 ^ 6)
+  pub no_connection : ¬ IsWithin key.Connections 0
+  pub a_connection : IsWithin key.Connections 1
+  pub connections : TakesUpTo key.Connections (10 ^ 9)
+  pub no_round : ¬ IsWithin key.Rounds 0
+  pub a_round : IsWithin key.Rounds 1
+  pub rounds : TakesUpTo key.Rounds (10 ^ 9)
+  pub no_pause : IsWithin key.Pause 0
+  pub pause : TakesUpTo key.Pause (24 * 60 * 60)
+  pub no_worker : ¬ IsWithin key.Workers 0
+  pub a_worker : IsWithin key.Workers 1
+  pub workers : TakesUpTo key.Workers (2 ^ 6)
+  pub no_original : IsWithin key.Originals 0
+  pub originals : TakesUpTo key.Originals (10 ^ 5)
+  pub no_peer : IsWithin key.Peers 0
+  pub peers : TakesUpTo key.Peers 15
+  pub no_archive : IsWithin key.Archives 0
+  pub archives : TakesUpTo key.Archives (10 ^ 3)
