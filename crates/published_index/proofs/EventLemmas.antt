@@ -66,7 +66,7 @@ at_replica w i r happens otherwise there is = let At : Option Replica → Type 0
 takes : (base : List ℕ) (w : World) (i : ℕ) (r : Replica) (m : Merge) → replica w i ≡ Some r → IsReceivable m → ¬ (length r.merges ≡ last_number)
     → Step base w (event_of i m) (answer_to m) (with_replica w i (taking r (adds_of m) m))
 takes base w i r (Harvest h) there fits left = inl (at_replica w i r _ _ there (inl (left, (refl, refl))))
-takes base w i r (State s) there fits left = inl (at_replica w i r _ _ there (inl (s, record { state = fits.0; text = refl; within = fits.1 }, inl (left, (refl, refl)))))
+takes base w i r (State s) there fits left = inl (at_replica w i r _ _ there (inl (s, record { text = record { state = fits.0; text = inl refl }; within = fits.1 }, inl (left, (refl, refl)))))
 
 -- a batch is its events, one after the other
 batch_runs : (base : List ℕ) (w : World) (i : ℕ) (r : Replica) (batch : Batch) → replica w i ≡ Some r → All IsReceivable batch → length r.merges + length batch ≤ last_number
