@@ -3,7 +3,9 @@
 
 generate.py page N     an archive's page of N mementos, 61 seconds apart, with their parameters in one order
 generate.py mixed N    another one: captures days apart, at any time of the day, with their parameters in mixed order
-generate.py take N     a script that takes the first page and asks for its TimeMap
+generate.py take N     a script that takes the first page, and asks for its TimeMap: above 1,000 mementos the index and all pages
+generate.py take_mixed N  the same of the other page
+generate.py map N      a script that takes the first page, and asks for its TimeMap or index alone
 generate.py keys N     a script that takes one memento for each of N originals, one by one
 generate.py world N    a script of N events over 16 replicas
 generate.py state N    a state's text with N mementos, 100 in each entry
@@ -49,6 +51,16 @@ def mixed_page(count):
         params = MIXED[random.below(len(MIXED))].format(date=date(day + random.below(86400)), k=k)
         lines.append(f"<http://m.example/{k}>; {params},")
     return "\n".join(lines) + "\n"
+
+
+PER_PAGE = 1000
+
+
+def asked(count):
+    """The commands that ask for the TimeMap of so many mementos: where they are many, for the index and each page."""
+    pages = -(-count // PER_PAGE) if count > PER_PAGE else 0
+    parts = [ORIGINAL, *(f"page/{number}/{ORIGINAL}" for number in range(1, pages + 1))]
+    return "".join(f"ask 1 GET 0 /timemap/link/{part}\n" for part in parts)
 
 
 def take(replica, archive, revision, original, body):
@@ -101,10 +113,10 @@ def main():
         write(page(count))
     elif kind == "mixed":
         write(mixed_page(count))
-    elif kind == "take":
+    elif kind in ("take", "take_mixed", "map"):
         write("replicas 1 http://agg.example\n")
-        write(take(1, "arc.example", 1, ORIGINAL, page(count)))
-        write(f"map 1 {ORIGINAL}\n")
+        write(take(1, "arc.example", 1, ORIGINAL, mixed_page(count) if kind == "take_mixed" else page(count)))
+        write(f"map 1 {ORIGINAL}\n" if kind == "map" else asked(count))
     elif kind == "keys":
         write("replicas 1 http://agg.example\n")
         for k in range(count):

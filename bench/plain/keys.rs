@@ -4,8 +4,8 @@
 //!     keys COUNT
 //!
 //! prints how many keys there are then.
-use std::collections::BTreeMap;
 use std::collections::btree_map::Entry;
+use std::collections::BTreeMap;
 
 #[derive(PartialEq, Eq, PartialOrd, Ord)]
 struct Memento {

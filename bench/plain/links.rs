@@ -37,7 +37,9 @@ fn main() -> std::io::Result<()> {
     std::io::stdin().read_to_end(&mut page)?;
     for _ in 0..times.unwrap_or(1) {
         match counts_of(&page) {
-            Ok(Counts { links, targets, params, rel, datetime }) => println!("{links} {targets} {params} {rel} {datetime}"),
+            Ok(Counts { links, targets, params, rel, datetime }) => {
+                println!("{links} {targets} {params} {rel} {datetime}")
+            }
             Err(fault) => println!("refused: {fault:?}"),
         }
     }

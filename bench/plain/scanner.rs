@@ -1,6 +1,7 @@
-//! The link-format scanner that a Rust programmer would write with std alone: an iterator over the links of a text, in one
-//! pass. A link comes with the first values of the parameters that its readers look at, which it lends from the text where
-//! nothing in them is escaped. What passes a limit is told at the end, since what comes behind it may be worse.
+//! The link-format scanner that a Rust programmer would write with std alone: an iterator over the links of a text, in
+//! one pass. A link comes with the first values of the parameters that its readers look at, which it lends from the
+//! text where nothing in them is escaped. What passes a limit is told at the end, since what comes behind it may be
+//! worse.
 use std::borrow::Cow;
 
 const MAX_LINKS: usize = 200_000;
@@ -42,27 +43,58 @@ pub struct Links<'a> {
     ended: bool,
 }
 
-pub fn is_blank(b: u8) -> bool {
+pub const fn is_blank(b: u8) -> bool {
     matches!(b, b' ' | b'\t' | b'\r' | b'\n')
 }
 
-fn is_name_byte(b: u8) -> bool {
-    matches!(
-        b,
-        b'a'..=b'z' | b'A'..=b'Z' | b'0'..=b'9' | b'!' | b'#' | b'$' | b'&' | b'*' | b'+' | b'-' | b'.' | b'^' | b'_' | b'`' | b'|' | b'~'
-    )
+// What a byte can be part of, as bits, so that a run of bytes is passed by one look at a table for each.
+const BLANK: u8 = 1;
+const NAME: u8 = 2;
+const TOKEN: u8 = 4;
+const QUOTABLE: u8 = 8;
+const UNESCAPED: u8 = 16;
+const TARGET: u8 = 32;
+
+const fn classes_of(b: u8) -> u8 {
+    let is_visible = matches!(b, 0x21..=0x7e);
+    let is_name = b.is_ascii_alphanumeric()
+        || matches!(b, b'!' | b'#' | b'$' | b'&' | b'*' | b'+' | b'-' | b'.' | b'^' | b'_' | b'`' | b'|' | b'~');
+    let is_text = b >= 0x20 && b != 0x7f;
+    let is_quotable = is_text || matches!(b, b'\t' | b'\r' | b'\n');
+    let mut classes = 0;
+    if is_blank(b) {
+        classes |= BLANK;
+    }
+    if is_name {
+        classes |= NAME;
+    }
+    if is_visible && !matches!(b, b'"' | b',' | b';' | b'\\') {
+        classes |= TOKEN;
+    }
+    if is_quotable {
+        classes |= QUOTABLE;
+    }
+    if is_quotable && !matches!(b, b'"' | b'\\') {
+        classes |= UNESCAPED;
+    }
+    if is_text && b != b'>' {
+        classes |= TARGET;
+    }
+    classes
 }
 
-fn is_token_byte(b: u8) -> bool {
-    matches!(b, 0x21..=0x7e) && !matches!(b, b'"' | b',' | b';' | b'\\')
-}
+static CLASSES: [u8; 256] = {
+    let mut classes = [0; 256];
+    let mut b = 0;
+    while b < 256 {
+        classes[b] = classes_of(b as u8);
+        b += 1;
+    }
+    classes
+};
 
-fn is_quotable(b: u8) -> bool {
-    b >= 0x20 && b != 0x7f || matches!(b, b'\t' | b'\r' | b'\n')
-}
-
-fn is_target_byte(b: u8) -> bool {
-    b >= 0x20 && b != b'>' && b != 0x7f
+fn is(b: u8, class: u8) -> bool {
+    CLASSES[usize::from(b)] & class != 0
 }
 
 impl<'a> Links<'a> {
@@ -74,12 +106,12 @@ impl<'a> Links<'a> {
         self.text.get(self.at).copied()
     }
 
-    fn skip(&mut self, passes: impl Fn(u8) -> bool) -> &'a [u8] {
-        let start = self.at;
-        while self.at < self.text.len() && passes(self.text[self.at]) {
-            self.at += 1;
-        }
-        &self.text[start..self.at]
+    /// Passes the bytes of this class, and answers them.
+    fn skip(&mut self, class: u8) -> &'a [u8] {
+        let rest = &self.text[self.at..];
+        let length = rest.iter().position(|b| !is(*b, class)).unwrap_or(rest.len());
+        self.at += length;
+        &rest[..length]
     }
 
     fn eat(&mut self, b: u8) -> bool {
@@ -94,7 +126,7 @@ impl<'a> Links<'a> {
 
     fn value(&mut self) -> Result<Value<'a>, Fault> {
         if !self.eat(b'"') {
-            let text = self.skip(is_token_byte);
+            let text = self.skip(TOKEN);
             if text.is_empty() {
                 return self.fault();
             }
@@ -103,7 +135,7 @@ impl<'a> Links<'a> {
         let start = self.at;
         let mut escaped = false;
         loop {
-            self.skip(|b| is_quotable(b) && b != b'"' && b != b'\\');
+            self.skip(UNESCAPED);
             match self.peek() {
                 Some(b'"') => {
                     let text = &self.text[start..self.at];
@@ -114,7 +146,7 @@ impl<'a> Links<'a> {
                     escaped = true;
                     self.at += 1;
                     match self.peek() {
-                        Some(b) if is_quotable(b) => self.at += 1,
+                        Some(b) if is(b, QUOTABLE) => self.at += 1,
                         _ => return self.fault(),
                     }
                 }
@@ -126,24 +158,24 @@ impl<'a> Links<'a> {
     /// What stands behind a name: the value behind a `=`, or nothing.
     fn value_behind_name(&mut self) -> Result<Value<'a>, Fault> {
         let behind = self.at;
-        self.skip(is_blank);
+        self.skip(BLANK);
         if !self.eat(b'=') {
             self.at = behind;
             return Ok(Value { text: b"", escaped: false });
         }
-        self.skip(is_blank);
+        self.skip(BLANK);
         self.value()
     }
 
     /// Reads the parameters behind a target.
     fn params(&mut self, link: &mut Link<'a>) -> Result<(), Fault> {
         loop {
-            self.skip(is_blank);
+            self.skip(BLANK);
             if !self.eat(b';') {
                 return Ok(());
             }
-            self.skip(is_blank);
-            let name = self.skip(is_name_byte);
+            self.skip(BLANK);
+            let name = self.skip(NAME);
             if name.is_empty() {
                 continue;
             }
@@ -166,7 +198,7 @@ impl<'a> Links<'a> {
     }
 
     fn link(&mut self) -> Result<Link<'a>, Fault> {
-        let mut link = Link { target: self.skip(is_target_byte), ..Link::default() };
+        let mut link = Link { target: self.skip(TARGET), ..Link::default() };
         if !self.eat(b'>') {
             return self.fault();
         }
@@ -193,9 +225,9 @@ impl<'a> Links<'a> {
     /// The next link, or none at the end of the text.
     fn next_link(&mut self) -> Result<Option<Link<'a>>, Fault> {
         loop {
-            self.skip(is_blank);
+            self.skip(BLANK);
             let link = if self.eat(b'<') { Some(self.link()?) } else { None };
-            self.skip(is_blank);
+            self.skip(BLANK);
             if self.at == self.text.len() {
                 self.ended = true;
             } else if !self.eat(b',') {

@@ -99,10 +99,8 @@ impl<'a> Reader<'a> {
             if !digit.is_ascii_digit() {
                 return Err(Fault::NotState);
             }
-            number = number
-                .checked_mul(10)
-                .and_then(|n| n.checked_add(u64::from(digit - b'0')))
-                .ok_or(Fault::NotState)?;
+            number =
+                number.checked_mul(10).and_then(|n| n.checked_add(u64::from(digit - b'0'))).ok_or(Fault::NotState)?;
         }
         Ok(number)
     }

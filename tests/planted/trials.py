@@ -1,6 +1,12 @@
-"""Where the tests of a crate stand: in a crate of trials, or else in the crate itself.
+"""Where the tests of a crate stand: in a crate of trials, or else in the crate itself. And which planted bugs were tried.
 
-`aggregator_service` has none in Rattle: `tests/rounds` and `tests/settings` try it as it runs."""
+`aggregator_service` has no tests in Rattle: `tests/rounds` and `tests/settings` try it as it runs."""
+import hashlib
+import pathlib
+import re
+import subprocess
+
+HERE = pathlib.Path(__file__).resolve().parent
 
 # The crates of trials, and the crates whose tests they have.
 TRIALS = {
@@ -10,6 +16,41 @@ TRIALS = {
     "service_trials": ("published_index", "harvester", "hyper_edge"),
 }
 
+# The planted bugs that were tried and refused by what their blocks name, a line each: COMMIT LIST CHECKSUM.
+TRIED = HERE / "tried"
+
 
 def crate_of_tests(crate):
     return next((trials for trials, tested in TRIALS.items() if crate in tested), crate)
+
+
+def checksums(list_name):
+    """The blocks of a list by their titles, each as its checksum, which another text of the block would change."""
+    lines = (HERE / list_name).read_text(encoding="utf-8").split("\n")
+    text = "\n".join(line for line in lines if not line.startswith("#"))
+    blocks = [block.strip() for block in re.split(r"^(?=(?:bug|slip): )", text, flags=re.M)]
+    titled = {re.match(r"\w+: (.*)", block)[1]: block for block in blocks if block.startswith(("bug: ", "slip: "))}
+    return {title: hashlib.sha256(block.encode()).hexdigest()[:10] for title, block in titled.items()}
+
+
+def tried():
+    """Of each list and checksum the commit on which the block was tried last."""
+    lines = TRIED.read_text(encoding="utf-8").split("\n") if TRIED.exists() else []
+    rows = (line.split() for line in lines if line and not line.startswith("#"))
+    return {(name, checksum): commit for commit, name, checksum in rows}
+
+
+def keep_tried(list_name, titles):
+    """Writes down that these blocks of a list were tried on this commit, and drops those that no longer stand there."""
+    found = subprocess.run(["git", "rev-parse", "--short=7", "HEAD"], cwd=HERE, capture_output=True, text=True)
+    if found.returncode != 0:
+        return
+    sums, rows = checksums(list_name), tried()
+    rows = {key: commit for key, commit in rows.items() if key[0] != list_name or key[1] in sums.values()}
+    rows.update({(list_name, sums[title]): found.stdout.strip() for title in titles})
+    write_tried(rows)
+
+
+def write_tried(rows):
+    head = "# Planted bugs that were tried, and refused by what their blocks name: the commit, the list, the checksum of the block (trials.py).\n"
+    TRIED.write_text(head + "".join(sorted(f"{commit} {name} {checksum}\n" for (name, checksum), commit in rows.items())), encoding="utf-8")

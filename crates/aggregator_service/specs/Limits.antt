@@ -14,6 +14,7 @@ limits key.Workers = (1, 64)
 limits key.Originals = (0, 100000)
 limits key.Peers = (0, 15)
 limits key.Archives = (0, 1000)
+limits key.Patience = (1, 86400)
 
 -- the number is neither below the least of a key nor above the greatest
 abbrev pub IsWithin : Key → ℕ → Type 0
@@ -24,7 +25,7 @@ abbrev pub TakesUpTo : Key → ℕ → Type 0
 TakesUpTo k most = IsWithin k most × (¬ IsWithin k (most + 1))
 
 -- Worked examples, on both sides of each limit. With 15 peers there are 16 replicas, as many as a script has; a pause
--- is a day at most.
+-- and a patience are a day at most.
 pub record AreLimits : Type 0 where
   pub no_gate : ¬ IsWithin key.Gates 0
   pub a_gate : IsWithin key.Gates 1
@@ -46,3 +47,6 @@ pub record AreLimits : Type 0 where
   pub peers : TakesUpTo key.Peers 15
   pub no_archive : IsWithin key.Archives 0
   pub archives : TakesUpTo key.Archives (10 ^ 3)
+  pub no_patience : ¬ IsWithin key.Patience 0
+  pub a_patience : IsWithin key.Patience 1
+  pub patience : TakesUpTo key.Patience (24 * 60 * 60)

@@ -1,5 +1,5 @@
 //! One round: each archive is walked for each original, each peer is pulled, and what came is published.
-ghost use Rattle.std.specs.Prelude.{◌≡◌, ◌≤◌, ◌⊎◌, ◌++◌, All, IfSome, Some};
+ghost use Rattle.std.specs.Prelude.{◌≡◌, ◌+◌, ◌*◌, ◌<◌, ◌⊎◌, ◌++◌, All, IfSome, Some};
 ghost use Rattle.harvester.specs.Answers.{HasFirstUrl};
 ghost use Rattle.aggregator_service.specs.Lines.{round_words};
 ghost use Rattle.aggregator_service.specs.Pulls.{Pulls, PullsNothing};
@@ -7,18 +7,16 @@ ghost use Rattle.aggregator_service.specs.Pulls.{Pulls, PullsNothing};
 use crate::clocks::revision_now;
 use crate::runtimes::SocketRuntime;
 use crate::settings::Settings;
-use harvester::{Job, MAX_WORKERS, Outcome, have_first_urls, run_round};
-use hyper_edge::{HyperFetch, pull_state};
+use harvester::{Job, Outcome, have_first_urls, run_round};
+use hyper_edge::{Patience, PatientFetch, pull_within};
 use memento_index::Merge;
 use memento_time::{ArchiveName, Clean, Original};
 use published_index::Merger;
 use std::alloc::Global;
 use std::fmt;
+use std::ops::Range;
 use std::thread::{self, Threads};
 use std::time::{Clock, Duration};
-
-/// How many jobs of a batch each worker gets: the records of a batch's walks stand in memory together.
-const JOBS_EACH: usize = 8;
 
 /// What a round came to.
 #[derive(Clone, Copy, Debug, PartialEq, Eq)]
@@ -57,47 +55,44 @@ impl Round {
             pulls: 0,
             published: false,
         };
-        let revision = revision_now(rt);
-        for (archive, timemap) in &settings.archives {
-            round.harvest(rt, settings, merger, *archive, timemap, revision);
-        }
+        round.harvest(rt, settings, merger);
+        let patience = Patience::of_seconds(settings.patience);
         for (number, peer) in (1..).zip(&settings.peers) {
-            round.pull(rt, merger, number, peer);
+            round.pull(rt, merger, number, peer, patience);
         }
         round.published = merger.publish(rt).is_ok();
         round
     }
 
-    /// Walks an archive for each original, a batch at a time.
-    fn harvest<R>(
-        &mut self,
-        rt: &R,
-        settings: &Settings,
-        merger: &mut Merger,
-        archive: ArchiveName,
-        timemap: &Clean,
-        revision: u64,
-    )
+    /// Walks each archive for each original, a batch at a time. A batch has one job for each worker, since the answers
+    /// of its walks stand in memory together.
+    fn harvest<R>(&mut self, rt: &R, settings: &Settings, merger: &mut Merger)
     where
         R: SocketRuntime + Threads + Sync,
     {
-        for originals in settings.originals.chunks(settings.workers * JOBS_EACH) {
-            self.jobs = self.jobs.saturating_add(originals.len() as u64);
-            let jobs = jobs_of(rt.alloc(), archive, timemap, revision, originals);
-            if have_first_urls(&jobs) {
-                self.append_harvests(rt, merger, &jobs, settings.workers);
+        let revision = revision_now(rt);
+        let jobs = settings
+            .originals
+            .len()
+            .saturating_mul(settings.archives.len());
+        for start in (0..jobs).step_by(settings.workers) {
+            let end = jobs.min(start.saturating_add(settings.workers));
+            let batch = jobs_of(rt.alloc(), settings, revision, start..end);
+            self.jobs = self.jobs.saturating_add(end.saturating_sub(start) as u64);
+            if have_first_urls(&batch) {
+                self.append_harvests(rt, settings, merger, &batch);
             }
         }
     }
 
     /// Walks the jobs, and appends their harvests.
-    fn append_harvests<R>(&mut self, rt: &R, merger: &mut Merger, jobs: &[Job], workers: usize)
+    fn append_harvests<R>(&mut self, rt: &R, settings: &Settings, merger: &mut Merger, jobs: &[Job])
     where
         R: SocketRuntime + Threads + Sync,
-        requires workers { 1 ≤ workers × workers ≤ MAX_WORKERS }
         requires first_urls { All HasFirstUrl jobs.now }
     {
-        let Ok(outcomes) = run_round(rt, &HyperFetch, jobs, workers) else {
+        let patience = Patience::of_seconds(settings.patience);
+        let Ok(outcomes) = run_round(rt, &PatientFetch { patience }, jobs, settings.workers) else {
             return;
         };
         for outcome in outcomes {
@@ -119,13 +114,20 @@ impl Round {
 
     /// Appends what the peer of this number has learnt since it was pulled last, where it answers with a delta that
     /// follows on the held cursor. Else the cursor stays, and the next round asks from it again.
-    fn pull<R>(&mut self, rt: &R, merger: &mut Merger, number: u64, peer: &Clean)
+    fn pull<R>(
+        &mut self,
+        rt: &R,
+        merger: &mut Merger,
+        number: u64,
+        peer: &Clean,
+        patience: Patience,
+    )
     where
         R: SocketRuntime,
         ensures { Pulls number self.old merger.old self.new merger.new
             ⊎ PullsNothing self.old merger.old self.new merger.new }
     {
-        let Ok(delta) = pull_state(rt, peer, merger.cursor(number)) else {
+        let Ok(delta) = pull_within(rt, patience, peer, merger.cursor(number)) else {
             return;
         };
         if merger.append_delta(number, &delta).is_ok() {
@@ -134,21 +136,46 @@ impl Round {
     }
 }
 
-/// The jobs of an archive for these originals, but for those that memory is refused for.
-fn jobs_of(
-    alloc: Global,
-    archive: ArchiveName,
-    timemap: &Clean,
-    revision: u64,
-    originals: &[Original],
-) -> Vec<Job> {
+/// The archive and the original of a job, by their places in the settings.
+#[derive(Clone, Copy, Debug, PartialEq, Eq)]
+struct Turn {
+    archive: usize,
+    original: usize,
+}
+
+/// Whose turn the job of this number is: archives come by turns, and all of them for an original before the next, so
+/// that no archive is asked by all workers where there are several. None where there is no archive.
+fn turn_of(number: usize, archives: usize) -> Option<Turn>
+    ensures none { result ≡ None → archives ≡ 0 }
+    ensures archive { IfSome result (λ turn. turn.archive < archives) }
+    ensures number { IfSome result (λ turn. turn.original * archives + turn.archive ≡ number) }
+{
+    if archives == 0 {
+        return None;
+    }
+    Some(Turn {
+        archive: number % archives,
+        original: number / archives,
+    })
+}
+
+/// The jobs of these numbers, but for those that memory is refused for.
+fn jobs_of(alloc: Global, settings: &Settings, revision: u64, numbers: Range<usize>) -> Vec<Job> {
     let mut jobs = Vec::new(alloc);
-    for original in originals {
-        if let Some(job) = job_of(alloc, archive, timemap, revision, original) {
+    for number in numbers {
+        if let Some(job) = job_at(alloc, settings, revision, number) {
             let _ = jobs.push(job);
         }
     }
     jobs
+}
+
+/// The job of this number, where there is one. None also where memory is refused, or its URL is too long.
+fn job_at(alloc: Global, settings: &Settings, revision: u64, number: usize) -> Option<Job> {
+    let turn = turn_of(number, settings.archives.len())?;
+    let (archive, timemap) = settings.archives.get(turn.archive)?;
+    let original = settings.originals.get(turn.original)?;
+    job_of(alloc, *archive, timemap, revision, original)
 }
 
 /// The job of an archive for an original: its first URL is the archive's `timemap` with the original behind it. None

@@ -1,19 +1,20 @@
 //! The settings of a service, read from TOML.
 //!
-//! Keys are looked for in the order of `Key`, and the first that is missing or holds what it may not is the fault.
-//! Other keys aren't looked at.
+//! Keys are looked for in the order of `Key`, and the first that is missing or holds what it may not is the fault. An
+//! optional key may be missing. Other keys aren't looked at.
 ghost use Rattle.std.specs.Prelude.{◌≡◌, ◌<◌, length};
 ghost use Rattle.aggregator_service.specs.Limits.{IsWithin};
 ghost use Rattle.aggregator_service.specs.declared.settings.fault.Key.TheVariants.{Gates, Connections, Rounds, Pause};
-ghost use Rattle.aggregator_service.specs.declared.settings.fault.Key.TheVariants.{Workers, Originals, Peers, Archives};
+ghost use Rattle.aggregator_service.specs.declared.settings.fault.Key.TheVariants.{Workers, Originals, Peers, Archives, Patience};
 
 mod archives;
 mod fault;
 mod values;
 
 use crate::settings::archives::archives_at;
-use crate::settings::values::{gates_at, number_at, originals_at, peers_at, service_at};
+use crate::settings::values::{gates_at, number_at, number_or, originals_at, peers_at, service_at};
 pub use fault::{Key, SettingsFault};
+use hyper_edge::DEFAULT_PATIENCE;
 use memento_time::{ArchiveName, Clean, Original};
 use std::alloc::Global;
 use timemap_writer::Service;
@@ -43,6 +44,9 @@ pub struct Settings {
     pub peers: Vec<Clean>,
     /// The archives: names, none twice, and the text that stands before an original in the address of its TimeMap.
     pub archives: Vec<(ArchiveName, Clean)>,
+    /// Seconds that an archive or a peer may take over a connection and the head of its answer; ten times as many for
+    /// the whole answer.
+    pub patience: u64,
 
     ghost few_gates: { IsWithin Gates (length gates.items) },
     ghost few_connections: { IsWithin Connections connections },
@@ -52,6 +56,7 @@ pub struct Settings {
     ghost few_originals: { IsWithin Originals (length originals.items) },
     ghost few_peers: { IsWithin Peers (length peers.items) },
     ghost few_archives: { IsWithin Archives (length archives.items) },
+    ghost fair_patience: { IsWithin Patience patience },
 }
 
 /// Reads settings: `Text` where the text is no TOML or has over 1,048,576 bytes.
@@ -78,6 +83,7 @@ fn settings_of(alloc: Global, table: &Table) -> Result<Settings, SettingsFault> 
     let originals = originals_at(alloc, table)?;
     let peers = peers_at(alloc, table)?;
     let archives = archives_at(alloc, table)?;
+    let patience = number_or(table, Key::Patience, DEFAULT_PATIENCE)?;
     Ok(Settings {
         base,
         gates,
@@ -88,5 +94,6 @@ fn settings_of(alloc: Global, table: &Table) -> Result<Settings, SettingsFault> 
         originals,
         peers,
         archives,
+        patience,
     })
 }

@@ -20,12 +20,23 @@ pub(crate) fn service(alloc: Global) -> Result<Service> {
 /// What an archive has of http://a.example/: one memento, so many days after the first of January 2000.
 pub(crate) fn merge(alloc: Global, archive: &[u8], days: u64, uri: &[u8]) -> Result<Merge> {
     let second = FIRST_SECOND.saturating_add(days.saturating_mul(86_400));
+    merge_at(alloc, archive, 1, second, uri)
+}
+
+/// What an archive has of http://a.example/ at a revision: one memento of this second.
+pub(crate) fn merge_at(
+    alloc: Global,
+    archive: &[u8],
+    revision: u64,
+    second: u64,
+    uri: &[u8],
+) -> Result<Merge> {
     let at = Moment::from_secs(second).context("no moment")?;
     let uri = Clean::new(alloc, uri)?;
     let mementos = vec![in alloc; Memento { at, uri }]?;
     let archive = ArchiveName::new(archive).context("no name")?;
     let original = Original::new(alloc, b"http://a.example/")?;
-    Ok(Merge::Harvest(Harvest::new(archive, &original, 1, mementos)?))
+    Ok(Merge::Harvest(Harvest::new(archive, &original, revision, mementos)?))
 }
 
 /// So many mementos of the original of this number, one a day, at this revision.

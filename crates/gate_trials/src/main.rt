@@ -2,8 +2,12 @@
 //!
 //! - `gate_trials rounds COUNT`: so often, a gate learns the receipt of a publish while another, that isn't told, is
 //!   asked in a second thread.
+//! - `gate_trials climbs`: 200 publishes, each beside two gates that were told of the one before and are asked in
+//!   threads of their own.
+//! - `gate_trials doors`: gates over sockets, two at once, and one whose client closes after a byte of its reply.
 //! - `gate_trials refusals`: publishes and asks, and calls again whatever was refused memory. Whichever request is
 //!   refused, the same is printed (`tests/memory/run` refuses each in turn).
+//! - `gate_trials replies`: replies over sockets, with the same promise.
 //! - `gate_trials readers GATES`: how many replies a second so many gates give in threads of their own, alone and while
 //!   the merger publishes as fast as it can (`bench/run`).
 //! - `gate_trials publishes`: how long a publish takes, by the number of pending merges.
@@ -12,6 +16,8 @@
 //! With no words it does nothing.
 #![tactic(auto)]
 
+mod climbs;
+mod doors;
 mod harvests;
 mod refusals;
 mod replies;
@@ -26,7 +32,10 @@ use std::env::{self, Env};
 enum Trial {
     Nothing,
     Rounds { count: u32 },
+    Climbs,
+    Doors,
     Refusals,
+    Replies,
     Readers { gates: u32 },
     Publishes,
     Memory,
@@ -45,7 +54,10 @@ fn trial_of(rt: &(impl Env + Alloc)) -> Result<Trial> {
                 count: count.parse::<u32>()?,
             })
         }
+        "climbs" => Ok(Trial::Climbs),
+        "doors" => Ok(Trial::Doors),
         "refusals" => Ok(Trial::Refusals),
+        "replies" => Ok(Trial::Replies),
         "readers" => {
             let gates = count.context("how many gates?")?;
             Ok(Trial::Readers {
@@ -71,10 +83,25 @@ fn main(rt: HostRuntime) -> Result<()> {
             rounds::play(&rt, alloc, count)?;
             println!(rt; "{count} rounds")?;
         }
+        Trial::Climbs => {
+            climbs::play(&rt, alloc)?;
+            println!(rt; "{} publishes", climbs::PUBLISHES)?;
+        }
+        Trial::Doors => {
+            doors::meet(&rt)?;
+            let faults = doors::leave(&rt)?;
+            println!(rt;
+                "two gates were served at once, and the next client behind one that left; faults {faults}"
+            )?;
+        }
         Trial::Refusals => {
             for reply in &refusals::perform(&rt, alloc)? {
                 replies::print(&rt, reply)?;
             }
+        }
+        Trial::Replies => {
+            doors::insist(&rt)?;
+            println!(rt; "each client got its reply, or a refusal and the next its reply")?;
         }
         Trial::Readers { gates } => speeds::measure_readers(&rt, alloc, gates)?,
         Trial::Publishes => speeds::measure_publishes(&rt, alloc)?,

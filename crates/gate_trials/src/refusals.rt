@@ -5,7 +5,6 @@ use crate::harvests::{INCARNATION, merge, request, service};
 use crate::replies::is_same;
 use anyhow::{Result, anyhow, bail};
 use memento_index::Merge;
-use memento_time::NoMemory;
 use published_index::{Gate, GateFault, Merger, Receipt, open};
 use std::alloc::Global;
 use std::sync::Wait;
@@ -56,8 +55,8 @@ fn learn_and_ask(gate: &mut Gate, receipt: Receipt, question: &Request) -> Resul
     ask(gate, question)
 }
 
-/// Publishes, and asks the gate that learnt the receipt. A refused publish is told of first, which must change no
-/// reply, and then made again.
+/// Publishes, and asks the gate that learnt the receipt. A refused publish is told of first, when the gate must show
+/// nothing, and then made again.
 fn publish_and_ask<R: Wait>(
     rt: &R,
     merger: &mut Merger,
@@ -73,8 +72,8 @@ fn publish_and_ask<R: Wait>(
         Err(_) => {
             let before = ask(gate, question)?;
             let after = learn_and_ask(gate, merger.tell(), question)?;
-            if !is_same(&before, &after) {
-                bail!("a refused publish changed a reply");
+            if after.status != 404 || !is_same(&before, &after) {
+                bail!("a refused publish showed something");
             }
             match merger.publish(rt) {
                 Ok(receipt) => learn_and_ask(gate, receipt, question),
@@ -84,14 +83,19 @@ fn publish_and_ask<R: Wait>(
     }
 }
 
-/// Appends, once more where memory was refused.
-fn append(merger: &mut Merger, merge: &Merge) -> Result<(), NoMemory>
-    ensures { merger.new.opening ≡ merger.old.opening }
+/// Appends, once more where memory was refused: then the gate that was told of all that is published shows nothing.
+fn append(merger: &mut Merger, gate: &mut Gate, merge: &Merge, question: &Request) -> Result<()>
+    requires { gate.old.opening ≡ merger.old.opening }
+    ensures gate { gate.new.opening ≡ gate.old.opening }
+    ensures merger { merger.new.opening ≡ merger.old.opening }
 {
-    match merger.append(merge) {
-        Ok(()) => Ok(()),
-        Err(NoMemory) => merger.append(merge),
+    if merger.append(merge).is_ok() {
+        return Ok(());
     }
+    if learn_and_ask(gate, merger.tell(), question)?.status != 404 {
+        bail!("a refused append showed something");
+    }
+    Ok(merger.append(merge)?)
 }
 
 /// Publishes nothing, then two merges at once, and asks after each publish.
@@ -104,8 +108,8 @@ fn exchange<R: Wait>(
     requires { gate.old.opening ≡ merger.old.opening }
 {
     let nothing = publish_and_ask(rt, merger, gate, &play.question)?;
-    append(merger, &play.first)?;
-    append(merger, &play.second)?;
+    append(merger, gate, &play.first, &play.question)?;
+    append(merger, gate, &play.second, &play.question)?;
     let both = publish_and_ask(rt, merger, gate, &play.question)?;
     Ok((nothing, both))
 }

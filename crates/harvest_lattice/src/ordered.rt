@@ -1,9 +1,9 @@
 //! Lists of parts in order.
-ghost use Rattle.std.specs.Prelude.{◌≡◌, ◌++◌, ◌<◌, ◌≤◌, length, reverse, IfOk, OnOk, None, cond, nat_lt, option_copied, slice_get};
+ghost use Rattle.std.specs.Prelude.{◌≡◌, ◌∷◌, ◌++◌, ◌<◌, ◌≤◌, length, reverse, map as map_list, IfOk, IfSome, OnOk, None, cond, nat_lt, option_copied, slice_get};
 ghost use Rattle.std.specs.List.{All};
 ghost use Rattle.std.specs.Ordering.{nat_cmp};
 ghost use Rattle.std.specs.FinMap as map;
-ghost use Rattle.harvest_lattice.specs.Knowledge.{items_of};
+ghost use Rattle.harvest_lattice.specs.Knowledge.{items_of, union_all};
 ghost use Rattle.harvest_lattice.specs.Parts.{PartsRise, IsPlace, IsParted, is_of, found_set, put_part, put_parts, with_standing, whole_first};
 
 use crate::part::Part;
@@ -115,6 +115,34 @@ fn beside(standing: Option<Part>, part: &Part, before: Option<&Part>) -> Result<
         Some(before) => part.like(before),
         None => part.try_clone(),
     }
+}
+
+// Has each part share the list of the one before it, where the two have the same mementos.
+pub fn share_alike(parts: &mut Vec<Part>) -> Result<(), NoMemory>
+    ensures { parts.new.items ≡ parts.old.items }
+{
+    for k in 1..parts.len() {
+        let alike = parts[k].like(&parts[k - 1])?;
+        parts[k] = alike;
+    }
+    Ok(())
+}
+
+// A part that has the mementos of all, where each has those of all before it or has none beside them.
+pub fn widest<'a>(first: &'a Part, later: &'a [Part]) -> Option<&'a Part>
+    ensures { IfSome result (λ part. part.now.1 ≡ union_all (map_list (λ p. p.1) (first.now ∷ later.now))) }
+{
+    let mut widest = first;
+    for part in later {
+        if part.set().is_subset(widest.set()) {
+            continue;
+        }
+        if !widest.set().is_subset(part.set()) {
+            return None;
+        }
+        widest = part;
+    }
+    Some(widest)
 }
 
 // Whether each revision is below the next one.

@@ -20,6 +20,6 @@ walk_words (Fetch fault) = fetch_words fault
 walk_words (Status status) = codes "status " ++ decimal status
 walk_words Encoded = codes "a content coding"
 walk_words (Page fault) = page.words_of fault
-walk_words TooManyPages = codes "more than 64 pages"
+walk_words TooManyPages = codes "more than 128 pages"
 walk_words TooManyMementos = codes "more than 100,000 mementos"
 walk_words NoMemory = codes "no memory"

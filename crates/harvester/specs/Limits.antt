@@ -4,7 +4,7 @@ use Rattle.harvest_lattice.specs.declared.harvest.TheConstants.Harvest.{MAX_MEME
 
 -- the most URLs of a job that are known
 abbrev pub max_pages : ℕ
-max_pages = 64
+max_pages = 128
 
 -- the most distinct mementos of a job's pages: those that a harvest may have
 abbrev pub max_mementos : ℕ

@@ -28,7 +28,7 @@ impl Model for MemoryFetch {
 }
 
 impl MemoryFetch {
-    /// No rows.
+    /// A fetch without rows, which fails for each URL.
     pub fn new(alloc: Global) -> MemoryFetch
         ensures { result ≡ [] }
     {
@@ -37,7 +37,7 @@ impl MemoryFetch {
         }
     }
 
-    /// Adds a row. Of several rows of one URL the first is answered.
+    /// Adds a row: what is answered for a URL. Of several rows of one URL the first is answered.
     pub fn add(&mut self, url: Clean, answer: Answer) -> Result<(), NoMemory>
         ensures ok { OnOk result (self.new ≡ self.old ++ (url, answer) ∷ []) }
         ensures err { OnErr result (self.new ≡ self.old) }

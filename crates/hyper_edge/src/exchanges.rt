@@ -5,6 +5,7 @@ ghost use Rattle.hyper.specs.Error.{kind_of};
 ghost use Rattle.hyper.specs.declared.error.Kind.TheVariants.{OutOfMemory as HyperOutOfMemory};
 ghost use Rattle.hyper_edge.specs.Exchanges.{IsAnswerOf, IsRequestFor};
 
+use crate::patience::Patience;
 use crate::targets::target_of;
 use bytes::Bytes;
 use futures::future::Either;
@@ -16,19 +17,47 @@ use hyper::{Request, header};
 use memento_time::{Items, Octets};
 use std::alloc::{AllocError, AllocGlobal, Global};
 use std::hash::RandomState;
-use std::io;
-use std::net::{Net, TcpListener, TcpStream, ToSocketAddrs};
+use std::net::{Net, SocketAddr, TcpListener, TcpStream, ToSocketAddrs};
 use std::random::RandomSource;
 use std::sync::Wait;
-use std::time::Clock;
+use std::time::{Clock, Instant};
+use std::{io, vec};
 use tokio::io::{AsyncRead, AsyncWrite};
 use tokio::net;
 use tokio::runtime::LocalRuntime;
 use url::{Position, Url};
 use url_texts::read_url;
 
-/// What is fetched by GET over a fresh connection; a body over `most` bytes is TooLong. An https URL is Failed.
-pub(crate) fn get<R>(rt: &R, url: &str, most: usize) -> Result<Answer, FetchFault>
+/// Until when the other side is waited for.
+#[derive(Clone, Copy)]
+struct Deadlines {
+    /// For the connection and the head of the answer.
+    head: Instant,
+    /// For the whole answer.
+    body: Instant,
+}
+
+impl Deadlines {
+    /// The deadlines of what begins now.
+    fn of(clock: &impl Clock, patience: Patience) -> Result<Deadlines, FetchFault> {
+        let now = Instant::now(clock).map_err(|error| fault_of(&error))?;
+        let head = now.checked_add(patience.for_head());
+        let body = now.checked_add(patience.for_body());
+        match (head, body) {
+            (Some(head), Some(body)) => Ok(Deadlines { head, body }),
+            _ => Err(FetchFault::Failed),
+        }
+    }
+}
+
+/// What is fetched by GET over a fresh connection; a body over `most` bytes is TooLong. An https URL is Failed, and so
+/// is one whose answer doesn't come within the patience. The name is looked up by std, for which there is no limit.
+pub(crate) fn get<R>(
+    rt: &R,
+    patience: Patience,
+    url: &str,
+    most: usize,
+) -> Result<Answer, FetchFault>
 where
     R: Wait + Clock + Net<Listener = TcpListener, Stream = TcpStream> + RandomSource + AllocGlobal,
     ensures { IfOk result (λ answer. length answer.body ≤ most) }
@@ -39,8 +68,10 @@ where
     };
     let request = request_for(alloc, url, &address)?;
     let mut runtime = LocalRuntime::new(rt).map_err(|error| fault_of(&error))?;
-    let stream = connect(rt, &mut runtime, &address)?;
-    exchange(rt, &mut runtime, stream, request, most)
+    let addresses = addresses_of(rt, &address)?;
+    let deadlines = Deadlines::of(rt, patience)?;
+    let stream = connect(rt, &mut runtime, addresses, deadlines)?;
+    exchange(rt, &mut runtime, stream, request, most, deadlines)
 }
 
 fn fault_of(error: &io::Error) -> FetchFault {
@@ -83,35 +114,55 @@ fn request_for(alloc: Global, url: &str, address: &Url) -> Result<Request<Empty<
     }
 }
 
-/// A connection to the first of the host's addresses that takes one.
-fn connect<R>(rt: &R, runtime: &mut LocalRuntime, url: &Url) -> Result<net::TcpStream, FetchFault>
-where
-    R: Wait + Clock + Net + RandomSource + AllocGlobal,
-{
+/// The addresses of a URL's host, with its port.
+fn addresses_of(rt: &(impl Net + AllocGlobal), url: &Url) -> Result<Vec<SocketAddr>, FetchFault> {
     let (Some(host), Some(port)) = (url.host_str(), url.port_or_known_default()) else {
         return Err(FetchFault::Failed);
     };
     let addresses = (host, port)
         .to_socket_addrs(rt)
         .map_err(|error| fault_of(&error))?;
+    addresses
+        .collect(rt.alloc())
+        .map_err(|_| FetchFault::NoMemory)
+}
+
+/// A connection to the first of the addresses that takes one in time.
+fn connect<R>(
+    rt: &R,
+    runtime: &mut LocalRuntime,
+    addresses: Vec<SocketAddr>,
+    deadlines: Deadlines,
+) -> Result<net::TcpStream, FetchFault>
+where
+    R: Wait + Clock + Net + RandomSource + AllocGlobal,
+{
     for address in addresses {
         let connecting = net::TcpStream::connect(rt, address, runtime.handle().reactor());
+        let Ok(limited) = runtime
+            .handle()
+            .time()
+            .timeout_at(deadlines.head, connecting)
+        else {
+            return Err(FetchFault::NoMemory);
+        };
         let connected = runtime
-            .block_on(rt, connecting)
+            .block_on(rt, limited)
             .map_err(|error| fault_of(&error))?;
-        if let Ok(stream) = connected {
+        if let Ok(Ok(stream)) = connected {
             return Ok(stream);
         }
     }
     Err(FetchFault::Failed)
 }
 
-/// What `wanted` gives, while the connection is kept going, and the connection if it hasn't ended.
+/// What `wanted` gives in time, while the connection is kept going, and the connection if it hasn't ended.
 fn while_connected<R, F, C>(
     rt: &R,
     runtime: &mut LocalRuntime,
     wanted: F,
     connection: Option<C>,
+    deadline: Instant,
 ) -> io::Result<(F::Output, Option<C>)>
 where
     R: Wait + Clock + RandomSource + AllocGlobal,
@@ -122,14 +173,15 @@ where
     ensures gives { IfOk result (λ r. F.gives wanted r.0) }
     ensures left { IfOk result (λ r. IfSome r.1 C.can_poll) }
 {
+    let wanted = runtime.handle().time().timeout_at(deadline, wanted)?;
     let Some(connection) = connection else {
-        let given = runtime.block_on(rt, wanted)?;
+        let given = runtime.block_on(rt, wanted)??;
         return Ok((given, None));
     };
     match runtime.block_on(rt, future::select(wanted, connection))? {
-        Either::Left((given, connection)) => Ok((given, Some(connection))),
+        Either::Left((given, connection)) => Ok((given?, Some(connection))),
         Either::Right((_ended, wanted)) => {
-            let given = runtime.block_on(rt, wanted)?;
+            let given = runtime.block_on(rt, wanted)??;
             Ok((given, None))
         }
     }
@@ -142,6 +194,7 @@ fn exchange<R, I>(
     stream: I,
     request: Request<Empty<Bytes>>,
     most: usize,
+    deadlines: Deadlines,
 ) -> Result<Answer, FetchFault>
 where
     R: Wait + Clock + RandomSource + AllocGlobal,
@@ -156,17 +209,25 @@ where
     };
     let response = sender.send_request(request);
     drop(sender);
-    let (response, connection) = while_connected(rt, runtime, response, Some(connection)).map_err(
-        |error| fault_of(&error),
-    )?;
+    let (response, connection) = while_connected(
+        rt,
+        runtime,
+        response,
+        Some(connection),
+        deadlines.head,
+    ).map_err(|error| fault_of(&error))?;
     let (head, body) = match response {
         Ok(response) => response.into_parts(),
         Err(error) => return Err(fault_of_hyper(&error)),
     };
     let body = Limited::new(body, most).collect(alloc);
-    let (collected, _connection) = while_connected(rt, runtime, body, connection).map_err(
-        |error| fault_of(&error),
-    )?;
+    let (collected, _connection) = while_connected(
+        rt,
+        runtime,
+        body,
+        connection,
+        deadlines.body,
+    ).map_err(|error| fault_of(&error))?;
     match collected {
         Ok(collected) => within(answer_of(alloc, &head, collected), most),
         Err(LimitedError::LengthLimit) => Err(FetchFault::TooLong),

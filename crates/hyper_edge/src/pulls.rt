@@ -5,6 +5,7 @@ ghost use Rattle.hyper_edge.specs.Pulls.{Brings, IsBrought, IsRefusedFor};
 
 use crate::exchanges::get;
 use crate::faults::PullFault;
+use crate::patience::Patience;
 use harvester::Answer;
 use memento_time::Clean;
 use replica_exchange::{Cursor, Delta, StateFault, read_delta};
@@ -18,8 +19,24 @@ use std::time::Clock;
 const MAX_DELTA: usize = 268_435_456;
 
 /// The delta of a peer from a cursor, or from none: what it answers for `/delta/I/N` or `/delta` under its base, which
-/// is kept without the last `/`. Where it starts is the peer's word: whoever takes it looks whether it fits.
+/// is kept without the last `/`. Where it starts is the peer's word: whoever takes it looks whether it fits. A peer
+/// whose answer doesn't come within a minute (`Patience::default`) is Failed.
 pub fn pull_state<R>(rt: &R, peer: &Clean, cursor: Option<Cursor>) -> Result<Delta, PullFault>
+where
+    R: Wait + Clock + Net<Listener = TcpListener, Stream = TcpStream> + RandomSource + AllocGlobal,
+    ensures brought { IfOk result IsBrought }
+    ensures status { IfErr result (λ fault. fault ≢ PullFault.Status 200) }
+{
+    pull_within(rt, Patience::default(), peer, cursor)
+}
+
+/// What `pull_state` gives, by a patience of its own.
+pub fn pull_within<R>(
+    rt: &R,
+    patience: Patience,
+    peer: &Clean,
+    cursor: Option<Cursor>,
+) -> Result<Delta, PullFault>
 where
     R: Wait + Clock + Net<Listener = TcpListener, Stream = TcpStream> + RandomSource + AllocGlobal,
     ensures brought { IfOk result IsBrought }
@@ -27,7 +44,7 @@ where
 {
     let alloc = rt.alloc();
     let url = delta_url(alloc, peer, cursor)?;
-    let answer = get(rt, url.as_str(), MAX_DELTA)?;
+    let answer = get(rt, patience, url.as_str(), MAX_DELTA)?;
     delta_in(alloc, &answer)
 }
 

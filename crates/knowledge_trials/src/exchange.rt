@@ -1,4 +1,5 @@
-//! Tests of `replica_exchange`: the texts of states and of deltas, the numbers of merges, and cursors.
+//! Tests of `replica_exchange`: the texts of states and of deltas, the numbers of merges, and cursors. Texts that are
+//! none stand in `tests/scripts` and `tests/rounds`, at the repository's top.
 use crate::captures::{Capture, FIRST, ROOT, SECOND, root};
 use crate::makers::{harvest, merge, part_harvest};
 use anyhow::Result;
@@ -175,21 +176,6 @@ fn is_no_state(alloc: Global, text: &[u8]) -> bool {
     matches!(read_state(alloc, text), Err(StateFault::NotState))
 }
 
-// The text of a state of this format with one entry, whose lines these are behind the name of its archive.
-fn one_entry(alloc: Global, format: &[u8], lines: &[u8]) -> Result<Vec<u8>> {
-    let mut text = Vec::new(alloc);
-    text.extend_from_slice(b"memento-state ")?;
-    text.extend_from_slice(format)?;
-    text.extend_from_slice(b"\nentries 1\nentry a1 ")?;
-    text.extend_from_slice(lines)?;
-    text.extend_from_slice(b"end\n")?;
-    Ok(text)
-}
-
-fn is_no_entry(alloc: Global, format: &[u8], lines: &[u8]) -> Result<bool> {
-    Ok(is_no_state(alloc, &one_entry(alloc, format, lines)?))
-}
-
 #[test]
 fn cut_texts_are_no_states(rt: HostRuntime) {
     let alloc = rt.alloc();
@@ -197,81 +183,6 @@ fn cut_texts_are_no_states(rt: HostRuntime) {
         for end in 0..text.len() {
             assert!(rt; is_no_state(alloc, &text[..end]), "cut at {end}");
         }
-    }
-}
-
-#[test]
-fn other_revisions_are_no_entries(rt: HostRuntime) -> Result<()> {
-    let alloc = rt.alloc();
-    assert!(rt; !is_no_entry(alloc, b"2", b"2 1 http://a.example/\nat 2 0\n")?);
-    assert!(rt; !is_no_entry(alloc, b"2", b"- 1 http://a.example/\nat 2 0\n")?);
-    let others: [&[u8]; 16] = [
-        // A revision below the whole one, and a whole one that isn't the first or isn't there.
-        b"2 2 http://a.example/\nat 1 0\nat 2 0\n",
-        b"2 1 http://a.example/\nat 1 0\n",
-        b"2 1 http://a.example/\nat 3 0\n",
-        // Revisions out of order, twice, or none.
-        b"- 2 http://a.example/\nat 3 0\nat 2 0\n",
-        b"- 2 http://a.example/\nat 2 0\nat 2 0\n",
-        b"2 0 http://a.example/\n",
-        b"- 0 http://a.example/\n",
-        // Other numbers of lines than are told.
-        b"- 2 http://a.example/\nat 2 0\n",
-        b"- 1 http://a.example/\nat 2 0\nat 3 0\n",
-        b"2 1 http://a.example/\nat 2 1\n",
-        b"2 1 http://a.example/\nat 2 0\n9 http://m.example/1\n",
-        b"- 18446744073709551615 http://a.example/\nat 2 0\n",
-        // Numbers that are none.
-        b"02 1 http://a.example/\nat 2 0\n",
-        b"-- 1 http://a.example/\nat 2 0\n",
-        b"- 1 http://a.example/\nat 18446744073709551616 0\n",
-        // An entry of format 1.
-        b"2 1 http://a.example/\n9 http://m.example/1\n",
-    ];
-    for lines in others {
-        assert!(rt; is_no_entry(alloc, b"2", lines)?);
-    }
-    Ok(())
-}
-
-#[test]
-fn other_lines_are_no_old_entries(rt: HostRuntime) -> Result<()> {
-    let alloc = rt.alloc();
-    assert!(rt; !is_no_entry(alloc, b"1", b"2 0 http://a.example/\n")?);
-    let others: [&[u8]; 8] = [
-        // Entries of format 2.
-        b"2 1 http://a.example/\nat 2 1\n9 http://m.example/1\n",
-        b"- 1 http://a.example/\nat 2 0\n",
-        b"02 0 http://a.example/\n",
-        b"2 2 http://a.example/\n10 http://m.example/1\n9 http://m.example/1\n",
-        b"2 2 http://a.example/\n9 http://m.example/1\n9 http://m.example/1\n",
-        b"2 1 http://a.example/\n9 http://m.example/1\n9 http://m.example/2\n",
-        b"2 1 http://a.example/\n253402300800 http://m.example/1\n",
-        b"2 18446744073709551615 http://a.example/\n",
-    ];
-    for lines in others {
-        assert!(rt; is_no_entry(alloc, b"1", lines)?);
-    }
-    Ok(())
-}
-
-#[test]
-fn other_texts_are_no_states(rt: HostRuntime) {
-    let alloc = rt.alloc();
-    let others: [&[u8]; 10] = [
-        b"memento-state 2\nentries 2\nentry b1 1 1 http://a.example/\nat 1 0\nentry a1 1 1 http://a.example/\nat 1 0\nend\n",
-        b"memento-state 2\nentries 2\nentry a1 1 1 http://a.example/\nat 1 0\nentry a1 1 1 http://a.example/\nat 1 0\nend\n",
-        b"memento-state 3\nentries 0\nend\n",
-        b"memento-state 02\nentries 0\nend\n",
-        b"memento-state 2\nentries 0\nend\n\n",
-        b"memento-state 2\nentries 00\nend\n",
-        b"memento-state 2\r\nentries 0\r\nend\r\n",
-        b"memento-state 2\nentries  0\nend\n",
-        b"memento-state 2\nentries 18446744073709551615\n",
-        b"memento-delta 2\nentries 0\nend\n",
-    ];
-    for text in others {
-        assert!(rt; is_no_state(alloc, text));
     }
 }
 
@@ -502,6 +413,19 @@ fn cursors_go_forward(rt: HostRuntime) -> Result<()> {
     Ok(())
 }
 
+// A text of one byte more is refused as too long, and not as a text that is none.
+#[test]
+fn texts_have_at_most_268_435_456_bytes(rt: HostRuntime) -> Result<()> {
+    let alloc = rt.alloc();
+    let long = vec![in alloc; b'\n'; 268_435_457]?;
+    assert!(rt; read_state(alloc, &long).err() == Some(StateFault::TooLong));
+    assert!(rt; read_delta(alloc, &long).err() == Some(StateFault::TooLong));
+    let most = without_last(&long);
+    assert!(rt; is_no_state(alloc, most));
+    assert!(rt; is_no_delta(alloc, most));
+    Ok(())
+}
+
 fn is_no_delta(alloc: Global, text: &[u8]) -> bool {
     matches!(read_delta(alloc, text), Err(StateFault::NotState))
 }
@@ -513,27 +437,5 @@ fn cut_texts_are_no_deltas(rt: HostRuntime) {
         for end in 0..text.len() {
             assert!(rt; is_no_delta(alloc, &text[..end]), "cut at {end}");
         }
-    }
-}
-
-#[test]
-fn other_texts_are_no_deltas(rt: HostRuntime) {
-    let alloc = rt.alloc();
-    let others: [&[u8]; 12] = [
-        b"memento-delta 2\nfrom 1 3 2\nentries 0\nend\n",
-        b"memento-delta 2\nfrom 1 18446744073709551616 18446744073709551616\nentries 0\nend\n",
-        b"memento-delta 2\nfrom 18446744073709551616 0 0\nentries 0\nend\n",
-        b"memento-delta 2\nfrom 1 0 1\nentries 1\nentry a1 3 0 http://a.example/\nend\n",
-        b"memento-delta 1\nfrom 1 0 1\nentries 1\nentry a1 3 1 http://a.example/\nat 3 0\nend\n",
-        b"memento-delta 2\nfrom 1 0 1\nentries 1\nentry a1 3 1 http://a.example/\nat 2 0\nend\n",
-        b"memento-delta 2\nfrom 1 0 1\nentries 18446744073709551615\n",
-        b"memento-delta 2\nfrom 01 0 1\nentries 0\nend\n",
-        b"memento-delta 2\nfrom 1 0\nentries 0\nend\n",
-        b"memento-delta 2\nentries 0\nend\n",
-        b"memento-delta 2\nfrom 1 0 1\nentries 0\nend\n\n",
-        b"memento-state 2\nentries 0\nend\n",
-    ];
-    for text in others {
-        assert!(rt; is_no_delta(alloc, text));
     }
 }

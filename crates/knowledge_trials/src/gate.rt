@@ -1,14 +1,13 @@
-//! Tests of `timegate`. The whole texts of TimeMaps and redirects stand in `examples/*.expected`, at the repository's top.
+//! Tests of `timegate`. Whole texts, refusals and targets that lead nowhere stand in `examples` and `tests/scripts`, at
+//! the repository's top.
 use crate::captures::{Capture, FIRST, ROOT, SECOND, THIRD};
 use crate::makers::{location, merge, request};
 use anyhow::{Result, bail};
-use harvest_lattice::Harvest;
-use memento_index::Merge;
 use memento_time::Octets;
 use replica_exchange::Stamped;
 use std::alloc::Global;
 use std::test::*;
-use text_trials::makers::{archive, mementos, original, service};
+use text_trials::makers::service;
 use timegate::{Header, Reply, answer};
 
 const GATE: &str = "/timegate/http://a.example/";
@@ -19,12 +18,6 @@ const MAP: &str = "/timemap/link/http://a.example/";
 const PLAIN: &str = "Content-Type: text/plain\n";
 
 const NO_MEMENTO: &str = "Content-Type: text/plain\nno memento\n";
-
-const NO_ROUTE: &str = "Content-Type: text/plain\nno such route\n";
-
-const BAD_ORIGINAL: &str = "Content-Type: text/plain\nbad original\n";
-
-const BAD_METHOD: &str = "Allow: GET, HEAD\nContent-Type: text/plain\nbad method\n";
 
 // The date in the middle of the first memento and the second.
 const MIDDLE: &str = "Sun, 02 Jan 2000 00:00:00 GMT";
@@ -226,90 +219,8 @@ fn nothing_is_shown(rt: HostRuntime) -> Result<()> {
     )
 }
 
-#[test]
-fn refused_methods(rt: HostRuntime) -> Result<()> {
-    let varied = "Allow: GET, HEAD\nVary: accept-datetime\nContent-Type: text/plain\nbad method\n";
-    check_replies(
-        rt.alloc(),
-        &replica_of(rt.alloc(), &[FIRST])?,
-        &[
-            ("POST", "/state", 405, BAD_METHOD),
-            ("POST", "/delta", 405, BAD_METHOD),
-            ("get", MAP, 405, BAD_METHOD),
-            ("POST", "/timegate/nonsense", 405, varied),
-        ],
-    )
-}
-
-// Whether a request for these datetimes is bad, and is answered with this text.
-fn refuses(
-    alloc: Global,
-    replica: &Stamped,
-    target: &[u8],
-    asked: &[&[u8]],
-    lines: &str,
-) -> Result<bool> {
-    let reply = reply(alloc, replica, "GET", target, asked)?;
-    says(alloc, &reply, 400, lines)
-}
-
-fn check_refusals(alloc: Global, replica: &Stamped) -> Result<()> {
-    let bad_datetime = "Vary: accept-datetime\nContent-Type: text/plain\nbad datetime\n";
-    let middle = MIDDLE.as_bytes();
-    let unread: [&[&[u8]]; 4] = [
-        &[b""],
-        &[b"Tue, 31 Feb 2000 00:00:00 GMT"],
-        &[b"Saturday, 01-Jan-00 00:00:00 GMT"],
-        &[middle, middle],
-    ];
-    for asked in unread {
-        if !refuses(alloc, replica, GATE.as_bytes(), asked, bad_datetime)? {
-            bail!("a bad datetime");
-        }
-    }
-    let bad_original = "Vary: accept-datetime\nContent-Type: text/plain\nbad original\n";
-    let unnamed: [&[u8]; 4] = [
-        b"/timegate/",
-        b"/timegate/nonsense",
-        b"/timegate/http://a.example/\xff",
-        b"/timegate/http%3A%2F%2Fa.example%2F",
-    ];
-    for target in unnamed {
-        if !refuses(alloc, replica, target, &[middle, b""], bad_original)? {
-            bail!("a bad original");
-        }
-    }
-    Ok(())
-}
-
-#[test]
-fn refusals(rt: HostRuntime) -> Result<()> {
-    check_refusals(rt.alloc(), &replica_of(rt.alloc(), &[FIRST])?)
-}
-
-#[test]
-fn other_targets(rt: HostRuntime) -> Result<()> {
-    check_replies(
-        rt.alloc(),
-        &replica_of(rt.alloc(), &[FIRST])?,
-        &[
-            ("GET", "/timemap/link/nonsense", 400, BAD_ORIGINAL),
-            ("HEAD", "/x", 404, PLAIN),
-            ("GET", "/x", 404, NO_ROUTE),
-            ("GET", "/state/", 404, NO_ROUTE),
-            ("GET", "/state?x", 404, NO_ROUTE),
-            ("GET", "/timegate", 404, NO_ROUTE),
-            ("GET", "/timemap/link", 404, NO_ROUTE),
-            ("GET", "/TimeMap/link/http://a.example/", 404, NO_ROUTE),
-        ],
-    )
-}
-
 const STATE: &str =
     "Content-Type: text/plain\nmemento-state 2\nentries 1\nentry arc.example 7 1 http://a.example/\nat 7 1\n946684800 http://m.example/1\nend\n";
-
-const DELTA: &str =
-    "Content-Type: text/plain\nmemento-delta 2\nfrom 1 0 1\nentries 1\nentry arc.example 7 1 http://a.example/\nat 7 1\n946684800 http://m.example/1\nend\n";
 
 // The delta from the present.
 const NO_CHANGE: &str = "Content-Type: text/plain\nmemento-delta 2\nfrom 1 1 1\nentries 0\nend\n";
@@ -322,61 +233,8 @@ fn states_and_deltas(rt: HostRuntime) -> Result<()> {
         &[
             ("GET", "/state", 200, STATE),
             ("HEAD", "/state", 200, PLAIN),
-            ("GET", "/delta", 200, DELTA),
             ("HEAD", "/delta", 200, PLAIN),
-            ("GET", "/delta/1/9", 200, DELTA),
-            ("GET", "/delta/5/1", 200, DELTA),
-            ("GET", "/delta/1/0", 200, DELTA),
-            ("HEAD", "/delta/1/0", 200, PLAIN),
             ("GET", "/delta/1/1", 200, NO_CHANGE),
-            ("HEAD", "/delta/1/1", 200, PLAIN),
-        ],
-    )
-}
-
-// Two parts alone, by revision.
-const PARTS: &str =
-    "Content-Type: text/plain\nmemento-state 2\nentries 1\nentry a1 - 2 http://a.example/\nat 2 1\n946857600 http://m.example/2\nat 3 1\n946684800 http://m.example/1\nend\n";
-
-fn part(alloc: Global, revision: u64, captures: &[Capture]) -> Result<Merge> {
-    let name = archive(b"a1")?;
-    let original = original(alloc, ROOT)?;
-    let mementos = mementos(alloc, captures)?;
-    Ok(Merge::Harvest(Harvest::new_part(name, &original, revision, mementos)?))
-}
-
-// A replica that has taken parts alone, the older one last.
-fn replica_of_parts(alloc: Global) -> Result<Stamped> {
-    let mut stamped = Stamped::new(alloc, 1);
-    stamped.absorb(&part(alloc, 3, &[FIRST])?)?;
-    stamped.absorb(&part(alloc, 2, &[SECOND])?)?;
-    Ok(stamped)
-}
-
-// Where no whole harvest is known, each part is written, and each is shown.
-#[test]
-fn parts_alone(rt: HostRuntime) -> Result<()> {
-    let replica = replica_of_parts(rt.alloc())?;
-    check_replies(rt.alloc(), &replica, &[("GET", "/state", 200, PARTS)])?;
-    check_choices(rt.alloc(), &replica, &[(MIDDLE, FIRST)])
-}
-
-#[test]
-fn no_deltas(rt: HostRuntime) -> Result<()> {
-    check_replies(
-        rt.alloc(),
-        &replica_of(rt.alloc(), &[FIRST])?,
-        &[
-            ("GET", "/delta/", 404, NO_ROUTE),
-            ("GET", "/delta/1", 404, NO_ROUTE),
-            ("GET", "/delta//1", 404, NO_ROUTE),
-            ("GET", "/delta/01/1", 404, NO_ROUTE),
-            ("GET", "/delta/1/+1", 404, NO_ROUTE),
-            ("GET", "/delta/1/1/", 404, NO_ROUTE),
-            ("GET", "/delta/1/1?x", 404, NO_ROUTE),
-            ("GET", "/delta/18446744073709551616/1", 404, NO_ROUTE),
-            ("GET", "/delta/1/18446744073709551616", 404, NO_ROUTE),
-            ("GET", "/deltas", 404, NO_ROUTE),
         ],
     )
 }

@@ -157,49 +157,6 @@ fn a_harvest_says_whether_it_is_a_part(rt: HostRuntime) -> Result<()> {
     Ok(())
 }
 
-// Takes one of five harvests of archive a1.
-fn take_one_of_five(alloc: Global, state: &mut State, which: u64) -> Result<()> {
-    match which {
-        0 => take(alloc, state, b"a1", 5, &[FIRST]),
-        1 => take_part(alloc, state, b"a1", 7, &[SECOND]),
-        2 => take(alloc, state, b"a1", 6, &[THIRD]),
-        3 => take_part(alloc, state, b"a1", 4, &[FIRST]),
-        _ => take(alloc, state, b"a1", 8, &[]),
-    }
-}
-
-// A state of the five harvests in the order that the digits of a number name, in base five: none where it names one
-// twice.
-fn state_of_order(alloc: Global, order: u64) -> Result<Option<State>> {
-    let mut state = State::new(alloc);
-    let mut named = [false; 5];
-    let mut rest = order;
-    for _ in 0..5 {
-        let which = rest % 5;
-        rest /= 5;
-        if named[which as usize] {
-            return Ok(None);
-        }
-        named[which as usize] = true;
-        take_one_of_five(alloc, &mut state, which)?;
-    }
-    Ok(Some(state))
-}
-
-#[test]
-fn every_order_of_wholes_and_parts_ends_the_same(rt: HostRuntime) -> Result<()> {
-    let alloc = rt.alloc();
-    let mut orders = 0u64;
-    for order in 0..3_125 {
-        if let Some(state) = state_of_order(alloc, order)? {
-            assert!(rt; holds(alloc, &state, b"a1", 8, &[])?, "order {order}");
-            orders = orders.saturating_add(1);
-        }
-    }
-    assert!(rt; orders == 120);
-    Ok(())
-}
-
 // Takes a part harvest with no mementos at each of these revisions: from the least on, or in steps that leave gaps and
 // come back between them.
 fn take_empty_parts(alloc: Global, state: &mut State, count: u64, step: u64) -> Result<()> {

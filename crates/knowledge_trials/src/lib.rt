@@ -1,5 +1,6 @@
-//! Trials of the crates that keep and tell what replicas know, from `memento_sets` up to `timegate`: what their contracts
-//! say, on values from outside. They call public functions alone, so that those crates are proved without them.
+//! Trials of the crates that keep and tell what replicas know, from `memento_sets` up to `timegate`: what their
+//! contracts say, on values from outside. They call public functions alone, so that those crates are proved without
+//! them.
 //!
 //! `makers` makes what trials speak of, for those of the crates above too.
 #![tactic(auto)]
@@ -15,6 +16,8 @@ mod index;
 #[cfg(test)]
 mod lattice;
 pub mod makers;
+#[cfg(test)]
+mod pages;
 #[cfg(test)]
 mod plain;
 #[cfg(test)]

@@ -6,6 +6,8 @@
 //! - `layer_bench states COUNT < TEXT`: reads the text of a state and writes it again, COUNT times.
 //! - `layer_bench hostile COUNT < TEXT`: reads the text of a state and absorbs it in an index of nothing, COUNT times.
 //! - `layer_bench memory COUNT`: fills an index with COUNT mementos, ten of each original.
+//! - `layer_bench spread COUNT`: fills an index with 1,000,000 mementos of one archive, as many of each of COUNT
+//!   originals.
 //! - `layer_bench stamped COUNT`: takes these mementos with a replica that stamps its entries.
 //! - `layer_bench last COUNT`, `layer_bench all COUNT`: takes them too, and writes ten times the delta with the last
 //!   merge, or with all merges.
@@ -43,6 +45,7 @@ fn measure(rt: &HostRuntime, kind: &str, count: u32) -> Result<()> {
         "keys" => keys::merge(rt, count),
         "hostile" => hostile::read_and_absorb(rt, &input(rt)?, count),
         "memory" => memory::fill(rt, count),
+        "spread" => memory::spread(rt, count),
         "stamped" => deltas::fill(rt, count),
         "last" => deltas::write_last(rt, count),
         "all" => deltas::write_all(rt, count),

@@ -50,3 +50,21 @@ pub(crate) fn fill<R: Print + AllocGlobal>(rt: &R, count: u32) -> Result<()> {
     println!(rt; "{keys}")?;
     Ok(())
 }
+
+/// An index of 1,000,000 mementos of one archive, as many of each of `originals`. Prints how many keys it has then.
+pub(crate) fn spread<R: Print + AllocGlobal>(rt: &R, originals: u32) -> Result<()> {
+    let alloc: Global = rt.alloc();
+    let share = 1_000_000u32.checked_div(originals).context("how many?")?;
+    let archive = ArchiveName::new(b"one.example").context("no name")?;
+    let mut index = Index::new(alloc);
+    for number in 0..originals {
+        let text = format!(in alloc; "http://a.example/{number}")?;
+        let original = Original::new(alloc, text.as_bytes())?;
+        let captures = mementos(alloc, number.saturating_mul(share), share)?;
+        let harvest = Harvest::new(archive, &original, 1, captures)?;
+        index.absorb(&Merge::Harvest(harvest))?;
+    }
+    let keys = index.state().len();
+    println!(rt; "{keys}")?;
+    Ok(())
+}

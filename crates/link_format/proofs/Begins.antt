@@ -74,11 +74,13 @@ behind_first n text rest links all h e =
     let b = bind_some (links_in n rest) (λ more. Some (links ++ more)) all (rw h at e) in
     (b.0, b.1, sym (same_Some (links ++ b.0) all b.2))
 
-first_is : (before text rest behind : List ℕ) (links : List Link) → IsBlank before → ElementText text links → IsBlank rest → element_at (past is_blank (before ++ (text ++ (rest ++ 44 ∷ behind)))) ≡ Some (links, 44 ∷ behind)
+first_is : (before text rest behind : List ℕ) (links : List Link) → IsBlank before → ElementText text links → IsBlank rest
+    → element_at (past is_blank (before ++ (text ++ (rest ++ 44 ∷ behind)))) ≡ Some (links, 44 ∷ behind)
 first_is before text rest behind links ib el ir =
     element_again before (rest ++ 44 ∷ behind) ib el (blank_ends rest (44 ∷ behind) ir (inr refl)) ∙ ap (λ (t : List ℕ). Some (links, t)) (past_again is_blank rest (44 ∷ behind) ir refl)
 
-cut_elements : {rest : List ℕ} {more : List Link} → (n : ℕ) (before text after behind : List ℕ) (links all : List Link) → IsBlank before → ElementText text links → ElementsText rest more → IsBlank after
+cut_elements : {rest : List ℕ} {more : List Link} → (n : ℕ) (before text after behind : List ℕ) (links all : List Link) → IsBlank before
+    → ElementText text links → ElementsText rest more → IsBlank after
     → links_in n (before ++ (text ++ (rest ++ (after ++ 44 ∷ behind)))) ≡ Some all → (others : List Link) × (all ≡ (links ++ more) ++ others)
 cut_elements zero before text after behind links all ib el es ia e = absurd (no_count _ all e)
 cut_elements (suc n) before text after behind links all ib el grammar.none ia e =
@@ -87,11 +89,13 @@ cut_elements (suc n) before text after behind links all ib el grammar.none ia e 
 cut_elements (suc n) before text after behind links all ib el (grammar.one before' after' text' rest' links' more' ib' ia' el' es') ia e =
     let inner : List ℕ = after' ++ (text' ++ (rest' ++ (after ++ 44 ∷ behind))) in
     let same = regroup_elements before text before' after' text' rest' (after ++ 44 ∷ behind) in
-    let b = behind_first n (before ++ (text ++ (before' ++ 44 ∷ inner))) inner links all (first_is before text before' inner links ib el ib') (subst (λ (t : List ℕ). links_in (suc n) t ≡ Some all) same e) in
+    let b = behind_first n (before ++ (text ++ (before' ++ 44 ∷ inner))) inner links all (first_is before text before' inner links ib el ib')
+    (subst (λ (t : List ℕ). links_in (suc n) t ≡ Some all) same e) in
     let i = cut_elements n after' text' after behind links' b.0 ia' el' es' ia b.1 in
     (i.0, b.2 ∙ ap (λ (ls : List Link). links ++ ls) i.1 ∙ sym (append_assoc links (links' ++ more') i.0))
 
-cut_reading : {beginning : List ℕ} {links : List Link} → (behind : List ℕ) (all : List Link) → Reading beginning links → reading_of (beginning ++ 44 ∷ behind) ≡ Some all → (others : List Link) × (all ≡ links ++ others)
+cut_reading : {beginning : List ℕ} {links : List Link} → (behind : List ℕ) (all : List Link) → Reading beginning links
+    → reading_of (beginning ++ 44 ∷ behind) ≡ Some all → (others : List Link) × (all ≡ links ++ others)
 unfolding reading_of
 cut_reading behind all (grammar.list before text rest after links more ib el es ia) e =
     let same : (before ++ text ++ rest ++ after) ++ 44 ∷ behind ≡ before ++ (text ++ (rest ++ (after ++ 44 ∷ behind))) = simp append_assoc in
@@ -124,7 +128,8 @@ middle_is rest [] behind e = (None, refl)
 middle_is None (b ∷ middle) behind e = absurd cc
 middle_is (Some rest) (b ∷ middle) behind e = (Some middle, ap (λ (c : ℕ). c ∷ middle) (sym (ap (λ (l : List ℕ). get_or l 0 b) e)))
 
-later_begins : (first second : List ℕ) (rest : Option (List ℕ)) (middle behind : List ℕ) (links more : List Link) → Reading first links → Reading second more → second ≡ first ++ middle → and_rest rest ≡ middle ++ behind
+later_begins : (first second : List ℕ) (rest : Option (List ℕ)) (middle behind : List ℕ) (links more : List Link) → Reading first links
+    → Reading second more → second ≡ first ++ middle → and_rest rest ≡ middle ++ behind
     → (others : List Link) × (more ≡ links ++ others)
 later_begins first second rest middle behind links more one two e r =
     let m = middle_is rest middle behind r in

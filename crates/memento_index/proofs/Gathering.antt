@@ -19,13 +19,13 @@ use Rattle.memento_time.proofs.MementoLemmas.{memento_cmp_exact}
 use Rattle.memento_sets.specs.Sets as set
 use Rattle.memento_sets.specs.MementoSets.{Mementos}
 use Rattle.memento_sets.proofs.Sets.{items_sorted}
-use Rattle.harvest_lattice.specs.Lattice.{Key, Kept, Entries, held, IsAtMostAt, KeptAtMost, is_whole-kept_from, join_kept, join_at, same_parts}
+use Rattle.harvest_lattice.specs.Lattice.{Key, Kept, Entries, held, IsAtMostAt, is_whole-kept_from, join_kept, join_at, same_parts}
 use Rattle.harvest_lattice.specs.Knowledge.{mementos_of}
 use Rattle.harvest_lattice.specs.News.{AreApart, IsFresh, IsNews}
 use Rattle.harvest_lattice.specs.Parts.{kept_in, AreOfOne}
 use Rattle.harvest_lattice.specs.Rows.{row_entry}
 use Rattle.harvest_lattice.specs.declared.row.Row.{Row}
-use Rattle.harvest_lattice.proofs.Entries.{unite, contains-union, revision_itself, join_from_at_most}
+use Rattle.harvest_lattice.proofs.Entries.{unite, contains-union, revision_itself}
 use Rattle.harvest_lattice.proofs.Parts.{entries_in, entries_of_it, alone_joined}
 use Rattle.harvest_lattice.proofs.ShownLemmas.{shown_of_one}
 use Rattle.harvest_lattice.proofs.RowLemmas.{map_push}
@@ -36,8 +36,8 @@ use Rattle.memento_index.specs.declared.counted.Step.{Step}
 use Rattle.memento_index.specs.declared.counted.Steps.{Steps}
 use Rattle.memento_index.specs.Counts.{once, occurrences, beginnings, endings}
 use Rattle.memento_index.specs.Showing.{shows_one, showing_by, shown_before, shown_after}
-use Rattle.memento_index.specs.Lists.{Lists, StepLists, each_begins, steps_in, steps_or_none, steps_of, tally_of, IsFirst, AreFirst, AreNews, IsNewsAt, IsReplaced, AreStepped, IsShifted, AreGathered}
-use Rattle.memento_index.proofs.Shared.{all_begin, none_ends}
+use Rattle.memento_index.specs.Lists.{Lists, StepLists, each_step, steps_in, steps_or_none, steps_of, tally_of, FitsList, FitLists, AreNews, IsNewsAt, IsReplaced, AreStepped, IsShifted, AreGathered}
+use Rattle.memento_index.proofs.Shared.{replaced_begin, replaced_end}
 
 -- ---- a set's members in order stand once each
 
@@ -160,10 +160,6 @@ comes_alone x e before after none nil new = record {
     come : (m : Memento) → occurrences after m ≡ cond (set.contains (mementos_of e.1) m) 1 0
     come m = ap (λ (ms : List Memento). occurrences ms m) new ∙ held_items (mementos_of e.1) m
 
--- where the one that stands is at most the other, both together are the other
-pub joins_to : (a e : Kept) → KeptAtMost a e → join_kept a e ≡ e
-joins_to a e le = join_from_at_most a e le
-
 -- a single revision, by how many there are and the first one
 only_one : (es : List (ℕ × Mementos)) (r : ℕ) → length es ≡ 1 → slice_get (map (λ e. e.0) es) 0 ≡ Some r → (s : Mementos) × (es ≡ (r, s) ∷ [])
 only_one [] r len first = absurd (omega arith)
@@ -200,11 +196,11 @@ shifted x e before after old new replaced steps = record {
   shown = λ m. omega (arith, replaced.shown m, steps.shown m);
 }
 
--- all of a list begins, where it replaces nothing
-pub shifted_first : (x : Entries) (e : Key × Kept) (before : List Memento) (after : Mementos) → IsReplaced x e before (set.items after) → before ≡ [] → IsShifted x e [] (each_begins (set.items after))
-shifted_first x e before after replaced none = record {
-  counts = λ m. omega (arith, replaced.shows m, ap (λ (ms : List Memento). occurrences ms m) none, all_begin (set.items after) m, none_ends (set.items after) m);
-  shown = λ m. omega (arith, none_ends (set.items after) m);
+-- all that goes ceases, and all that comes begins
+pub shifted_all : (x : Entries) (e : Key × Kept) (before after : List Memento) → IsReplaced x e before after → IsShifted x e [] (each_step false before ++ each_step true after)
+shifted_all x e before after replaced = record {
+  counts = λ m. omega (arith, replaced.shows m, replaced.shown m, replaced_begin before after m, replaced_end before after m);
+  shown = λ m. omega (arith, replaced.shown m, replaced_end before after m);
 }
 
 -- ---- steps taken out and put back
@@ -229,11 +225,11 @@ module _ (m n w : StepLists) (a k : List ℕ) (v : Steps) (gone : (q : List ℕ)
   pub others_stay : (o : List ℕ) → eq_by_cmp text_cmp a o ≡ false → steps_of w o ≡ steps_of m o
   others_stay o apart = ap (λ (s : Option Steps). steps_or_none s) (elsewhere o apart)
 
-  pub first_put : (lists : Lists) → AreFirst lists m → IsFirst (tally_of lists a) v → AreFirst lists w
-  first_put lists first comes o =
-      elim (eq_by_cmp text_cmp a o) as (λ b. eq_by_cmp text_cmp a o ≡ b → IfSome (tree.get text_cmp w o) (IsFirst (tally_of lists o))) [
-        | true ↦ λ t. subst (λ p. IfSome (tree.get text_cmp w p) (IsFirst (tally_of lists p))) (same_text a o t) (subst (λ (s : Option Steps). IfSome s (IsFirst (tally_of lists a))) (sym here) comes)
-        | false ↦ λ apart. subst (λ (s : Option Steps). IfSome s (IsFirst (tally_of lists o))) (sym (elsewhere o apart)) (first o)
+  pub fit_put : (lists : Lists) → FitLists lists m → FitsList (tally_of lists a) v → FitLists lists w
+  fit_put lists first comes o =
+      elim (eq_by_cmp text_cmp a o) as (λ b. eq_by_cmp text_cmp a o ≡ b → IfSome (tree.get text_cmp w o) (FitsList (tally_of lists o))) [
+        | true ↦ λ t. subst (λ p. IfSome (tree.get text_cmp w p) (FitsList (tally_of lists p))) (same_text a o t) (subst (λ (s : Option Steps). IfSome s (FitsList (tally_of lists a))) (sym here) comes)
+        | false ↦ λ apart. subst (λ (s : Option Steps). IfSome s (FitsList (tally_of lists o))) (sym (elsewhere o apart)) (first o)
       ] refl
 
 -- ---- row after row

@@ -23,11 +23,11 @@ use Rattle.harvest_lattice.proofs.ShelfLemmas.{same_text, none_after}
 use Rattle.memento_index.specs.declared.counted.Counted.{Counted}
 use Rattle.memento_index.specs.declared.counted.Step.{Step}
 use Rattle.memento_index.specs.declared.counted.Steps.{Steps}
-use Rattle.memento_index.specs.declared.counted.Steps.TheVariants.{First, Each}
+use Rattle.memento_index.specs.declared.counted.Steps.TheVariants.{All, Each}
 use Rattle.memento_index.specs.Counts.{IsTally, count_of, beginnings, mementos_of, IsRecounted}
 use Rattle.memento_index.specs.Showing.{showing, showing_by}
 use Rattle.memento_index.specs.Tallies.{Tallied}
-use Rattle.memento_index.specs.Lists.{Lists, StepLists, IsListed, tally_in, tally_of, steps_in, steps_or_none, steps_of, Grows, IsFirst, AreFirst, CanTake, HasRoom, HaveRoom, CanCount, IsCounted, AreGathered}
+use Rattle.memento_index.specs.Lists.{Lists, StepLists, IsListed, tally_in, tally_of, steps_in, steps_or_none, steps_of, Grows, FitsList, FitLists, CanTake, HasRoom, HaveRoom, CanCount, IsCounted, AreGathered}
 use Rattle.memento_index.proofs.Showing.{join_shows, before-le, showing-le, shown_counts, not_shown_counts}
 use Rattle.memento_index.proofs.Tallies.{beginnings-le}
 use Rattle.memento_index.proofs.Listed.{tally_lists}
@@ -61,7 +61,7 @@ grown_room keys (Some t) None spare wide steps p le h = absurd p
 grown_room keys (Some t) (Some u) spare wide steps p le h = (wider steps h.0, h.1)
   where
     wider : (s : Steps) → CanTake t spare s → CanTake u wide s
-    wider (First list) empty = p.0 ∙ empty
+    wider (All made) just = p.0 ∙ just
     wider (Each each) fits =
         let same : length u.entries ≡ length t.entries = ap (λ es. length es) p.0 in
         let more = p.1 in
@@ -73,9 +73,9 @@ pub fewer_keys : (keys : ℕ) (a : Option Tallied) (spare : ℕ) (steps : Steps)
 fewer_keys keys None spare steps h = absurd h
 fewer_keys keys (Some t) spare steps h = let few = h.1 in (h.0, omega arith)
 
--- a first list still comes where nothing is listed
-pub still_first : (m n : Lists) (all : StepLists) → ((o : List ℕ) → Grows (tree.get text_cmp m o) (tree.get text_cmp n o)) → AreFirst m all → AreFirst n all
-still_first m n all grow first o = subst (λ (es : List Counted). IfSome (tree.get text_cmp all o) (IsFirst es)) (sym (grown_same (tree.get text_cmp m o) (tree.get text_cmp n o) (grow o))) (first o)
+-- a list that is replaced still has just what goes
+pub still_fit : (m n : Lists) (all : StepLists) → ((o : List ℕ) → Grows (tree.get text_cmp m o) (tree.get text_cmp n o)) → FitLists m all → FitLists n all
+still_fit m n all grow first o = subst (λ (es : List Counted). IfSome (tree.get text_cmp all o) (FitsList es)) (sym (grown_same (tree.get text_cmp m o) (tree.get text_cmp n o) (grow o))) (first o)
 
 pub fewer_keys_all : (keys : ℕ) (all : StepLists) (lists : Lists) (spare : ℕ) → HaveRoom keys all lists spare → HaveRoom 0 all lists spare
 fewer_keys_all keys all lists spare h o = by (tree.get text_cmp all o) (h o)
@@ -107,14 +107,14 @@ pub room_stays : (keys : ℕ) (s : Option Steps) (a b : Option Tallied) (spare w
 room_stays keys None a b spare wide grow le h = tt
 room_stays keys (Some steps) a b spare wide grow le h = grown_room keys a b spare wide steps grow le h
 
-pub one_more_room : (keys : ℕ) (all : StepLists) (left new : List (List ℕ × Steps)) (e : List ℕ × Steps) (was now : Lists) (spare wide : ℕ) → left ≡ e ∷ new → ((o : List ℕ) → Grows (tree.get text_cmp was o) (tree.get text_cmp now o)) → spare ≤ wide → AreFirst was all → (IsFirst (tally_of was e.0) e.1 → HasRoom keys (tree.get text_cmp now e.0) wide e.1) → (o : List ℕ) → HasRoomOr keys all left was spare o → HasRoomOr keys all new now wide o
+pub one_more_room : (keys : ℕ) (all : StepLists) (left new : List (List ℕ × Steps)) (e : List ℕ × Steps) (was now : Lists) (spare wide : ℕ) → left ≡ e ∷ new → ((o : List ℕ) → Grows (tree.get text_cmp was o) (tree.get text_cmp now o)) → spare ≤ wide → FitLists was all → (FitsList (tally_of was e.0) e.1 → HasRoom keys (tree.get text_cmp now e.0) wide e.1) → (o : List ℕ) → HasRoomOr keys all left was spare o → HasRoomOr keys all new now wide o
 one_more_room keys all left new e was now spare wide is grow le first made o (inr had) = inr (room_stays keys (tree.get text_cmp all o) (tree.get text_cmp was o) (tree.get text_cmp now o) spare wide (grow o) le had)
 one_more_room keys all left new e was now spare wide is grow le first made o (inl to_come) =
     elim (is_at (text_cmp o) e.0) as (λ b. is_at (text_cmp o) e.0 ≡ b → cond b (Some e.1) (lookup (is_at (text_cmp o)) new) ≡ tree.get text_cmp all o → HasRoomOr keys all new now wide o) [
       | true ↦ λ t its.
           let same : o ≡ e.0 = same_text o e.0 t in
-          let comes : IsFirst (tally_of was o) e.1 = subst (λ (s : Option Steps). IfSome s (IsFirst (tally_of was o))) (sym its) (first o) in
-          let room : HasRoom keys (tree.get text_cmp now e.0) wide e.1 = made (subst (λ p. IsFirst (tally_of was p) e.1) same comes) in
+          let comes : FitsList (tally_of was o) e.1 = subst (λ (s : Option Steps). IfSome s (FitsList (tally_of was o))) (sym its) (first o) in
+          let room : HasRoom keys (tree.get text_cmp now e.0) wide e.1 = made (subst (λ p. FitsList (tally_of was p) e.1) same comes) in
           inr (subst (λ (s : Option Steps). IfSome s (HasRoom keys (tree.get text_cmp now o) wide)) its (subst (λ p. HasRoom keys (tree.get text_cmp now p) wide e.1) (sym same) room))
       | false ↦ λ _ rest. inl rest
     ] refl (ap (lookup (is_at (text_cmp o))) (sym is) ∙ to_come)

@@ -1,6 +1,11 @@
 -- A list that one archive alone shows.
-use Rattle.std.proofs.Common.{◌≡◌, ℕ, ◌+◌, ◌≤◌, length, List, [], ◌∷◌, refl, ap, arith}
-use Rattle.std.specs.List.{AllByRecursion}
+use Rattle.std.proofs.Common.{◌≡◌, ℕ, ◌+◌, ◌≤◌, ◌==◌, ◌&&◌, Bool, true, false, length, List, [], ◌∷◌, ◌++◌, refl, sym, ap, subst, arith, ◌∙◌, true≢false}
+use Rattle.std.specs.List.{AllByRecursion, list_all}
+use Rattle.std.specs.Bool.{Decides}
+use Rattle.std.specs.Cmp.Derive.{both_true}
+use Rattle.std.specs.Cmp.Lexicographic.{pointwise}
+use Rattle.std.proofs.lemmas.Bool.Decides.{Decides-eqb}
+use Rattle.std.proofs.lemmas.Slice.Eq.{bytes_eq-Decides}
 use Rattle.std.specs.List.Sorted.{IsStrictlySortedBy}
 use Rattle.std.specs.declared.cmp.Ordering.TheVariants.{Less}
 use Rattle.memento_time.specs.Mementos.{memento_cmp}
@@ -11,8 +16,8 @@ use Rattle.memento_sets.proofs.Sets.{items_sorted}
 use Rattle.memento_index.specs.declared.counted.Counted.{Counted}
 use Rattle.memento_index.specs.declared.counted.Step.{Step}
 use Rattle.memento_index.specs.Counts.{mementos_of, once, count_of, occurrences, beginnings, endings, AreAbove, IsTally, IsRecounted}
-use Rattle.memento_index.specs.Lists.{each_begins}
-use Rattle.memento_index.specs.Tallies.{each_once}
+use Rattle.memento_index.specs.Lists.{each_step}
+use Rattle.memento_index.specs.Tallies.{beside, each_once}
 
 -- ---- each shown by one archive
 
@@ -33,19 +38,59 @@ count_once : (ms : List Memento) (x : Memento) → count_of (each_once ms) x ≡
 count_once [] x = refl
 count_once (m ∷ ms) x = ap (λ n. once x m + n) (count_once ms x)
 
-pub all_begin : (ms : List Memento) (x : Memento) → beginnings (each_begins ms) x ≡ occurrences ms x
+-- what begins with a list that is replaced, and what ceases
+all_begin : (ms : List Memento) (x : Memento) → beginnings (each_step true ms) x ≡ occurrences ms x
 all_begin [] x = refl
 all_begin (m ∷ ms) x = ap (λ n. once x m + n) (all_begin ms x)
 
-pub none_ends : (ms : List Memento) (x : Memento) → endings (each_begins ms) x ≡ 0
+none_ends : (ms : List Memento) (x : Memento) → endings (each_step true ms) x ≡ 0
 none_ends [] x = refl
 none_ends (m ∷ ms) x = let rest = none_ends ms x in omega (arith, rest)
 
-pub first_counted : (old : List Counted) (s : Mementos) → old ≡ [] → IsRecounted old (each_begins (set.items s)) (each_once (set.items s))
-first_counted old s is = record {
+pub replaced_begin : (before after : List Memento) (x : Memento) → beginnings (each_step false before ++ each_step true after) x ≡ occurrences after x
+replaced_begin [] after x = all_begin after x
+replaced_begin (m ∷ ms) after x = let rest = replaced_begin ms after x in omega (arith, rest)
+
+pub replaced_end : (before after : List Memento) (x : Memento) → endings (each_step false before ++ each_step true after) x ≡ occurrences before x
+replaced_end [] after x = none_ends after x
+replaced_end (m ∷ ms) after x = ap (λ n. once x m + n) (replaced_end ms after x)
+
+pub all_counted : (old : List Counted) (before : List Memento) (s : Mementos) → old ≡ each_once before → IsRecounted old (each_step false before ++ each_step true (set.items s)) (each_once (set.items s))
+all_counted old before s is = record {
   tally = tally_once (set.items s) (items_sorted memento_cmp s);
-  counts = λ x. omega (arith, ap (λ (es : List Counted). count_of es x) is, count_once (set.items s) x, all_begin (set.items s) x, none_ends (set.items s) x);
+  counts = λ x. omega (arith, ap (λ (es : List Counted). count_of es x) is, count_once before x, count_once (set.items s) x, replaced_begin before (set.items s) x, replaced_end before (set.items s) x);
 }
+
+halves_true : (a b : Bool) → (a && b) ≡ true → (a ≡ true) × (b ≡ true)
+halves_true true b is = (refl, is)
+halves_true false b is = absurd (true≢false (sym is))
+
+-- two mementos are the same where their moments and their texts are
+same_memento : Memento → Memento → Bool
+same_memento a b = (a.at == b.at) && pointwise ◌==◌ a.uri b.uri
+
+pub same_memento-Decides : (a b : Memento) → Decides ((a.at == b.at) && pointwise ◌==◌ a.uri b.uri) (a ≡ b)
+unfolding same_memento
+same_memento-Decides a b = (told, λ is. subst (λ m. same_memento a m ≡ true) is itself)
+  where
+    itself : same_memento a a ≡ true
+    itself = both_true ((Decides-eqb a.at a.at).1 refl) ((bytes_eq-Decides a.uri a.uri).1 refl)
+
+    told : same_memento a b ≡ true → a ≡ b
+    told is =
+        let halves = halves_true (a.at == b.at) (pointwise ◌==◌ a.uri b.uri) is in
+        let at : a.at ≡ b.at = (Decides-eqb a.at b.at).0 halves.0 in
+        let uri : a.uri ≡ b.uri = (bytes_eq-Decides a.uri b.uri).0 halves.1 in
+        λ i. record { at = at i; uri = uri i }
+
+-- a count of 1 beside each
+pub beside_ones : (ms : List Memento) (ns : List ℕ) → length ms ≡ length ns → list_all (λ n. n == 1) ns ≡ true → beside ms ns ≡ each_once ms
+beside_ones [] ns same ones = refl
+beside_ones (m ∷ ms) [] same ones = absurd (omega (arith, same))
+beside_ones (m ∷ ms) (n ∷ ns) same ones =
+    let one : n ≡ 1 = (Decides-eqb n 1).0 (halves_true (n == 1) (list_all (λ n. n == 1) ns) ones).0 in
+    let rest = beside_ones ms ns (omega (arith, same)) (halves_true (n == 1) (list_all (λ n. n == 1) ns) ones).1 in
+    ap (λ k. record { memento = m; count = k } ∷ beside ms ns) one ∙ ap (λ es. record { memento = m; count = 1 } ∷ es) rest
 
 -- where there is no room, there is nothing, and nothing comes
 pub no_room : (old : List Counted) (steps : List Step) (room : ℕ) → length old + length steps ≤ room → room ≡ 0 → IsTally old → IsRecounted old steps old

@@ -1,5 +1,5 @@
 -- The lists of an index.
-use Rattle.std.specs.Prelude.{◌≡◌, ◌≢◌, ℕ, ◌+◌, ◌≤◌, true, List, [], length, map, Option, Some, None, IfSome}
+use Rattle.std.specs.Prelude.{◌≡◌, ◌≢◌, ℕ, ◌+◌, ◌≤◌, Bool, true, false, List, [], ◌++◌, length, map, Option, Some, None, IfSome}
 use Rattle.std.specs.declared.sync.Arc.{Arc}
 use Rattle.std.specs.Arc.{arc_value}
 use Rattle.std.specs.BTreeMap as tree
@@ -14,10 +14,10 @@ use Rattle.harvest_lattice.specs.News.{IsFresh}
 use Rattle.memento_index.specs.declared.counted.Counted.{Counted}
 use Rattle.memento_index.specs.declared.counted.Step.{Step}
 use Rattle.memento_index.specs.declared.counted.Steps.{Steps}
-use Rattle.memento_index.specs.declared.counted.Steps.TheVariants.{First, Each}
+use Rattle.memento_index.specs.declared.counted.Steps.TheVariants.{All, Each}
 use Rattle.memento_index.specs.Counts.{IsTally, count_of, occurrences, beginnings, endings}
 use Rattle.memento_index.specs.Showing.{shows_one, showing, shown_before, shown_after}
-use Rattle.memento_index.specs.Tallies.{Tallied}
+use Rattle.memento_index.specs.Tallies.{Tallied, each_once}
 
 -- of each original that has one, its list
 abbrev pub Lists : Type 0
@@ -42,13 +42,18 @@ Grows None new = tally_in new ≡ []
 Grows (Some t) None = ⊥
 Grows (Some t) (Some u) = (u.entries ≡ t.entries) × (t.room ≤ u.room)
 
--- each memento begins to be shown
-abbrev pub each_begins : List Memento → List Step
-each_begins ms = map (λ m. record { memento = m; begins = true }) ms
+-- the mementos of a shared list: none where there is no list
+abbrev pub shared_mementos : {A : Type 0} → Option (Arc Mementos A) → List Memento
+shared_mementos None = []
+shared_mementos (Some list) = set.items (arc_value list)
+
+-- each memento begins to be shown, or ceases to
+abbrev pub each_step : Bool → List Memento → List Step
+each_step begins ms = map (λ m. record { memento = m; begins = begins }) ms
 
 -- the steps, one by one
 abbrev pub steps_in : Steps → List Step
-steps_in (First list) = each_begins (set.items (arc_value list))
+steps_in (All made) = each_step false (shared_mementos made.before) ++ each_step true (set.items (arc_value made.after))
 steps_in (Each steps) = steps
 
 -- of each original that has some, its steps
@@ -64,14 +69,14 @@ steps_or_none (Some steps) = steps_in steps
 abbrev pub steps_of : StepLists → List ℕ → List Step
 steps_of all o = steps_or_none (tree.get text_cmp all o)
 
--- a first list comes where nothing is listed
-abbrev pub IsFirst : List Counted → Steps → Type 0
-IsFirst entries (First list) = entries ≡ []
-IsFirst entries (Each steps) = Unit {0}
+-- a list is replaced where just what goes is listed, each by one archive
+abbrev pub FitsList : List Counted → Steps → Type 0
+FitsList entries (All made) = entries ≡ each_once (shared_mementos made.before)
+FitsList entries (Each steps) = Unit {0}
 
--- and so does each of these
-abbrev pub AreFirst : Lists → StepLists → Type 0
-AreFirst lists all = (o : List ℕ) → IfSome (tree.get text_cmp all o) (IsFirst (tally_of lists o))
+-- and so is each list that one of these replaces
+abbrev pub FitLists : Lists → StepLists → Type 0
+FitLists lists all = (o : List ℕ) → IfSome (tree.get text_cmp all o) (FitsList (tally_of lists o))
 
 -- each memento of an original stands in its list with the number of archives that show it, and an original of which
 -- nothing is shown has no list
@@ -80,10 +85,9 @@ pub record IsCounted (x : Entries) (lists : Lists) : Type 0 where
   pub counts : (o : List ℕ) (m : Memento) → count_of (tally_of lists o) m ≡ showing x o m
   pub listed : (o : List ℕ) → IsListed (tree.get text_cmp lists o)
 
--- the list has room for the steps, and so has what is lifted off it; a first list wants none, and takes an empty one's
--- place
+-- the list has room for the steps, and so has what is lifted off it; a list that is replaced wants none
 abbrev pub CanTake : Tallied → ℕ → Steps → Type 0
-CanTake t spare (First list) = t.entries ≡ []
+CanTake t spare (All made) = t.entries ≡ each_once (shared_mementos made.before)
 CanTake t spare (Each steps) = (length t.entries + length steps ≤ t.room) × (length t.entries + length steps ≤ spare)
 
 -- the list is there, and the steps fit; and no count of the keys and these grows too large
@@ -108,11 +112,6 @@ IsNewsAt x e = (IsAtMostAt x e → ⊥) × IsFresh x e.0 e.1
 -- and so does each entry of these
 abbrev pub AreNews : Entries → Entries → Type 0
 AreNews x news = (k : Key) → IfSome (fmap.get news k) (λ e. IsNewsAt x (k, e))
-
--- the mementos of a shared list: none where there is no list
-abbrev pub shared_mementos : {A : Type 0} → Option (Arc Mementos A) → List Memento
-shared_mementos None = []
-shared_mementos (Some list) = set.items (arc_value list)
 
 -- as an entry is joined, its archive shows the mementos after in the place of those before, which it showed
 pub record IsReplaced (x : Entries) (e : Key × Kept) (before after : List Memento) : Type 0 where

@@ -1,11 +1,10 @@
 // Mementos with the numbers of archives that show them, and the steps of these numbers.
-ghost use Rattle.std.specs.Prelude.{◌≡◌, IfOk, length};
-ghost use Rattle.memento_index.specs.Lists.{each_begins, steps_in};
+ghost use Rattle.std.specs.Prelude.{◌≡◌, ◌++◌, IfOk, OnOk, length};
+ghost use Rattle.memento_index.specs.Lists.{each_step, steps_in};
 
-use memento_sets::Mementos;
+use crate::replacement::Replacement;
 use memento_time::{Items, Memento, NoMemory};
 use std::alloc::Global;
-use std::sync::Arc;
 
 // A memento, and how many archives show it.
 #[derive(Debug, Drop)]
@@ -21,10 +20,11 @@ pub struct Step {
     pub begins: bool,
 }
 
-// What begins and ceases to be shown of one original: all of a first list, which can be shared, or each step alone.
+// What begins and ceases to be shown of one original: all of its list is replaced by one that can be shared, or each
+// step alone.
 #[derive(Debug, Drop)]
 pub enum Steps {
-    First(Arc<Mementos>),
+    All(Replacement),
     Each(Items<Step>),
 }
 
@@ -33,31 +33,34 @@ impl Steps {
         ensures { result ≡ length (steps_in self.now) }
     {
         match self {
-            Steps::First(list) => list.len(),
+            Steps::All(made) => made.before().len() + made.after().len(),
             Steps::Each(steps) => steps.as_slice().len(),
         }
     }
 
-    // The steps one by one, of a first list with copies of its mementos.
+    // The steps one by one, of a list that is replaced with copies of its mementos.
     pub fn into_vec(self, alloc: Global) -> Result<Vec<Step>, NoMemory>
         ensures { IfOk result (λ steps. steps.items ≡ steps_in self) }
     {
         match self {
-            Steps::First(list) => begin_each(alloc, list.as_slice()),
+            Steps::All(made) => {
+                let mut steps = Vec::new(alloc);
+                push_each(&mut steps, made.before(), false)?;
+                push_each(&mut steps, made.after(), true)?;
+                Ok(steps)
+            }
             Steps::Each(steps) => Ok(steps.into_vec()),
         }
     }
 }
 
-fn begin_each(alloc: Global, mementos: &[Memento]) -> Result<Vec<Step>, NoMemory>
-    ensures { IfOk result (λ steps. steps.items ≡ each_begins mementos.now) }
+// Adds a step of each memento.
+fn push_each(steps: &mut Vec<Step>, mementos: &[Memento], begins: bool) -> Result<(), NoMemory>
+    ensures { OnOk result (steps.new.items ≡ steps.old.items ++ each_step begins mementos.now) }
 {
-    let mut steps = Vec::new(alloc);
     for memento in mementos {
-        steps.push(Step {
-            memento: memento.try_clone()?,
-            begins: true,
-        })?;
+        let memento = memento.try_clone()?;
+        steps.push(Step { memento, begins })?;
     }
-    Ok(steps)
+    Ok(())
 }

@@ -7,8 +7,9 @@ ghost use Rattle.std.specs.Ordering.{eq_by_cmp};
 ghost use Rattle.memento_time.specs.Mementos.{text_cmp};
 ghost use Rattle.memento_sets.specs.Sets as set;
 ghost use Rattle.harvest_lattice.specs.Rows.{row_entry};
-ghost use Rattle.memento_index.specs.Lists.{shared_mementos, steps_in, steps_of, tally_of, IsFirst, AreFirst, AreNews};
+ghost use Rattle.memento_index.specs.Lists.{shared_mementos, steps_in, steps_of, tally_of, FitsList, FitLists, AreNews};
 ghost use Rattle.memento_index.specs.Lists.{IsNewsAt, IsShifted, AreStepped, AreGathered};
+ghost use Rattle.memento_index.specs.Tallies.{each_once};
 
 use crate::counted::{Step, Steps};
 use crate::lists::{Lists, StepLists};
@@ -19,7 +20,7 @@ use memento_time::{Items, NoMemory, Original};
 use std::alloc::Global;
 use std::collections::BTreeMap;
 
-// The steps of each original. Of one that nothing is listed of, a single row gives its list.
+// The steps of each original. Where a single row replaces all that is listed of it, it gives the new list.
 pub fn gather_steps(
     alloc: Global,
     state: &State,
@@ -28,7 +29,7 @@ pub fn gather_steps(
 ) -> Result<StepLists, NoMemory>
     requires { AreNews state.now changes.now }
     ensures gathered { IfOk result (AreGathered state.now (map.entries changes.now)) }
-    ensures first { IfOk result (AreFirst lists.now) }
+    ensures fit { IfOk result (FitLists lists.now) }
 {
     let mut all = BTreeMap::new(alloc);
     for row in changes.rows() {
@@ -46,13 +47,13 @@ fn gather_row(
     row: &Row,
 ) -> Result<(), NoMemory>
     requires news { IsNewsAt state.now (row_entry row.now) }
-    requires first { AreFirst lists.now all.old }
+    requires fit { FitLists lists.now all.old }
     ensures shifted { OnOk result
         (IsShifted state.now (row_entry row.now) (steps_of all.old row.now.original)
         (steps_of all.new row.now.original)) }
     ensures others { OnOk result
         ((o : List ℕ) → eq_by_cmp text_cmp row.now.original o ≡ false → steps_of all.new o ≡ steps_of all.old o) }
-    ensures first { OnOk result (AreFirst lists.now all.new) }
+    ensures fit { OnOk result (FitLists lists.now all.new) }
 {
     let steps = take_more_steps(all, alloc, state, lists, row)?;
     let original = row.original().try_clone()?;
@@ -75,32 +76,35 @@ fn take_more_steps(
         ((o : List ℕ)
         → tree.get text_cmp all.new o
         ≡ cond (eq_by_cmp text_cmp row.now.original o) None (tree.get text_cmp all.old o)) }
-    ensures first { IfOk result (IsFirst (tally_of lists.now row.now.original)) }
+    ensures fit { IfOk result (FitsList (tally_of lists.now row.now.original)) }
 {
     let made = Replacement::by(state, row)?;
-    if comes_first(all, lists, row.original(), &made) {
-        return Ok(Steps::First(made.into_after()));
+    if replaces_all(all, lists, row.original(), &made) {
+        return Ok(Steps::All(made));
     }
     let mut steps = take_steps(all, alloc, row.original())?;
     push_steps(&mut steps, alloc, &made)?;
     Ok(Steps::Each(Items::of(steps)))
 }
 
-// Whether nothing is listed of an original, and nothing is replaced.
-fn comes_first(
+// Whether just what is replaced is listed of an original, each by one archive.
+fn replaces_all(
     all: &StepLists,
     lists: &Lists,
     original: &Original,
     replacement: &Replacement,
 ) -> bool
     ensures alone { IsTrue result → tree.get text_cmp all.now original.now ≡ None }
-    ensures first { IsTrue result → tally_of lists.now original.now ≡ [] }
-    ensures beside { IsTrue result → shared_mementos replacement.now.before ≡ [] }
+    ensures listed { IsTrue result
+        → tally_of lists.now original.now ≡ each_once (shared_mementos replacement.now.before) }
 {
-    if all.contains_key(original) || lists.contains_key(original) {
+    if all.contains_key(original) {
         return false;
     }
-    replacement.before().is_empty()
+    match lists.get(original) {
+        Some(list) => list.has_just(replacement.before()),
+        None => replacement.before().is_empty(),
+    }
 }
 
 // Takes out the steps of an original, one by one.

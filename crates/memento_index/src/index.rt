@@ -8,7 +8,7 @@ ghost use Rattle.harvest_lattice.specs.Lattice.{join};
 ghost use Rattle.harvest_lattice.specs.News.{IsNews};
 ghost use Rattle.harvest_lattice.specs.Knowledge.{Harvested, lat, shown, shown_of};
 ghost use Rattle.memento_index.specs.Choice.{nearest, last};
-ghost use Rattle.memento_index.specs.Lists.{Grows, AreFirst, HaveRoom, AreNews};
+ghost use Rattle.memento_index.specs.Lists.{Grows, FitLists, HaveRoom, AreNews};
 
 use crate::gather::gather_steps;
 use crate::last::last_of;
@@ -63,9 +63,11 @@ impl Index {
     ///
     /// It has all its memory before the first change, and then changes only the counts of what begins or ceases to be
     /// shown. It takes time in the size of what it takes and of the entries at its keys; of a list that changes, in
-    /// what stands from the first change on; and logarithmic in the number of keys and of lists. An original's first
-    /// list is shared with the entry that shows it, if that has one revision, and copied once, when it first changes.
-    /// Neither the number of archives nor the lists that don't change make a difference.
+    /// what stands from the first change on; and logarithmic in the number of keys and of lists. A list that one
+    /// archive alone shows is shared with its entry, and so is the one that a later revision puts in its place; it is
+    /// copied when another archive's mementos come beside it, or more of the same revision. Neither the number of
+    /// archives nor the lists that don't change make a difference, nor in how many revisions an archive shows a
+    /// memento.
     pub fn absorb(&mut self, merge: &Merge) -> Result<(), NoMemory>
         ensures ok { OnOk result (self.new ≡ join self.old (lat (adds_of merge.now))) }
         ensures stands { (hs : List Harvested) → self.old ≡ lat hs
@@ -167,7 +169,7 @@ fn put_with_room(
     changes: Changes,
     steps: &StepLists,
 ) -> Result<(), NoMemory>
-    requires { AreFirst lists.old steps.now }
+    requires { FitLists lists.old steps.now }
     ensures ok { OnOk result (state.new ≡ join state.old changes) }
     ensures err { OnErr result (state.new ≡ state.old) }
     ensures grow { (o : List ℕ) → Grows (tree.get text_cmp lists.old o) (tree.get text_cmp lists.new o) }

@@ -1,5 +1,5 @@
 // The list of one original.
-ghost use Rattle.std.specs.Prelude.{◌≡◌, ◌+◌, ◌≤◌, [], IfOk, Some, length};
+ghost use Rattle.std.specs.Prelude.{◌≡◌, ◌+◌, ◌≤◌, [], IfOk, IsTrue, Some, length};
 ghost use Rattle.std.specs.Arc.{arc_value};
 ghost use Rattle.memento_sets.specs.Sets as set;
 ghost use Rattle.memento_index.specs.Counts.{mementos_of, IsTally, IsRecounted};
@@ -8,15 +8,15 @@ ghost use Rattle.memento_index.specs.Tallies.{each_once};
 
 use crate::counted::{Counted, Step, Steps};
 use crate::counts::recount;
-use crate::tally::Tally;
+use crate::tally::{Tally, are_same};
 use memento_sets::Mementos;
 use memento_time::{Memento, NoMemory};
 use std::alloc::Global;
 use std::marker::Model;
 use std::sync::Arc;
 
-// An original's first list is the set of the entry that shows it, shared where that has one revision, and has no
-// columns. It gets columns of its own when it first changes.
+// A list that one archive alone shows is the set of its entry, shared where that has one revision, and has no columns.
+// It gets columns of its own when another archive's mementos come beside it, or more of the same revision.
 #[derive(Debug, Drop)]
 pub struct Listing {
     shared: Option<Arc<Mementos>>,
@@ -56,6 +56,16 @@ impl Listing {
         }
     }
 
+    // Whether these are the mementos, each shown by one archive.
+    pub fn has_just(&self, mementos: &[Memento]) -> bool
+        ensures { IsTrue result → self.now.entries ≡ each_once mementos.now }
+    {
+        match &self.shared {
+            Some(shared) => are_same(shared.as_slice(), mementos),
+            None => self.own.has_just(mementos),
+        }
+    }
+
     // Makes room for more mementos, and gives the length that the list may then have.
     pub fn reserve(&mut self, more: usize) -> Result<usize, NoMemory>
         ensures entries { self.new.entries ≡ self.old.entries }
@@ -80,7 +90,7 @@ impl Listing {
         ensures lifted_room { lifted.old.room ≤ lifted.new.room }
     {
         match steps {
-            Steps::First(list) => self.share(list),
+            Steps::All(made) => self.share(made.into_after()),
             Steps::Each(steps) => self.recount_each(lifted, steps.into_vec()),
         }
     }
@@ -88,6 +98,7 @@ impl Listing {
     fn share(&mut self, list: Arc<Mementos>)
         ensures { self.new.entries ≡ each_once (set.items (arc_value list)) }
     {
+        self.own = Tally::new(list.allocator());
         self.shared = Some(list);
     }
 

@@ -5,7 +5,7 @@ ghost use Rattle.std.specs.BTreeMap as tree;
 ghost use Rattle.std.specs.Ordering.{eq_by_cmp};
 ghost use Rattle.memento_time.specs.Mementos.{text_cmp};
 ghost use Rattle.memento_index.specs.Counts.{IsTally, IsRecounted};
-ghost use Rattle.memento_index.specs.Lists.{IsListed, Grows, tally_of, steps_in, steps_of, IsFirst, AreFirst, HasRoom};
+ghost use Rattle.memento_index.specs.Lists.{IsListed, Grows, tally_of, steps_in, steps_of, FitsList, FitLists, HasRoom};
 ghost use Rattle.memento_index.specs.Lists.{HaveRoom, CanCount};
 
 use crate::counted::Steps;
@@ -20,8 +20,8 @@ pub type Lists = BTreeMap<Original, Listing>;
 // What begins and ceases to be shown of each original.
 pub type StepLists = BTreeMap<Original, Steps>;
 
-// Makes room in the list of each original for its steps, and room to lift the longest of these lists. What comes first
-// wants an empty list, and no room. No count of the keys and the steps is too large. Where memory is refused, lists may
+// Makes room in the list of each original for its steps, and room to lift the longest of these lists. A list that is
+// replaced wants no room. No count of the keys and the steps is too large. Where memory is refused, lists may
 // have been made that are empty.
 pub fn make_rooms(
     lists: &mut Lists,
@@ -30,7 +30,7 @@ pub fn make_rooms(
     all: &StepLists,
     keys: usize,
 ) -> Result<(), NoMemory>
-    requires first { AreFirst lists.old all.now }
+    requires fit { FitLists lists.old all.now }
     ensures grow { (o : List ℕ) → Grows (tree.get text_cmp lists.old o) (tree.get text_cmp lists.new o) }
     ensures others { (o : List ℕ) → tree.get text_cmp all.now o ≡ None
         → tree.get text_cmp lists.new o ≡ tree.get text_cmp lists.old o }
@@ -56,7 +56,7 @@ fn make_room(
         → tree.get text_cmp lists.new o ≡ tree.get text_cmp lists.old o }
     ensures lifted { lifted.new.entries ≡ lifted.old.entries }
     ensures lifted_room { lifted.old.room ≤ lifted.new.room }
-    ensures made { OnOk result (IsFirst (tally_of lists.old original.now) steps.now
+    ensures made { OnOk result (FitsList (tally_of lists.old original.now) steps.now
         → HasRoom keys (tree.get text_cmp lists.new original.now) lifted.new.room steps.now) }
 {
     let more = steps.len();

@@ -2,8 +2,6 @@
 ghost use Rattle.std.specs.Prelude.{◌≡◌, IsTrue, IfOk};
 ghost use Rattle.std.specs.Arc.{arc_value};
 ghost use Rattle.memento_sets.specs.Sets as set;
-ghost use Rattle.harvest_lattice.specs.Lattice.{join_kept};
-ghost use Rattle.harvest_lattice.specs.Knowledge.{mementos_of};
 ghost use Rattle.harvest_lattice.specs.Parts.{AreOfOne};
 ghost use Rattle.harvest_lattice.specs.Rows.{row_entry};
 ghost use Rattle.memento_index.specs.Lists.{shared_mementos, IsNewsAt, IsReplaced};
@@ -15,7 +13,7 @@ use std::sync::Arc;
 
 // Of what an archive shows of an original, the mementos `after` come in the place of those `before`. There are none
 // before where they come beside what the archive shows. In how many of its revisions a memento stands makes no
-// difference. The list of an entry of one revision is shared and not copied.
+// difference. What an entry shows is shared and not copied.
 #[derive(Debug, Drop)]
 pub struct Replacement {
     before: Option<Arc<Mementos>>,
@@ -45,7 +43,7 @@ impl Replacement {
         }
         Ok(Replacement {
             before: Some(standing.shown()?),
-            after: shown_together(standing, entry)?,
+            after: standing.shown_with(entry)?,
         })
     }
 
@@ -82,14 +80,4 @@ fn are_of_one(left: &Entry, right: &Entry) -> bool
         return false;
     }
     left.revision(0) == right.revision(0)
-}
-
-// What both show together: the second's own list, where nothing of the first stays beside it.
-fn shown_together(standing: &Entry, entry: &Entry) -> Result<Arc<Mementos>, NoMemory>
-    ensures { IfOk result (λ list. arc_value list ≡ mementos_of (join_kept standing.now entry.now)) }
-{
-    if standing.le(entry) {
-        return entry.shown();
-    }
-    standing.joined(entry)?.shown()
 }

@@ -1,7 +1,9 @@
 // Mementos beside the numbers of archives that show them.
 ghost use Rattle.std.specs.Prelude.{◌≡◌, ◌+◌, ◌<◌, ◌≤◌, [], ◌∷◌, ◌++◌, IfNone, IfSome, IfOk, length, map as map_list};
-ghost use Rattle.std.specs.Prelude.{option_to_list, IsTrue};
+ghost use Rattle.std.specs.Prelude.{option_to_list, IsTrue, ◌==◌};
+ghost use Rattle.std.specs.List.{list_all};
 ghost use Rattle.memento_index.specs.Counts.{mementos_of, AreBelow, IsTally};
+ghost use Rattle.memento_index.specs.Tallies.{each_once};
 
 use crate::counted::Counted;
 use memento_time::{Memento, NoMemory};
@@ -50,6 +52,13 @@ impl Tally {
         &self.mementos
     }
 
+    // Whether these are the mementos, each with the count 1.
+    pub fn has_just(&self, mementos: &[Memento]) -> bool
+        ensures { IsTrue result → self.now.entries ≡ each_once mementos.now }
+    {
+        are_same(&self.mementos, mementos) && are_ones(&self.counts)
+    }
+
     // Makes room for more mementos, and gives the length that the list may then have.
     pub fn reserve(&mut self, more: usize) -> Result<usize, NoMemory>
         ensures entries { self.new.entries ≡ self.old.entries }
@@ -92,4 +101,17 @@ impl Tally {
         let count = self.counts.pop()?;
         Some(Counted { memento, count })
     }
+}
+
+// Whether the two have the same mementos in the same places.
+pub fn are_same(left: &[Memento], right: &[Memento]) -> bool
+    ensures { IsTrue result → left.now ≡ right.now }
+{
+    left == right
+}
+
+fn are_ones(counts: &[u64]) -> bool
+    ensures { result ≡ list_all (λ n. n == 1) counts.now }
+{
+    counts.iter().all(|count| *count == 1)
 }

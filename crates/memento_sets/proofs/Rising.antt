@@ -50,9 +50,12 @@ mementos_risen ms n rises le = elim ms as (λ ms. Rises memento_cmp ms n → len
   | m ∷ ms ↦ λ rises le. risen memento_cmp memento_cmp_total (set.as_keys (m ∷ ms)) (m ∷ ms) n m (firsts memento_cmp_total memento_cmp_exact (m ∷ ms)) rises le
 ] rises le
 
-pub mementos_fallen : (ms : List Memento) (k : ℕ) (a b : Memento) → 0 < k → k < length ms → a ≡ get_or ms (k - 1) a → b ≡ get_or ms k b → (memento_cmp a b ≡ Less → ⊥) → is_sorted memento_cmp (set.as_keys ms) ≡ false
+pub mementos_fallen : (ms : List Memento) (k : ℕ) (a b : Memento) → 0 < k → k < length ms → a ≡ get_or ms (k - 1) a → b ≡ get_or ms k b
+    → (memento_cmp a b ≡ Less → ⊥) → is_sorted memento_cmp (set.as_keys ms) ≡ false
 mementos_fallen ms k a b some lt at next differ =
-    fallen memento_cmp (set.as_keys ms) ms k a (firsts memento_cmp_total memento_cmp_exact ms) some lt (λ less. differ (subst (λ y. memento_cmp a y ≡ Less) (same_default ms k a b lt ∙ sym next) (subst (λ x. memento_cmp x (get_or ms k a) ≡ Less) (sym at) less)))
+    fallen memento_cmp (set.as_keys ms) ms k a (firsts memento_cmp_total memento_cmp_exact ms) some lt
+    (λ less. differ (subst (λ y. memento_cmp a y ≡ Less) (same_default ms k a b lt ∙ sym next)
+    (subst (λ x. memento_cmp x (get_or ms k a) ≡ Less) (sym at) less)))
   where
     same_default : {A : Type 0} (xs : List A) (k : ℕ) (a b : A) → k < length xs → get_or xs k a ≡ get_or xs k b
     same_default [] k a b lt = absurd (omega arith)

@@ -34,7 +34,8 @@ none_at : (p : Memento → Bool) (xs : List Memento) → ((j : ℕ) (d : Memento
 none_at p [] h = refl
 none_at p (x ∷ xs) h = (λ i. h 0 x (omega arith) i || list_any p xs) ∙ none_at p xs (λ j d lt. h (suc j) d (omega arith))
 
-pub search_is : (xs : List Memento) (m : Memento) (r : Result ℕ ℕ) → IsStrictlySortedBy memento_cmp xs → IsSearchInRange r (length xs) → IsBinarySearchResult (λ y. memento_cmp y m) xs r → is_ok r ≡ set.contains (set.from_list {R = memento_cmp} xs) m
+pub search_is : (xs : List Memento) (m : Memento) (r : Result ℕ ℕ) → IsStrictlySortedBy memento_cmp xs → IsSearchInRange r (length xs)
+    → IsBinarySearchResult (λ y. memento_cmp y m) xs r → is_ok r ≡ set.contains (set.from_list {R = memento_cmp} xs) m
 search_is xs m (Ok at) h in_range here =
     sym (contains_is xs m ∙ list_any_at (eq_by_cmp memento_cmp m) xs at m in_range ((eq_by_cmp_equiv memento_cmp_total).symm m (get_or xs at m) ∙ ap is_eq (here m)))
 search_is xs m (Err at) h in_range parted =
@@ -72,12 +73,14 @@ all_from_subset s t sub = all_from (λ m. set.contains t m) (set.items s) (λ m 
 -- ---- what is below a memento
 
 -- what stands in front of the place where it is
-pub front_of_found : (xs : List Memento) (m : Memento) (at : ℕ) → IsStrictlySortedBy memento_cmp xs → at < length xs → ((d : Memento) → memento_cmp (get_or xs at d) m ≡ Equal) → IsStrictlySortedBy memento_cmp (take at xs ++ m ∷ [])
+pub front_of_found : (xs : List Memento) (m : Memento) (at : ℕ) → IsStrictlySortedBy memento_cmp xs → at < length xs
+    → ((d : Memento) → memento_cmp (get_or xs at d) m ≡ Equal) → IsStrictlySortedBy memento_cmp (take at xs ++ m ∷ [])
 front_of_found xs m at h in_range here = above_front_of xs at m h (λ k d lt _.
     subst (λ n. memento_cmp (get_or xs k d) n ≡ Less) (memento_cmp_exact (get_or xs at d) m (here d)) (Less-from_sorted memento_cmp xs k at d h lt in_range))
 
 -- what stands in front of the place where it would go
-pub front_of_gap : (xs : List Memento) (m : Memento) (at : ℕ) → IsStrictlySortedBy memento_cmp xs → IsBinarySearchResult (λ y. memento_cmp y m) xs (Err at) → IsStrictlySortedBy memento_cmp (take at xs ++ m ∷ [])
+pub front_of_gap : (xs : List Memento) (m : Memento) (at : ℕ) → IsStrictlySortedBy memento_cmp xs
+    → IsBinarySearchResult (λ y. memento_cmp y m) xs (Err at) → IsStrictlySortedBy memento_cmp (take at xs ++ m ∷ [])
 front_of_gap xs m at h parted =
     let point = parted (searchable_from_sorted memento_cmp_total (λ x. x) xs m (steps xs h)) in
     above_front_of xs at m h (λ k d lt in_range. point.0 k d (omega arith) lt)

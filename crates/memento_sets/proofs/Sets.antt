@@ -8,7 +8,8 @@ use Rattle.std.specs.List.Sorted.{IsStrictlySortedBy}
 use Rattle.std.specs.List.{list_any, AllByRecursion}
 use Rattle.std.specs.Ordering.{eq_by_cmp, is_lt}
 use Rattle.std.specs.Cmp.{IsTotalOrder}
-use Rattle.std.specs.FinMap.{IsAntisymmetric, get, entries, find, from_entries, from_sorted, is_sorted, entries_sorted, get-empty, get-from_entries, get-from_sorted, entries-from_sorted, contains_key-keys, same_map}
+use Rattle.std.specs.FinMap.{IsAntisymmetric, get, entries, find, from_entries, from_sorted, is_sorted, entries_sorted, get-empty, get-from_entries}
+use Rattle.std.specs.FinMap.{get-from_sorted, entries-from_sorted, contains_key-keys, same_map}
 use Rattle.memento_sets.specs.Sets.{Set, empty, contains, from_list, union, items, as_keys}
 use Rattle.memento_sets.specs.Maps.{join_values}
 use Rattle.memento_sets.proofs.Semilattice.{IsSemilattice}

@@ -49,7 +49,8 @@ back_in_order [] ys h = h
 back_in_order (x ∷ xs) ys h = back_in_order xs ys h.1
 
 -- two lists in order, the one up to a memento and the other from it on
-pub chained : (xs : List Memento) (m : Memento) (ys : List Memento) → IsStrictlySortedBy memento_cmp (xs ++ m ∷ []) → IsStrictlySortedBy memento_cmp (m ∷ ys) → IsStrictlySortedBy memento_cmp (xs ++ m ∷ ys)
+pub chained : (xs : List Memento) (m : Memento) (ys : List Memento) → IsStrictlySortedBy memento_cmp (xs ++ m ∷ [])
+    → IsStrictlySortedBy memento_cmp (m ∷ ys) → IsStrictlySortedBy memento_cmp (xs ++ m ∷ ys)
 unfolding IsStrictlySortedBy
 chained [] m ys h g = g
 chained (x ∷ xs) m ys h g =
@@ -69,17 +70,21 @@ unfolding IsStrictlySortedBy
 lesser_first m n ys lt h = ((lt, above_all m n ys lt h.0), h)
 
 -- what begins with a memento stands behind a front below it
-pub added_behind : (front added : List Memento) (m : Memento) → slice_get added 0 ≡ Some m → IsStrictlySortedBy memento_cmp (front ++ m ∷ []) → IsStrictlySortedBy memento_cmp added → IsStrictlySortedBy memento_cmp (front ++ added)
+pub added_behind : (front added : List Memento) (m : Memento) → slice_get added 0 ≡ Some m → IsStrictlySortedBy memento_cmp (front ++ m ∷ [])
+    → IsStrictlySortedBy memento_cmp added → IsStrictlySortedBy memento_cmp (front ++ added)
 added_behind front [] m first below h = absurd (none-some m first)
 added_behind front (n ∷ added) m first below h = chained front n added (subst (λ k. IsStrictlySortedBy memento_cmp (front ++ k ∷ [])) (sym (same_Some n m first)) below) h
 
 -- a memento above those of a front
-pub above_front_of : (xs : List Memento) (at : ℕ) (m : Memento) → IsStrictlySortedBy memento_cmp xs → ((k : ℕ) (d : Memento) → k < at → k < length xs → memento_cmp (get_or xs k d) m ≡ Less) → IsStrictlySortedBy memento_cmp (take at xs ++ m ∷ [])
+pub above_front_of : (xs : List Memento) (at : ℕ) (m : Memento) → IsStrictlySortedBy memento_cmp xs
+    → ((k : ℕ) (d : Memento) → k < at → k < length xs → memento_cmp (get_or xs k d) m ≡ Less) → IsStrictlySortedBy memento_cmp (take at xs ++ m ∷ [])
 unfolding IsStrictlySortedBy
 above_front_of xs zero m h below = (tt, tt)
 above_front_of [] (suc at) m h below = (tt, tt)
-above_front_of (x ∷ xs) (suc at) m h below =
-    (above_both x (take at xs) (m ∷ []) (above_take x xs at h.0) (below 0 x (omega arith) (omega arith), tt), above_front_of xs at m h.1 (λ k d lt in_range. below (suc k) d (omega arith) (omega arith)))
+above_front_of (x ∷ xs) (suc at) m h below = (
+  above_both x (take at xs) (m ∷ []) (above_take x xs at h.0) (below 0 x (omega arith) (omega arith), tt),
+  above_front_of xs at m h.1 (λ k d lt in_range. below (suc k) d (omega arith) (omega arith)),
+)
   where
     above_take : (x : Memento) (xs : List Memento) (at : ℕ) → AreAbove x xs → AreAbove x (take at xs)
     above_take x xs zero h = tt
@@ -130,7 +135,9 @@ any_none p b rest none = ap (λ (xs : List Memento). b || list_any p xs) none �
     or_false false = refl
 
 -- lists with the members of two are the union of their sets
-pub united_is : (new old added : List Memento) → ((m : Memento) → list_any (eq_by_cmp memento_cmp m) new ≡ (list_any (eq_by_cmp memento_cmp m) old || list_any (eq_by_cmp memento_cmp m) added)) → set.from_list {R = memento_cmp} new ≡ set.union (set.from_list old) (set.from_list added)
+pub united_is : (new old added : List Memento) → ((m : Memento)
+    → list_any (eq_by_cmp memento_cmp m) new ≡ (list_any (eq_by_cmp memento_cmp m) old || list_any (eq_by_cmp memento_cmp m) added))
+    → set.from_list {R = memento_cmp} new ≡ set.union (set.from_list old) (set.from_list added)
 united_is new old added members = same_set memento_cmp_total memento_cmp_exact _ _ (λ m.
     contains-from_list memento_cmp_total memento_cmp_exact new m
     ∙ (members m

@@ -10,7 +10,7 @@ ghost use Rattle.memento_time.specs.declared.mementos.Memento.{Memento as AMemen
 ghost use Rattle.memento_sets.specs.Sets as set;
 ghost use Rattle.memento_sets.specs.MementoSets.{IsSubset, mementos_rise, mementos_with};
 
-use memento_time::{Memento, NoMemory};
+use memento_time::{Memento, MementosBuilder, NoMemory};
 use std::alloc::{AllocError, Global};
 use std::cmp::Ordering;
 use std::marker::Model;
@@ -64,21 +64,21 @@ impl Mementos {
         *self.list.allocator()
     }
 
-    /// How many there are.
+    /// How many mementos there are.
     pub fn len(&self) -> usize
         ensures { result ≡ length (set.items self.now) }
     {
         self.as_slice().len()
     }
 
-    /// In order.
+    /// The mementos in order, lent.
     pub fn as_slice(&self) -> &[Memento]
         ensures { result.now ≡ set.items self.now }
     {
         &self.list
     }
 
-    /// In order.
+    /// The mementos in order.
     pub fn into_vec(self) -> Vec<Memento>
         ensures { result.items ≡ set.items self }
     {
@@ -104,6 +104,14 @@ impl Mementos {
         ensures { IfOk result (λ rest. rest ≡ set.minus self.now other.now) }
     {
         let list = copy_missing(*self.list.allocator(), self.as_slice(), other)?;
+        Ok(Mementos { list })
+    }
+
+    /// A copy whose addresses share one buffer that has nothing else. `NoMemory` also where they would have 4 GiB.
+    pub fn packed(&self) -> Result<Mementos, NoMemory>
+        ensures { IfOk result (λ copy. copy ≡ self.now) }
+    {
+        let list = pack(*self.list.allocator(), &self.list)?;
         Ok(Mementos { list })
     }
 
@@ -160,6 +168,19 @@ fn copy_missing(
         }
     }
     Ok(rest)
+}
+
+// Copies whose addresses share one buffer that has nothing else.
+fn pack(alloc: Global, list: &[Memento]) -> Result<Vec<Memento>, NoMemory>
+    ensures { IfOk result (λ copies. copies.items ≡ list.now) }
+{
+    let mut builder = MementosBuilder::new(alloc);
+    for memento in list {
+        if builder.push(memento.at, memento.uri.as_bytes()).is_err() {
+            return Err(NoMemory);
+        }
+    }
+    Ok(builder.build(alloc)?)
 }
 
 // How many of a list in order are below a memento.

@@ -39,7 +39,8 @@ push_keeps marks bytes at text builder clean small = record {
       (All-append HasAddress (listed marks bytes) (record { at = at; uri = text } ∷ []) builder.each (All-cons HasAddress (record { at = at; uri = text }) [] clean (All-nil HasAddress)));
 }
 
-module _ (marks marks' : List (ℕ × ℕ)) (bytes bytes' : List ℕ) (at : ℕ) (text : List ℕ) (builder : IsBuilder marks bytes) (m : marks' ≡ marks ++ (at, length text) ∷ []) (b : bytes' ≡ bytes ++ text) where
+module _ (marks marks' : List (ℕ × ℕ)) (bytes bytes' : List ℕ) (at : ℕ) (text : List ℕ) (builder : IsBuilder marks bytes)
+    (m : marks' ≡ marks ++ (at, length text) ∷ []) (b : bytes' ≡ bytes ++ text) where
   pub pushed : listed marks' bytes' ≡ listed marks bytes ++ record { at = at; uri = text } ∷ []
   pushed = rw (m, b) (listed_push marks bytes at text builder.whole)
 
@@ -58,7 +59,8 @@ pub record IsAt (marks : List (ℕ × ℕ)) (bytes : List ℕ) (k start : ℕ) (
 pub starts : (marks : List (ℕ × ℕ)) (bytes : List ℕ) → IsBuilder marks bytes → IsAt marks bytes 0 0 []
 starts marks bytes builder = record { left = omega (arith, builder.whole); same = refl }
 
-module _ (marks : List (ℕ × ℕ)) (bytes : List ℕ) (builder : IsBuilder marks bytes) (k start : ℕ) (built : List Memento) (here : IsAt marks bytes k start built) (mark : ℕ × ℕ) (lt : k < length marks) (is : mark ≡ get_or marks k mark) where
+module _ (marks : List (ℕ × ℕ)) (bytes : List ℕ) (builder : IsBuilder marks bytes) (k start : ℕ) (built : List Memento)
+    (here : IsAt marks bytes k start built) (mark : ℕ × ℕ) (lt : k < length marks) (is : mark ≡ get_or marks k mark) where
   next : drop k marks ≡ mark ∷ drop (k + 1) marks
   next = drop_more marks k mark lt ∙ ap (λ m. m ∷ drop (k + 1) marks) (sym is)
 

@@ -227,7 +227,9 @@ early_parts text form day month year =
     let t = clock_fits m.4 (32 ∷ 71 ∷ 77 ∷ 84 ∷ []) m.7 in
     let clock : m.4 ≡ two_digits t.0 ++ 58 ∷ (two_digits t.1 ++ 58 ∷ (two_digits t.2 ++ 32 ∷ 71 ∷ 77 ∷ 84 ∷ [])) =
     t.5 ∙ ap (λ rest. two_digits t.0 ++ 58 ∷ (two_digits t.1 ++ 58 ∷ (two_digits t.2 ++ rest))) (zone_fits t.3 t.6) in
-    let whole : text ≡ d.0 ∷ d.1 ∷ d.2 ∷ 44 ∷ 32 ∷ (two_digits d.3 ++ 32 ∷ m.0 ∷ m.1 ∷ m.2 ∷ 32 ∷ (four_digits m.3 ++ 32 ∷ (two_digits t.0 ++ 58 ∷ (two_digits t.1 ++ 58 ∷ (two_digits t.2 ++ 32 ∷ 71 ∷ 77 ∷ 84 ∷ []))))) =
+    let whole : text ≡ d.0 ∷ d.1 ∷ d.2 ∷ 44 ∷ 32 ∷ (two_digits d.3
+    ++ 32 ∷ m.0 ∷ m.1 ∷ m.2 ∷ 32 ∷ (four_digits m.3 ++ 32 ∷
+    (two_digits t.0 ++ 58 ∷ (two_digits t.1 ++ 58 ∷ (two_digits t.2 ++ 32 ∷ 71 ∷ 77 ∷ 84 ∷ []))))) =
     d.6
     ∙ ap (λ rest. d.0 ∷ d.1 ∷ d.2 ∷ 44 ∷ 32 ∷ (two_digits d.3 ++ 32 ∷ rest)) (m.6 ∙ ap (λ rest. m.0 ∷ m.1 ∷ m.2 ∷ 32 ∷ (four_digits m.3 ++ 32 ∷ rest)) clock) in
     let wday = day_of (d.0 ∷ d.1 ∷ d.2 ∷ []) (sym (ap (λ xs. is_name day_names (take 3 xs)) whole) ∙ day) in
@@ -241,8 +243,11 @@ early_parts text form day month year =
       year = ltb-true _ _ early;
       numbers = (d.5, t.4.0, t.4.1, t.4.2);
       shown = whole
-          ∙ ap (λ name. name ++ 44 ∷ 32 ∷ (two_digits d.3 ++ 32 ∷ m.0 ∷ m.1 ∷ m.2 ∷ 32 ∷ (four_digits m.3 ++ 32 ∷ (two_digits t.0 ++ 58 ∷ (two_digits t.1 ++ 58 ∷ (two_digits t.2 ++ 32 ∷ 71 ∷ 77 ∷ 84 ∷ [])))))) wday.2
-          ∙ ap (λ name. day_name wday.0 ++ 44 ∷ 32 ∷ (two_digits d.3 ++ 32 ∷ (name ++ 32 ∷ (four_digits m.3 ++ 32 ∷ (two_digits t.0 ++ 58 ∷ (two_digits t.1 ++ 58 ∷ (two_digits t.2 ++ 32 ∷ 71 ∷ 77 ∷ 84 ∷ []))))))) mon.2
+          ∙ ap (λ name. name ++ 44 ∷ 32 ∷ (two_digits d.3 ++ 32 ∷ m.0 ∷ m.1 ∷ m.2 ∷ 32 ∷
+          (four_digits m.3 ++ 32 ∷ (two_digits t.0 ++ 58 ∷ (two_digits t.1 ++ 58 ∷ (two_digits t.2 ++ 32 ∷ 71 ∷ 77 ∷ 84 ∷ [])))))) wday.2
+          ∙ ap (λ name. day_name wday.0 ++ 44 ∷ 32 ∷ (two_digits d.3
+          ++ 32 ∷ (name ++ 32 ∷ (four_digits m.3 ++ 32 ∷
+          (two_digits t.0 ++ 58 ∷ (two_digits t.1 ++ 58 ∷ (two_digits t.2 ++ 32 ∷ 71 ∷ 77 ∷ 84 ∷ []))))))) mon.2
           ∙ sym (imf_fixdate-tail_of date);
     }
 
@@ -260,7 +265,9 @@ both a b h k = rw (h, k)
 
 -- the numbers that the text has at the digits' places
 digits_fit : (a b c e f g day year hour min sec : ℕ) → day < 100 → year < 10000 → hour < 100 → min < 100 → sec < 100
-    → list_all fits (zip (a ∷ b ∷ c ∷ 44 ∷ 32 ∷ (two_digits day ++ 32 ∷ e ∷ f ∷ g ∷ 32 ∷ (four_digits year ++ 32 ∷ (two_digits hour ++ 58 ∷ (two_digits min ++ 58 ∷ (two_digits sec ++ 32 ∷ 71 ∷ 77 ∷ 84 ∷ [])))))) date_form) ≡ true
+    → list_all fits (zip (a ∷ b ∷ c ∷ 44 ∷ 32 ∷ (two_digits day
+    ++ 32 ∷ e ∷ f ∷ g ∷ 32 ∷ (four_digits year ++ 32 ∷ (two_digits hour
+    ++ 58 ∷ (two_digits min ++ 58 ∷ (two_digits sec ++ 32 ∷ 71 ∷ 77 ∷ 84 ∷ [])))))) date_form) ≡ true
 digits_fit a b c e f g day year hour min sec hd hy hh hm hs =
     rw (
       is_digit (day / 10) (omega arith),
@@ -279,7 +286,9 @@ digits_fit a b c e f g day year hour min sec hd hy hh hm hs =
 
 bytes_early : (a b c e f g day year hour min sec : ℕ) → day < 100 → year < 10000 → hour < 100 → min < 100 → sec < 100
     → is_name day_names (a ∷ b ∷ c ∷ []) ≡ true → is_name month_names (e ∷ f ∷ g ∷ []) ≡ true → is_year_before_1970 (four_digits year) ≡ true
-    → is_before_epoch (a ∷ b ∷ c ∷ 44 ∷ 32 ∷ (two_digits day ++ 32 ∷ e ∷ f ∷ g ∷ 32 ∷ (four_digits year ++ 32 ∷ (two_digits hour ++ 58 ∷ (two_digits min ++ 58 ∷ (two_digits sec ++ 32 ∷ 71 ∷ 77 ∷ 84 ∷ [])))))) ≡ true
+    → is_before_epoch (a ∷ b ∷ c ∷ 44 ∷ 32 ∷ (two_digits day
+    ++ 32 ∷ e ∷ f ∷ g ∷ 32 ∷ (four_digits year ++ 32 ∷ (two_digits hour
+    ++ 58 ∷ (two_digits min ++ 58 ∷ (two_digits sec ++ 32 ∷ 71 ∷ 77 ∷ 84 ∷ [])))))) ≡ true
 unfolding is_before_epoch
 bytes_early a b c e f g day year hour min sec hd hy hh hm hs name month early =
     both _ _ (both _ _ (both _ _ (both _ _ refl (digits_fit a b c e f g day year hour min sec hd hy hh hm hs)) name) month) early
@@ -291,11 +300,17 @@ IsBeforeEpoch-early text h =
     let m = three (month_name p.mon) (length-month_name p.mon h.month) in
     let most : p.year < 10000 = omega (arith, h.year) in
     let is_early : nat_lt p.year 1970 ≡ true = grind (arith, nat_tests, h.year) in
-    let whole : text ≡ d.0 ∷ d.1 ∷ d.2 ∷ 44 ∷ 32 ∷ (two_digits p.day ++ 32 ∷ m.0 ∷ m.1 ∷ m.2 ∷ 32 ∷ (four_digits p.year ++ 32 ∷ (two_digits p.hour ++ 58 ∷ (two_digits p.min ++ 58 ∷ (two_digits p.sec ++ 32 ∷ 71 ∷ 77 ∷ 84 ∷ []))))) =
+    let whole : text ≡ d.0 ∷ d.1 ∷ d.2 ∷ 44 ∷ 32 ∷ (two_digits p.day
+    ++ 32 ∷ m.0 ∷ m.1 ∷ m.2 ∷ 32 ∷ (four_digits p.year ++ 32 ∷
+    (two_digits p.hour ++ 58 ∷ (two_digits p.min ++ 58 ∷ (two_digits p.sec ++ 32 ∷ 71 ∷ 77 ∷ 84 ∷ []))))) =
     h.shown ∙ imf_fixdate-tail_of p ∙ ap (λ name. name ++ tail_of p) d.3
-    ∙ ap (λ name. d.0 ∷ d.1 ∷ d.2 ∷ 44 ∷ 32 ∷ (two_digits p.day ++ 32 ∷ (name ++ 32 ∷ (four_digits p.year ++ 32 ∷ (two_digits p.hour ++ 58 ∷ (two_digits p.min ++ 58 ∷ (two_digits p.sec ++ 32 ∷ 71 ∷ 77 ∷ 84 ∷ []))))))) m.3 in
+    ∙ ap (λ name. d.0 ∷ d.1 ∷ d.2 ∷ 44 ∷ 32 ∷ (two_digits p.day
+    ++ 32 ∷ (name ++ 32 ∷ (four_digits p.year ++ 32 ∷ (two_digits p.hour
+    ++ 58 ∷ (two_digits p.min ++ 58 ∷ (two_digits p.sec ++ 32 ∷ 71 ∷ 77 ∷ 84 ∷ []))))))) m.3 in
     ap is_before_epoch whole
-    ∙ bytes_early d.0 d.1 d.2 m.0 m.1 m.2 p.day p.year p.hour p.min p.sec h.numbers.0 most h.numbers.1 h.numbers.2 h.numbers.3 (sym (ap (is_name day_names) d.3) ∙ is_day p.wday h.weekday) (sym (ap (is_name month_names) m.3) ∙ is_month p.mon h.month) (year_test p.year most ∙ is_early)
+    ∙ bytes_early d.0 d.1 d.2 m.0 m.1 m.2 p.day p.year p.hour p.min p.sec h.numbers.0 most h.numbers.1 h.numbers.2 h.numbers.3
+    (sym (ap (is_name day_names) d.3) ∙ is_day p.wday h.weekday) (sym (ap (is_name month_names) m.3) ∙ is_month p.mon h.month)
+    (year_test p.year most ∙ is_early)
 
 -- ---- texts that are read
 
@@ -311,8 +326,12 @@ Reads_fits text s h =
     let m = three (month_name p.mon) (length-month_name p.mon valid.0.1) in
     let day : p.day < 100 = omega (arith, valid.0.2.1, month_most p.year p.mon) in
     let year : p.year < 10000 = omega (arith, valid.0.0.1) in
-    let whole : text ≡ d.0 ∷ d.1 ∷ d.2 ∷ 44 ∷ 32 ∷ (two_digits p.day ++ 32 ∷ m.0 ∷ m.1 ∷ m.2 ∷ 32 ∷ (four_digits p.year ++ 32 ∷ (two_digits p.hour ++ 58 ∷ (two_digits p.min ++ 58 ∷ (two_digits p.sec ++ 32 ∷ 71 ∷ 77 ∷ 84 ∷ []))))) =
+    let whole : text ≡ d.0 ∷ d.1 ∷ d.2 ∷ 44 ∷ 32 ∷ (two_digits p.day
+    ++ 32 ∷ m.0 ∷ m.1 ∷ m.2 ∷ 32 ∷ (four_digits p.year ++ 32 ∷
+    (two_digits p.hour ++ 58 ∷ (two_digits p.min ++ 58 ∷ (two_digits p.sec ++ 32 ∷ 71 ∷ 77 ∷ 84 ∷ []))))) =
     sym (take-append-drop 3 text) ∙ ap (λ name. name ++ drop 3 text) d.3 ∙ ap (λ rest. d.0 ∷ d.1 ∷ d.2 ∷ rest) (h.rest ∙ drop-imf s h.second)
-    ∙ ap (λ name. d.0 ∷ d.1 ∷ d.2 ∷ 44 ∷ 32 ∷ (two_digits p.day ++ 32 ∷ (name ++ 32 ∷ (four_digits p.year ++ 32 ∷ (two_digits p.hour ++ 58 ∷ (two_digits p.min ++ 58 ∷ (two_digits p.sec ++ 32 ∷ 71 ∷ 77 ∷ 84 ∷ []))))))) m.3 in
+    ∙ ap (λ name. d.0 ∷ d.1 ∷ d.2 ∷ 44 ∷ 32 ∷ (two_digits p.day
+    ++ 32 ∷ (name ++ 32 ∷ (four_digits p.year ++ 32 ∷ (two_digits p.hour
+    ++ 58 ∷ (two_digits p.min ++ 58 ∷ (two_digits p.sec ++ 32 ∷ 71 ∷ 77 ∷ 84 ∷ []))))))) m.3 in
     ap (λ t. list_all fits (zip t date_form)) whole
     ∙ digits_fit d.0 d.1 d.2 m.0 m.1 m.2 p.day p.year p.hour p.min p.sec day year (omega (arith, valid.1.0)) (omega (arith, valid.1.1)) (omega (arith, valid.1.2))

@@ -11,4 +11,5 @@ pub memento_cmp_total : IsTotalOrder memento_cmp
 memento_cmp_total = then_total (on_total (λ m. m.at) nat_cmp_total) (on_total (λ m. m.uri) nat_list_cmp_total)
 
 pub memento_cmp_exact : IsAntisymmetric memento_cmp
-memento_cmp_exact a b tie = ap (λ (p : ℕ × List ℕ). record { at = p.0; uri = p.1 }) (exact_pairs nat_cmp text_cmp nat_cmp-IsAntisymmetric (slice_cmp-IsAntisymmetric nat_cmp-IsAntisymmetric) (a.at, a.uri) (b.at, b.uri) tie)
+memento_cmp_exact a b tie = ap (λ (p : ℕ × List ℕ). record { at = p.0; uri = p.1 })
+    (exact_pairs nat_cmp text_cmp nat_cmp-IsAntisymmetric (slice_cmp-IsAntisymmetric nat_cmp-IsAntisymmetric) (a.at, a.uri) (b.at, b.uri) tie)

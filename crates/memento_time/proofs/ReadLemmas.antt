@@ -1,5 +1,6 @@
 -- A text reads as one second at most, and httpdate's dates of 29 bytes are these.
-use Rattle.std.proofs.Common.{◌≡◌, ◌≢◌, Result, Ok, Err, MatchResult, Bor, None, ℕ, zero, suc, ◌+◌, ◌-◌, ◌/◌, ◌%◌, ◌<◌, ◌≤◌, inl, inr, refl, sym, ap, ◌∙◌, arith, List, [], ◌∷◌, ◌++◌, length, take, drop, length-append, Option, Some, append_assoc, Contains, lit≤, get_or}
+use Rattle.std.proofs.Common.{◌≡◌, ◌≢◌, Result, Ok, Err, MatchResult, Bor, None, ℕ, zero, suc, ◌+◌, ◌-◌, ◌/◌, ◌%◌, ◌<◌, ◌≤◌, inl, inr, refl, sym, ap}
+use Rattle.std.proofs.Common.{◌∙◌, arith, List, [], ◌∷◌, ◌++◌, length, take, drop, length-append, Option, Some, append_assoc, Contains, lit≤, get_or}
 use Rattle.std.proofs.Math.Seq.{take-append_seam}
 use Rattle.std.proofs.lemmas.List.{get_or_default}
 use Rattle.std.proofs.lemmas.Option.{same_Some, none-some}
@@ -203,16 +204,19 @@ Reads-imf s h =
     record {
       second = h;
       len = simp length-append (omega (arith, length-day_name _ day, length-month_name _ valid.0.1));
-      day = rw split (named (day_name (civil_time s).wday) (tail_of (civil_time s)) ((civil_time s).wday - 1) (omega (arith, day)) (get_or_default day_names _ _ [] (omega (arith, day))) (length-day_name _ day));
+      day = rw split (named (day_name (civil_time s).wday) (tail_of (civil_time s)) ((civil_time s).wday - 1) (omega (arith, day))
+          (get_or_default day_names _ _ [] (omega (arith, day))) (length-day_name _ day));
       rest = refl;
     }
 
 -- ---- a text as an array of 29 bytes, where it has as many
-pub whole_array : {E : Type 0} (text : List ℕ) (r : Result (Bor (List ℕ)) E) (b : Bor (List ℕ)) → MatchResult r (λ y. IsWholeChunk text y.now 29) (λ _. length text ≢ 29) → ◌≡◌ {A = Option (Bor (List ℕ))} (Some b) (result_ok r)
+pub whole_array : {E : Type 0} (text : List ℕ) (r : Result (Bor (List ℕ)) E) (b : Bor (List ℕ))
+    → MatchResult r (λ y. IsWholeChunk text y.now 29) (λ _. length text ≢ 29) → ◌≡◌ {A = Option (Bor (List ℕ))} (Some b) (result_ok r)
     → (b.now ≡ text) × (length text ≡ 29)
 whole_array text (Ok y) b h e = (ap (λ (x : Bor (List ℕ)). x.now) (same_Some _ _ e) ∙ h.same, h.long)
 whole_array text (Err x) b h e = absurd (cc)
 
-pub no_array : {E : Type 0} (text : List ℕ) (r : Result (Bor (List ℕ)) E) → MatchResult r (λ y. IsWholeChunk text y.now 29) (λ _. length text ≢ 29) → ◌≡◌ {A = Option (Bor (List ℕ))} None (result_ok r) → length text ≢ 29
+pub no_array : {E : Type 0} (text : List ℕ) (r : Result (Bor (List ℕ)) E) → MatchResult r (λ y. IsWholeChunk text y.now 29) (λ _. length text ≢ 29)
+    → ◌≡◌ {A = Option (Bor (List ℕ))} None (result_ok r) → length text ≢ 29
 no_array text (Ok y) h e = absurd (none-some _ e)
 no_array text (Err x) h e = h

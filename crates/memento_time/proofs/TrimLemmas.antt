@@ -40,7 +40,8 @@ all_reverse test (x ∷ xs) h =
     rw turned (all_append test (reverse xs) (x ∷ []) (all_reverse test xs parts.1) one)
 
 -- a text whose first byte is no blank, cut at its end
-end_cut : (test : ℕ → Bool) (text before ys : List ℕ) → text ≡ before ++ ys → list_all test before ≡ true → ((b : ℕ) (bs : List ℕ) → ys ≡ b ∷ bs → test b ≡ false) → IsTrimmed test text (trim_end test ys)
+end_cut : (test : ℕ → Bool) (text before ys : List ℕ) → text ≡ before ++ ys → list_all test before ≡ true
+    → ((b : ℕ) (bs : List ℕ) → ys ≡ b ∷ bs → test b ≡ false) → IsTrimmed test text (trim_end test ys)
 end_cut test text before ys parts blank first =
     let cut = start_cut test (reverse ys) in
     let whole : ys ≡ trim_end test ys ++ reverse cut.before =

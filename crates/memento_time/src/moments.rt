@@ -34,7 +34,7 @@ impl Model for Moment {
 const LAST_SECOND: u64 = 253_402_300_799;
 
 impl Moment {
-    /// None above 253402300799, the last second of the year 9999.
+    /// The moment of a second; None above 253402300799, the last second of the year 9999.
     pub fn from_secs(secs: u64) -> Option<Moment>
         ensures { SomeIff result (IsSecond secs) secs }
     {

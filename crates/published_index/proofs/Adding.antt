@@ -31,5 +31,6 @@ adds_goes log v e old next len is_next pre false is =
 pub adds_moves : (v : List LogEntry) (e : LogEntry) (old next : ℕ) → length v ≡ old → next ≡ old + 1
     → Moves Counts shown moved 0 (v, (no_nib, None)) (λ n. either (n == old) next n) (Adds (step 0 old next e) (v, (no_nib, None)))
 adds_moves v e old next len is_next cs log counts pre away =
-    let P : List Cell → Type 0 = λ c. (0 < length c) × ((cell c 0).1 ≡ true) × Goes Counts shown moved 0 (v, (no_nib, None)) (λ n. either (n == old) next n) (Adds (step 0 old next e) (v, (no_nib, None))) c log in
+    let P : List Cell → Type 0 = λ c. (0 < length c) × ((cell c 0).1 ≡ true)
+    × Goes Counts shown moved 0 (v, (no_nib, None)) (λ n. either (n == old) next n) (Adds (step 0 old next e) (v, (no_nib, None))) c log in
     subst P (sym counts) (omega arith, refl, adds_goes log v e old next len is_next pre (length log == old) refl)

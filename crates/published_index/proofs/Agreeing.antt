@@ -9,10 +9,12 @@ use Rattle.published_index.specs.declared.faults.GateFault.{GateFault}
 use Rattle.published_index.specs.Batches.{Batch, fold_of}
 use Rattle.published_index.specs.Replies.{IsReplyFrom}
 
-pub reply_from_front : (base : List ℕ) (incarnation : ℕ) (front : List Batch) (q : Request) (made : Reply) → IsReplyFrom base incarnation front q made → IsOfTaken q → made ≡ reply base (fold_of front) q
+pub reply_from_front : (base : List ℕ) (incarnation : ℕ) (front : List Batch) (q : Request) (made : Reply) → IsReplyFrom base incarnation front q made
+    → IsOfTaken q → made ≡ reply base (fold_of front) q
 reply_from_front base incarnation front q made from taken = from.is ∙ reply_from_state base (fold_of front) from.stamped q from.merges.entries taken
 
 -- but for the deltas, the reply of what the front's merges add
-pub taken_reply : (r : Result Reply GateFault) (base : List ℕ) (incarnation : ℕ) (front : List Batch) (q : Request) → IfOk r (IsReplyFrom base incarnation front q) → IsOfTaken q → IfOk r (λ made. made ≡ reply base (fold_of front) q)
+pub taken_reply : (r : Result Reply GateFault) (base : List ℕ) (incarnation : ℕ) (front : List Batch) (q : Request)
+    → IfOk r (IsReplyFrom base incarnation front q) → IsOfTaken q → IfOk r (λ made. made ≡ reply base (fold_of front) q)
 taken_reply (Ok made) base incarnation front q from taken = reply_from_front base incarnation front q made from taken
 taken_reply (Err fault) base incarnation front q from taken = tt

@@ -20,7 +20,8 @@ appended (Ok x) old new log log' m m' is was same more =
     is ∙ ap (λ (p : Batch). record old { pending = p }) (ap merges_in more ∙ (merges_in-append log m ∙ (λ i. was i ++ same i ∷ [])))
 appended (Err x) old new log log' m m' is was same unchanged = is ∙ ap (λ (p : Batch). record old { pending = p }) (ap merges_in unchanged ∙ was)
 
-pub delta_appended : (old new : MergerView) (log log' : List Change) (peer : ℕ) (d : Delta) (state : Entries) (was moved : Held) → new ≡ record old { pending = merges_in log'; cursors = moved } → merges_in log ≡ old.pending → was ≡ old.cursors
+pub delta_appended : (old new : MergerView) (log log' : List Change) (peer : ℕ) (d : Delta) (state : Entries) (was moved : Held)
+    → new ≡ record old { pending = merges_in log'; cursors = moved } → merges_in log ≡ old.pending → was ≡ old.cursors
     → state ≡ d.state → moved ≡ taken_from was peer d → log' ≡ log ++ Add (State state) ∷ [] → new ≡ with_delta old peer d
 delta_appended old new log log' peer d state was moved is pends holds same taken more =
     let pending : merges_in log' ≡ old.pending ++ State d.state ∷ [] = ap merges_in more ∙ (merges_in-append log (State state) ∙ (λ i. pends i ++ State (same i) ∷ [])) in

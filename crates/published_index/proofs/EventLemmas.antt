@@ -78,8 +78,12 @@ batch_runs base w i r (m ∷ ms) there fits left =
     let end : with_replica mid i (merging next ms) ≡ with_replica w i (merging r (m ∷ ms)) = put_twice w i next _ ∙ ap (with_replica w i) (merge_more r m ms) in
     let count = length_push r.merges m in
     let first : ¬ (length r.merges ≡ last_number) = (λ spent. omega (arith, spent, left)) in
-    let later : length next.merges + length ms ≤ last_number = omega (arith, count, left) in
-    (mid, takes base w i r m there (All-head IsReceivable m ms fits) first, subst (Run base mid (map (event_of i) ms) (map answer_to ms)) end (batch_runs base mid i next ms (put_there w i r _ there) (All-tail IsReceivable m ms fits) later))
+    let later : length next.merges + length ms ≤ last_number = omega (arith, count, left) in (
+      mid,
+      takes base w i r m there (All-head IsReceivable m ms fits) first,
+      subst (Run base mid (map (event_of i) ms) (map answer_to ms)) end
+          (batch_runs base mid i next ms (put_there w i r _ there) (All-tail IsReceivable m ms fits) later),
+    )
 
 pub publish_runs : (m : MergerView) → AreNumbered (with_publish m).published → RunsAsEvents m.published m.pending
 publish_runs m numbered base w i r there merges fits =

@@ -51,7 +51,8 @@ merges-more (b ∷ bs) more = ap (λ (m : Batch). b ++ m) (merges-more bs more) 
 
 -- a list has the merges of its beginnings
 pub merges_of_prefix : (list front : List Batch) → IsPrefix list front → (m : Merge) → Contains (merges_of list) m → Contains (merges_of front) m
-merges_of_prefix list front p m at = subst (λ (l : List Batch). Contains (merges_of l) m) p.1 (subst (λ (ms : List Merge). Contains ms m) (sym (merges-more list p.0)) (Contains-append_left (merges_of list) (merges_of p.0) m at))
+merges_of_prefix list front p m at = subst (λ (l : List Batch). Contains (merges_of l) m) p.1
+    (subst (λ (ms : List Merge). Contains ms m) (sym (merges-more list p.0)) (Contains-append_left (merges_of list) (merges_of p.0) m at))
 
 -- and their harvests
 pub harvests_of_prefix : (list front : List Batch) → IsPrefix list front → (h : Harvested) → Contains (fold_of list) h → Contains (fold_of front) h

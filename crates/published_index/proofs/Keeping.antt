@@ -15,7 +15,8 @@ abbrev AllCovered : Edition → List ReaderView → Type 0
 AllCovered x passes = (seat : ℕ) (p : ReaderView) → get_elem? passes seat ≡ some p → Covers x p
 
 covered_set : (x : Edition) (passes : List ReaderView) (seat : ℕ) (w : ReaderView) → AllCovered x passes → Covers x w → AllCovered x (set passes seat w)
-covered_set x passes seat w all here j p at = ⊎_elim (λ (t : (j ≡ seat) × (w ≡ p)). subst (Covers x) t.1 here) (λ (t : (j ≢ seat) × (get_elem? passes j ≡ some p)). all j p t.1) (at_set passes seat j w p at)
+covered_set x passes seat w all here j p at = ⊎_elim (λ (t : (j ≡ seat) × (w ≡ p)). subst (Covers x) t.1 here)
+    (λ (t : (j ≢ seat) × (get_elem? passes j ≡ some p)). all j p t.1) (at_set passes seat j w p at)
 
 covered_snoc : (x : Edition) (passes : List ReaderView) (w : ReaderView) → AllCovered x passes → Covers x w → AllCovered x (passes ++ w ∷ [])
 covered_snoc x passes w all here j p at = ⊎_elim (all j p) (λ (same : w ≡ p). subst (Covers x) same here) (at_snoc passes w p j at)
@@ -44,7 +45,8 @@ forks seat p x passes h at = let c = h.1 seat p at in (h.0, covered_snoc x (set 
 
 pub merges : (seat : ℕ) (p : ReaderView) (other : ℕ) (q : ReaderView) → Merges Keeps seat p other q (view_of_note p q) no_view
 merges seat p other q x passes h at apart there =
-    let d : Covers x q = ⊎_elim (λ (t : (other ≡ seat) × (view_of_note p q ≡ q)). absurd (apart t.0)) (λ (t : (other ≢ seat) × (get_elem? passes other ≡ some q)). h.1 other q t.1) (at_set passes seat other (view_of_note p q) q there) in
+    let d : Covers x q = ⊎_elim (λ (t : (other ≡ seat) × (view_of_note p q ≡ q)). absurd (apart t.0))
+    (λ (t : (other ≢ seat) × (get_elem? passes other ≡ some q)). h.1 other q t.1) (at_set passes seat other (view_of_note p q) q there) in
     (h.0, covered_set x (set passes seat (view_of_note p q)) other no_view (covered_set x passes seat (view_of_note p q) h.1 d) (nothing_covered x))
 
 pub opens : (x : Edition) → IsWhole x → Keeps x (no_view ∷ [])

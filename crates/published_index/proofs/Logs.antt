@@ -45,4 +45,5 @@ next_entry log' (Attempt b) = subst (λ (l : List Batch). IsPrefix l (successes_
 pub successes-next : (log log' both : List LogEntry) → IsPrefix log both → IsPrefix log' both → length log ≤ length log' + 1 → IsPrefix (successes log) (successes_with_last log')
 successes-next log log' both p q le =
     ⊎_elim (λ (r : IsPrefix log log'). prefix_trans (successes log) (successes log') (successes_with_last log') (successes-prefix log log' r) (successes-append log' (Success ∷ [])))
-    (λ (r : (e : LogEntry) × (log ≡ log' ++ e ∷ [])). subst (λ (l : List LogEntry). IsPrefix (successes l) (successes_with_last log')) (sym r.1) (next_entry log' r.0)) (prefix_or_next log log' both p q le)
+    (λ (r : (e : LogEntry) × (log ≡ log' ++ e ∷ [])). subst (λ (l : List LogEntry). IsPrefix (successes l) (successes_with_last log')) (sym r.1)
+    (next_entry log' r.0)) (prefix_or_next log log' both p q le)

@@ -47,7 +47,8 @@ begins_later list start end between after front run here =
     let at : Holds list later.0 = holds_along list start later.0 between later.1 here in
     along list later.2.0.front front (sym later.2.1.1) (to_front list later.0 later.2.0 later.2.1.0 at)
 
-pub after_answer : (start end : Pass) (before between after : List Call) (earlier later : List Batch) → Calls start (before ++ Answer earlier ∷ (between ++ Answer later ∷ after)) end → IsPrefix earlier later
+pub after_answer : (start end : Pass) (before between after : List Call) (earlier later : List Batch)
+    → Calls start (before ++ Answer earlier ∷ (between ++ Answer later ∷ after)) end → IsPrefix earlier later
 after_answer start end before between after earlier later run =
     let here = parts start end before (Answer earlier ∷ (between ++ Answer later ∷ after)) run in
     let mid = here.2.0 in

@@ -1,5 +1,6 @@
 -- The one state that has absorbed a merge, and the state that absorbed a batch.
-use Rattle.std.proofs.Common.{◌≡◌, ◌⊎◌, ℕ, ◌+◌, Bool, true, false, cond, ◌&&◌, ◌||◌, List, [], ◌∷◌, ◌++◌, fold, Option, Some, None, is_some, refl, sym, ap, subst, ◌∙◌, append_assoc, append-nil, inl, inr}
+use Rattle.std.proofs.Common.{◌≡◌, ◌⊎◌, ℕ, ◌+◌, Bool, true, false, cond, ◌&&◌, ◌||◌, List, [], ◌∷◌, ◌++◌, fold, Option, Some, None, is_some, refl}
+use Rattle.std.proofs.Common.{sym, ap, subst, ◌∙◌, append_assoc, append-nil, inl, inr}
 use Rattle.std.specs.Coded.{coded_option}
 use Rattle.std.specs.List.{list_any}
 use Rattle.std.specs.Ordering.{eq_by_cmp}
@@ -90,7 +91,8 @@ absorbs s m = record {
   entries = refl;
   stamps = λ k.
       let now : Entries = join s.entries (lat (adds_of m)) in
-      restamped (map.get now k) (map.get s.entries k) (map.get s.stamps k) (map.get (stamps_with s now) k) (s.number + 1) (is_same_entry (map.get now k) (map.get s.entries k)) refl (get-stamps_with s (lat (adds_of m)) k);
+      restamped (map.get now k) (map.get s.entries k) (map.get s.stamps k) (map.get (stamps_with s now) k) (s.number + 1)
+      (is_same_entry (map.get now k) (map.get s.entries k)) refl (get-stamps_with s (lat (adds_of m)) k);
   number = refl;
   incarnation = refl;
 }

@@ -1,13 +1,17 @@
-//! Performs an exchange of two replicas, and a walk over an archive's pages, while requests for memory may be refused,
-//! and looks for an answer that changed in place of the refusal, at that call or the next.
+//! Performs an exchange of two replicas, a walk over an archive's pages and rounds of walks, while requests for memory
+//! may be refused, and looks for an answer that changed in place of the refusal, at that call or the next.
 //!
 //! `tests/memory/run` refuses each request in turn. Whichever is refused, the same is printed: an event that is
 //! refused because memory ran out leaves every reply as it was, and takes place when it comes again; a walk that is
-//! refused memory says so, and what it fetched up to there is the beginning of the whole record.
+//! refused memory says so, also within a round, and what it fetched up to there is the beginning of the whole record.
+//!
+//! With the word `calls` it makes public calls of the crates below instead, and names each that is refused.
 #![tactic(auto)]
 
+mod calls;
 mod exchange;
 mod replies;
+mod texts;
 mod walks;
 
 use crate::exchange::{Exchange, begin};
@@ -15,6 +19,7 @@ use crate::replies::{is_same, replies_of_all};
 use anyhow::{Result, bail};
 use replica_world::{Answer, Event, Refused, Said, World};
 use std::alloc::Global;
+use std::env;
 use std::io::Write;
 use timegate::{Reply, Request};
 
@@ -59,24 +64,45 @@ fn print_reply(rt: &HostRuntime, reply: &Reply) -> Result<()> {
     Ok(())
 }
 
-fn main(rt: HostRuntime) -> Result<()> {
-    let alloc = rt.alloc();
+/// Whether the first word is `calls`.
+fn asks_for_calls(rt: &HostRuntime) -> Result<bool> {
+    let mut words = env::args(rt)?.skip(1);
+    Ok(words.next().is_some_and(|word| word.as_str() == "calls"))
+}
+
+/// Performs the exchange, and prints every answer and, at the end, every reply.
+fn perform_exchange(rt: &HostRuntime, alloc: Global) -> Result<()> {
     let Exchange {
         mut world,
         events,
         questions,
-    } = match begin(alloc) {
-        Ok(made) => made,
-        Err(_) => begin(alloc)?,
-    };
+    } = begin(alloc).or_else(|_| begin(alloc))?;
     for event in &events {
         let answer = insist(alloc, &mut world, event, &questions)?;
-        print_answer(&rt, &answer)?;
+        print_answer(rt, &answer)?;
     }
     for reply in &replies_of_all(alloc, &world, &questions)? {
-        print_reply(&rt, reply)?;
+        print_reply(rt, reply)?;
     }
+    Ok(())
+}
+
+// Only `main` may wait and start threads.
+fn main(rt: HostRuntime) -> Result<()> {
+    let alloc = rt.alloc();
+    if asks_for_calls(&rt).or_else(|_| asks_for_calls(&rt))? {
+        texts::perform(&rt, alloc)?;
+        return calls::perform(&rt, alloc);
+    }
+    perform_exchange(&rt, alloc)?;
     let archive = walks::make_archive(alloc).or_else(|_| walks::make_archive(alloc))?;
     let outcome = walks::insist(&rt, &archive)?;
-    walks::print_outcome(&rt, &outcome)
+    walks::print_outcome(&rt, &outcome)?;
+    for workers in [1, 2, 64] {
+        println!(rt; "workers {workers}")?;
+        for outcome in &walks::insist_round(&rt, &archive, workers)? {
+            walks::print_outcome(&rt, outcome)?;
+        }
+    }
+    Ok(())
 }

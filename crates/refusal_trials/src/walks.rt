@@ -1,12 +1,15 @@
-//! A walk over three pages of a TimeMap, of which a fourth is lost.
+//! A walk over three pages of a TimeMap, of which a fourth is lost, and rounds of such walks.
 use anyhow::{Context, Result, bail};
-use harvester::{Answer, Job, MemoryFetch, Outcome, WalkFault, walk};
+use harvester::{
+    Answer, Job, MAX_WORKERS, MemoryFetch, Outcome, WalkFault, have_first_urls, run_round, walk,
+};
 use memento_time::{ArchiveName, Clean, Items, Octets, Original};
 use std::alloc::{AllocGlobal, Global};
 use std::io::Write;
 use std::net::{Net, TcpListener, TcpStream};
 use std::random::RandomSource;
 use std::sync::Wait;
+use std::thread::Threads;
 use std::time::Clock;
 
 /// An archive, and what is asked of it.
@@ -14,6 +17,8 @@ use std::time::Clock;
 pub(crate) struct Archive {
     fetch: MemoryFetch,
     job: Job,
+    /// Of a round: from the first page, from the last one, and from one that isn't there.
+    jobs: Vec<Job>,
 }
 
 /// An archive whose first page lists three further ones, the last of which doesn't answer.
@@ -37,13 +42,24 @@ pub(crate) fn make_archive(alloc: Global) -> Result<Archive> {
         b"http://arc.example/p2",
         b"</1>;rel=memento;datetime=\"Sat, 01 Jan 2000 00:00:00 GMT\",</p1>;rel=timemap",
     )?;
-    let job = Job {
+    Ok(Archive {
+        fetch,
+        job: job(alloc, b"http://arc.example/i#top")?,
+        jobs: vec![in alloc;
+            job(alloc, b"http://arc.example/i")?,
+            job(alloc, b"http://arc.example/p2")?,
+            job(alloc, b"http://arc.example/other")?,
+        ]?,
+    })
+}
+
+fn job(alloc: Global, first: &[u8]) -> Result<Job> {
+    Ok(Job {
         archive: ArchiveName::new(b"arc.example").context("no name")?,
         original: Original::new(alloc, b"http://a.example/")?,
         revision: 1,
-        first: Clean::new(alloc, b"http://arc.example/i#top")?,
-    };
-    Ok(Archive { fetch, job })
+        first: Clean::new(alloc, first)?,
+    })
 }
 
 fn add(fetch: &mut MemoryFetch, alloc: Global, url: &[u8], body: &[u8]) -> Result<()> {
@@ -110,6 +126,46 @@ where
     let again = walk(rt, &archive.fetch, &archive.job);
     if !is_same_walk(&outcome, &again) {
         bail!("a refused walk fetched something else");
+    }
+    Ok(again)
+}
+
+/// Whether a walk of the round, or the round, was refused memory.
+fn is_refused(outcomes: &[Outcome<'_>]) -> bool {
+    outcomes.iter().any(|outcome| matches!(outcome.result, Err(WalkFault::NoMemory)))
+}
+
+/// Walks all jobs by so many workers, a second time where memory is refused.
+pub(crate) fn insist_round<'a, R>(
+    rt: &R,
+    archive: &'a Archive,
+    workers: usize,
+) -> Result<Vec<Outcome<'a>>>
+where
+    R: Threads
+        + Sync
+        + Wait
+        + Clock
+        + Net<Listener = TcpListener, Stream = TcpStream>
+        + RandomSource
+        + AllocGlobal,
+{
+    if !have_first_urls(&archive.jobs) || workers == 0 || workers > MAX_WORKERS {
+        bail!("no round");
+    }
+    let Ok(outcomes) = run_round(rt, &archive.fetch, &archive.jobs, workers) else {
+        return Ok(run_round(rt, &archive.fetch, &archive.jobs, workers)?);
+    };
+    if !is_refused(&outcomes) {
+        return Ok(outcomes);
+    }
+    let again = run_round(rt, &archive.fetch, &archive.jobs, workers)?;
+    if !outcomes
+        .iter()
+        .zip(&again)
+        .all(|(refused, whole)| is_same_walk(refused, whole))
+    {
+        bail!("a refused round fetched something else");
     }
     Ok(again)
 }

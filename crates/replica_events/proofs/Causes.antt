@@ -17,7 +17,9 @@ use Rattle.replica_events.specs.declared.event.Said.{Said}
 use Rattle.replica_events.specs.declared.event.Said.TheVariants.{Taken, Sent, Joined, Restarted, Replied}
 use Rattle.replica_events.specs.declared.event.Refused.{Refused}
 use Rattle.replica_events.specs.declared.event.Refused.TheVariants.{NoReplica, NoMessage, BadState, NoMemory, Gap, NumbersSpent}
-use Rattle.replica_events.specs.World.{World, Replica, Message, Answer, Outcome, Effect, Step, Accepts, Refuses, WithMessage, WithStamped, TakesMemory, IfWithinLimit, IfNumberLeft, IfText, Merges, Joins, last_number, with_replica, with_message, taking, joining, sent_by, own_cursor, restarting, replica_reply, replica, message}
+use Rattle.replica_events.specs.World.{World, Replica, Message, Answer, Outcome, Effect, Step, Accepts, Refuses, WithMessage, WithStamped}
+use Rattle.replica_events.specs.World.{TakesMemory, IfWithinLimit, IfNumberLeft, IfText, Merges, Joins, last_number, with_replica, with_message}
+use Rattle.replica_events.specs.World.{taking, joining, sent_by, own_cursor, restarting, replica_reply, replica, message}
 use Rattle.replica_events.specs.Refusals.{IsCause, IsResult, IsDelivered, LeavesGap, replica_of}
 
 -- ---- gaps

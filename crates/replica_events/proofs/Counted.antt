@@ -152,7 +152,8 @@ sends_still count history event answer messages sends unsent = record {
   is_there = λ sender k incarnation merges s. at sender k incarnation merges (sent_before count history event answer sender k incarnation merges s);
 }
   where
-    at : (sender k incarnation merges : ℕ) → WasSentIn count history sender k incarnation merges ⊎ ((sender_of event ≡ Some sender) × (answer ≡ Ok (Sent k)) × IsIn count history sender incarnation merges)
+    at : (sender k incarnation merges : ℕ) → WasSentIn count history sender k incarnation merges
+        ⊎ ((sender_of event ≡ Some sender) × (answer ≡ Ok (Sent k)) × IsIn count history sender incarnation merges)
         → (m : Message) × (numbered messages k ≡ Some m) × EndsAt m sender incarnation merges
     at sender k incarnation merges (inl before) = sends.is_there sender k incarnation merges before
     at sender k incarnation merges (inr (_, answer_is, _)) = absurd (unsent k answer_is)
@@ -180,7 +181,8 @@ sends_more count history event messages i m sends by_event sender is_in = record
         (subst (λ (j : ℕ). WasSentIn count all j (length messages + 1) m.delta.incarnation m.delta.end) (sym sender) now))
     sent_or_last k n (inr (few, found)) = sent_still count history event answer n.sender k n.delta.incarnation n.delta.end (sends.was_sent k n found)
 
-    at : (sender k incarnation merges : ℕ) → WasSentIn count history sender k incarnation merges ⊎ ((sender_of event ≡ Some sender) × (answer ≡ Ok (Sent k)) × IsIn count history sender incarnation merges)
+    at : (sender k incarnation merges : ℕ) → WasSentIn count history sender k incarnation merges
+        ⊎ ((sender_of event ≡ Some sender) × (answer ≡ Ok (Sent k)) × IsIn count history sender incarnation merges)
         → (n : Message) × (numbered (messages ++ m ∷ []) k ≡ Some n) × EndsAt n sender incarnation merges
     at j k incarnation merges (inl before) = let was = sends.is_there j k incarnation merges before in (was.0, numbered_push messages m k was.0 was.1, was.2)
     at j k incarnation merges (inr (by, answer_is, is)) =

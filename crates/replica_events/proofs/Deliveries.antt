@@ -60,7 +60,8 @@ alike_append {Names} one other ((event, answer) ∷ after) a named =
     let x : Happened = (event, answer) in
     let first : Contains (x ∷ after) x = Contains-append_left (x ∷ []) after x (Contains-push [] x) in
     let delivers : Delivers Names event answer = λ i k event_is answer_is. named i k (subst (λ (y : Happened). Contains (x ∷ after) y) (λ j. (event_is j, answer_is j)) first) in
-    let later = alike_append (one ++ x ∷ []) (other ++ x ∷ []) after (alike_push one other event answer a delivers) (λ i k at. named i k (Contains-append_right (x ∷ []) after (Deliver i k, Ok Joined) at)) in
+    let later = alike_append (one ++ x ∷ []) (other ++ x ∷ []) after (alike_push one other event answer a delivers)
+    (λ i k at. named i k (Contains-append_right (x ∷ []) after (Deliver i k, Ok Joined) at)) in
     subst (λ (l : History). Alike Names l (other ++ x ∷ after)) (append_assoc one (x ∷ []) after)
     (subst (λ (l : History). Alike Names ((one ++ x ∷ []) ++ after) l) (append_assoc other (x ∷ []) after) later)
 

@@ -17,7 +17,8 @@ use Rattle.memento_index.specs.declared.merge.Merge.TheVariants as merge
 use Rattle.replica_exchange.specs.declared.delta.Delta.{Delta}
 use Rattle.replica_exchange.specs.DeltaText.{delta_text}
 use Rattle.replica_exchange.specs.CursorRule.{delta_from}
-use Rattle.replica_events.specs.World.{Knowledge, World, Replica, Message, Answer, Course, IsText, numbered, replica, message, with_replica, with_message, taking, joining, sent_by, fresh, start, restarting}
+use Rattle.replica_events.specs.World.{Knowledge, World, Replica, Message, Answer, Course, IsText, numbered, replica, message, with_replica}
+use Rattle.replica_events.specs.World.{with_message, taking, joining, sent_by, fresh, start, restarting}
 use Rattle.replica_events.specs.Agreement.{HasTaken, SameHarvests}
 use Rattle.replica_events.specs.History.{Happened, History, history_of, sender_of, Learnt, LearntAlike, Carries, HasSent}
 use Rattle.replica_events.proofs.Numbers.{IsPlaced, replica_placed, messages_stay, Pushed, pushed}

@@ -130,7 +130,8 @@ module _ (count i peer : ℕ) where
 
   -- ---- what a cursor says
 
-  -- nothing is held where nothing was brought; a held cursor is the furthest, and whatever is recent is of its incarnation
+  -- nothing is held where nothing was brought; a held cursor is the furthest, and whatever is recent is of its
+  -- incarnation
   abbrev Says : History → Option Cursor → Type 0
   Says history None = (end : Cursor) (after : History) → ¬ WasBrought count history i peer end after
   Says history (Some c) = IsFurthest count history i peer c × ((end : Cursor) → IsRecent count history i peer end → end.incarnation ≡ c.incarnation)
@@ -170,7 +171,8 @@ module _ (count i peer : ℕ) where
         same = λ later between rest brought is. at later between rest is (brought_after history event answer later rest brought);
       }
         where
-          at : (later : Cursor) (between rest : History) → [] ≡ between ++ rest → Brings history event answer later ⊎ WasBroughtBefore history event answer later rest → later.incarnation ≡ end.incarnation
+          at : (later : Cursor) (between rest : History) → [] ≡ between ++ rest
+              → Brings history event answer later ⊎ WasBroughtBefore history event answer later rest → later.incarnation ≡ end.incarnation
           at later between rest is (inl also) = ap (λ (c : Cursor). c.incarnation) (only later also)
           at later between rest is (inr was) =
               absurd (not_empty (between ++ was.rest) [] (event, answer) (is ∙ (ap (λ (l : History). between ++ l) was.back ∙ sym (append_assoc between was.rest ((event, answer) ∷ [])))))
@@ -318,7 +320,8 @@ module _ (count : ℕ) (history : History) (w : World) (counts : Counts count hi
           (elim (eq_by_cmp nat_cmp peer m.sender) as
           (λ b. eq_by_cmp nat_cmp peer m.sender ≡ b → Says count i peer after (cond b (Some (moved (map.get r.cursors m.sender) m.delta)) (map.get r.cursors peer))) [
             | true ↦ λ same.
-                subst (λ (p : ℕ). Says count i p after (Some (moved (map.get r.cursors m.sender) m.delta))) (sym (map.nat_cmp-IsAntisymmetric peer m.sender ((Equal-is (nat_cmp peer m.sender)).0 same)))
+                subst (λ (p : ℕ). Says count i p after (Some (moved (map.get r.cursors m.sender) m.delta)))
+                (sym (map.nat_cmp-IsAntisymmetric peer m.sender ((Equal-is (nat_cmp peer m.sender)).0 same)))
                 (says_brought count i m.sender history (Deliver i k) (Ok Joined) (map.get r.cursors m.sender) m.delta (kept i r there m.sender) brings only (no_restart i))
             | false ↦ λ differs.
                 says_still count i peer history (Deliver i k) (Ok Joined) (map.get r.cursors peer) (kept i r there peer) (no_restart i)

@@ -143,7 +143,8 @@ received_after history before after event answer i h bytes state none text at (i
     let still : NoRestart (rest ++ (event, answer) ∷ []) i = subst (λ (l : History). NoRestart l i) back none in
     inl (received before rest bytes state front (no_restart_before rest event answer i still) text at, no_restart_last rest event answer i still)
 
-through_after : (history before between after : History) (event : Event) (answer : Answer) (i sender message : ℕ) (sending : Event) (h : Harvested) → sender_of sending ≡ Some sender → NoRestart after i
+through_after : (history before between after : History) (event : Event) (answer : Answer) (i sender message : ℕ) (sending : Event) (h : Harvested)
+    → sender_of sending ≡ Some sender → NoRestart after i
     → Learnt before sender h → Stood history (event, answer) (before ++ (sending, Ok (Sent message)) ∷ between) (Deliver i message, Ok Joined) after → After history event answer i h
 through_after history before between after event answer i sender message sending h sends none learnt (inl (front, last, back)) =
     inr (inr (inr (

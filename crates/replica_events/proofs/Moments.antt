@@ -1,5 +1,6 @@
 -- Each step keeps what holds of worlds, and so does a run: cursors are of moments that were.
-use Rattle.std.proofs.Common.{◌≡◌, ℕ, zero, suc, ◌+◌, ◌<◌, ◌≤◌, true, false, cond, List, [], ◌∷◌, ◌++◌, length, take, Option, Some, None, refl, sym, ap, subst, ◌∙◌, append_assoc, append-nil, inl, inr, arith, slice_get}
+use Rattle.std.proofs.Common.{◌≡◌, ℕ, zero, suc, ◌+◌, ◌<◌, ◌≤◌, true, false, cond, List, [], ◌∷◌, ◌++◌, length, take, Option, Some, None, refl, sym}
+use Rattle.std.proofs.Common.{ap, subst, ◌∙◌, append_assoc, append-nil, inl, inr, arith, slice_get}
 use Rattle.std.specs.Prelude.{◌==◌, ◌&&◌, nat_lt}
 use Rattle.std.specs.Ordering.{nat_cmp, eq_by_cmp}
 use Rattle.std.specs.Cmp.{nat_cmp_total, Equal-is}
@@ -14,7 +15,8 @@ use Rattle.replica_exchange.specs.declared.cursor.Cursor.{Cursor}
 use Rattle.replica_exchange.specs.Stamps.{state_after, StampedState, IsStamped}
 use Rattle.replica_exchange.specs.CursorRule.{delta_from, fits, end_of, moved, taken_from}
 use Rattle.replica_events.specs.declared.event.Event.{Event}
-use Rattle.replica_events.specs.World.{Knowledge, World, Replica, Message, Answer, Course, Step, Run, numbered, replica, message, with_replica, with_message, taking, joining, sent_by, fresh, fresh_after, start, restarting}
+use Rattle.replica_events.specs.World.{Knowledge, World, Replica, Message, Answer, Course, Step, Run, numbered, replica, message, with_replica}
+use Rattle.replica_events.specs.World.{with_message, taking, joining, sent_by, fresh, fresh_after, start, restarting}
 use Rattle.replica_events.specs.Cursors.{GoesOn, IsReached}
 use Rattle.replica_events.proofs.Numbers.{IsPlaced, replica_placed, messages_stay, Pushed, pushed}
 use Rattle.replica_events.proofs.Changes as change
@@ -126,14 +128,16 @@ module _ (Met : ℕ → Replica → Type 0) where
 
         saw : (peer : ℕ) (c : Cursor) → map.get (taken_from r.cursors m.sender m.delta) peer ≡ Some c → Saw Met peer c known
         saw peer c is =
-            elim (eq_by_cmp nat_cmp peer m.sender) as (λ b. eq_by_cmp nat_cmp peer m.sender ≡ b → cond b (Some (moved (map.get r.cursors m.sender) m.delta)) (map.get r.cursors peer) ≡ Some c → Saw Met peer c known) [
+            elim (eq_by_cmp nat_cmp peer m.sender) as (λ b. eq_by_cmp nat_cmp peer m.sender ≡ b
+            → cond b (Some (moved (map.get r.cursors m.sender) m.delta)) (map.get r.cursors peer) ≡ Some c → Saw Met peer c known) [
               | true ↦ λ same here.
                   subst (λ (p : ℕ). Saw Met p c known) (sym (map.nat_cmp-IsAntisymmetric peer m.sender ((Equal-is (nat_cmp peer m.sender)).0 same)))
                   (subst (λ (c : Cursor). Saw Met m.sender c known) (same_Some (moved (map.get r.cursors m.sender) m.delta) c here) (moves (map.get r.cursors m.sender) refl))
               | false ↦ λ _ elsewhere. still_saw i r there m.taken peer c elsewhere
             ] refl (sym (map.get-insert nat_cmp_total r.cursors m.sender (moved (map.get r.cursors m.sender) m.delta) peer) ∙ is)
 
-    good_sent : (i : ℕ) (r : Replica) (s : StampedState) (cursor : Option Cursor) → replica w i ≡ Some r → IsStamped r.merges s → s.incarnation ≡ r.incarnation → Good Met (with_message w (sent_by i r (delta_from s cursor)))
+    good_sent : (i : ℕ) (r : Replica) (s : StampedState) (cursor : Option Cursor) → replica w i ≡ Some r → IsStamped r.merges s
+        → s.incarnation ≡ r.incarnation → Good Met (with_message w (sent_by i r (delta_from s cursor)))
     good_sent i r s cursor there is incarnation = record {
       logs = good.logs;
       sound = sound_sent good.logs w i r s cursor good.sound there is incarnation;
@@ -176,7 +180,8 @@ met_still Met More w still good = record {
   logs = good.logs;
   sound = good.sound;
   witnessed = record {
-    cursors = λ i r there peer c is. let saw = good.witnessed.cursors i r there peer c is in record { was = saw.was; met = still peer saw.was saw.met; incarnation = saw.incarnation; number = saw.number; reached = saw.reached };
+    cursors = λ i r there peer c is. let saw = good.witnessed.cursors i r there peer c is
+        in record { was = saw.was; met = still peer saw.was saw.met; incarnation = saw.incarnation; number = saw.number; reached = saw.reached };
     messages = λ k m found. let t = good.witnessed.messages k m found in record { was = t.was; met = still m.sender t.was t.met; incarnation = t.incarnation; number = t.number; taken = t.taken };
   };
 }

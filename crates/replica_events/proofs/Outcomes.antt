@@ -15,7 +15,9 @@ use Rattle.replica_events.specs.declared.event.Said.TheVariants.{Taken, Joined}
 use Rattle.replica_events.specs.declared.event.Refused.{Refused}
 use Rattle.replica_events.specs.declared.event.Refused.TheVariants.{BadState, Gap, NumbersSpent}
 use Rattle.replica_events.specs.World as world
-use Rattle.replica_events.specs.World.{World, Replica, Message, Answer, Outcome, Effect, Accepts, Refuses, WithStamped, IfWithinLimit, IfNumberLeft, IfFits, IfText, Merges, Joins, with_message, with_replica, joining, sent_by, own_cursor, replica, message, last_number}
+use Rattle.replica_events.specs.World.{World, Replica, Message, Answer, Outcome, Effect, Accepts, Refuses, WithStamped, IfWithinLimit, IfNumberLeft}
+use Rattle.replica_events.specs.World.{IfFits, IfText, Merges, Joins, with_message, with_replica, joining, sent_by, own_cursor, replica, message}
+use Rattle.replica_events.specs.World.{last_number}
 use Rattle.replica_events.proofs.Stampings.{merges_stamped}
 
 -- ---- at most one
@@ -100,7 +102,8 @@ accepts said next none = none (Ok said) next (refl, refl)
 refuses : (why : Refused) (w : World) → Happens (Refuses why w)
 refuses why w none = none (Err why) w (refl, refl)
 
-found : {X : Type 0} (o : Option X) (why : Refused) (w : World) (happens : X → Outcome) → ((x : X) → Happens (happens x)) → Happens (λ answer next. MatchOption o (Refuses why w answer next) (λ x. happens x answer next))
+found : {X : Type 0} (o : Option X) (why : Refused) (w : World) (happens : X → Outcome) → ((x : X) → Happens (happens x))
+    → Happens (λ answer next. MatchOption o (Refuses why w answer next) (λ x. happens x answer next))
 found None why w happens each none = none (Err why) w (refl, refl)
 found (Some x) why w happens each none = each x none
 

@@ -1,25 +1,27 @@
 -- What the replies of a world follow from.
-use Rattle.std.proofs.Common.{◌≡◌, ℕ, ◌==◌, Bool, true, false, List, [], length, Option, refl, ap, ◌∙◌, sym, subst, Ok, Some, None, inl, inr}
+use Rattle.std.proofs.Common.{◌≡◌, ℕ, ◌+◌, ◌/◌, ◌==◌, ◌||◌, nat_lt, Bool, true, false, List, [], length, arith, Option, refl, ap, ◌∙◌, sym, subst, Ok, Some, None, inl, inr}
 use Rattle.std.specs.Prelude.{MatchOption, if◌then◌else◌}
+use Rattle.std.proofs.lemmas.Bool.{true≢false}
+use Rattle.std.proofs.lemmas.Bool.Decides.{nat_tests}
 use Rattle.memento_sets.specs.Sets as set
 use Rattle.memento_sets.specs.MementoSets.{Mementos}
 use Rattle.harvest_lattice.specs.Lattice.{Entries}
 use Rattle.harvest_lattice.specs.Knowledge.{lat, shown, shown_of}
 use Rattle.harvest_lattice.proofs.Knowledge.{lat_same, shown-lat}
-use Rattle.timemap_writer.specs.TimeMap.{timemap_text}
+use Rattle.timemap_writer.specs.Pages.{pages, page_text, listing_text}
 use Rattle.timegate.specs.declared.reply.Reply.{Reply}
 use Rattle.timegate.specs.declared.request.Request.{Request}
-use Rattle.timegate.specs.declared.route.Route.TheVariants.{TimeMap, TimeGate, Delta}
+use Rattle.timegate.specs.declared.route.Route.TheVariants.{TimeMap, Page, TimeGate, Delta}
 use Rattle.timegate.specs.Route.{IsOfTaken, route_of, is_head}
-use Rattle.timegate.specs.Reply.{reply, reply_of, timemap_of}
+use Rattle.timegate.specs.Reply.{reply, reply_of, timemap_of, page_of}
 use Rattle.timegate.specs.Redirect.{IsGateReply}
-use Rattle.timegate.proofs.Replies.{same_reply, reply_from_state, timemap_reply, gate_reply, redirects, redirects_alone}
+use Rattle.timegate.proofs.Replies.{same_reply, reply_from_state, timemap_reply, page_reply, gate_reply, redirects, redirects_alone}
 use Rattle.replica_events.specs.declared.event.Event.TheVariants.{Ask}
 use Rattle.replica_events.specs.declared.event.Said.TheVariants.{Replied}
 use Rattle.replica_events.specs.declared.event.Refused.TheVariants.{NoReplica}
 use Rattle.replica_exchange.specs.Stamps.{StampedState, IsStamped}
 use Rattle.replica_events.specs.World.{Knowledge, World, Replica, Course, Step, Refuses, Accepts, WithStamped, replica_reply, replica}
-use Rattle.replica_events.specs.Agreement.{SameHarvests, HasTaken, Gives, Agree, Shows, ServesTimeMaps, ServesTimeGates, NamesNearest, RedirectsWell, timemap_at}
+use Rattle.replica_events.specs.Agreement.{SameHarvests, HasTaken, Gives, Agree, Shows, ServesTimeMaps, ServesTimeGates, NamesNearest, RedirectsWell, timemap_at, page_at}
 use Rattle.replica_events.proofs.Moments.{merges_made}
 use Rattle.replica_events.proofs.Stampings.{merges_stamped}
 
@@ -63,7 +65,9 @@ pub agreement : (base : List ℕ) (world : World) (i j : ℕ) (known other : Kno
 agreement base world i j known other i_is j_is same = record {
   replies = λ q r s compared one two. given base world i known q r i_is compared one ∙ (same_reply base known other q same ∙ sym (given base world j other q s j_is compared two));
   timemaps = λ original.
-      ap (λ (ms : Mementos). if length (set.items ms) == 0 then None else Some (timemap_text base original (set.items ms))) (same_shown known other original same);
+      ap (λ (ms : Mementos). if length (set.items ms) == 0 then None else Some (listing_text base original (set.items ms))) (same_shown known other original same);
+  pages = λ original number.
+      ap (λ (ms : Mementos). if number == 0 || nat_lt (pages (set.items ms)) number then None else Some (page_text base original (set.items ms) number)) (same_shown known other original same);
 }
 
 shows : (b : Bool) (q : Request) (text : List ℕ) (none some : Reply) → none.status ≡ 404 → some.status ≡ 200 → some.body ≡ (if is_head q then [] else text)
@@ -76,17 +80,42 @@ timemap_shows base known q original is =
     subst (λ (r : Reply). Shows (timemap_at base known original) q r) (sym (timemap_reply base known q original is))
     (shows (length (set.items (shown known original)) == 0) q (timemap_of base known original) _ _ refl refl refl)
 
--- whoever asks for a TimeMap or a TimeGate asks for no delta
+page_shown : (b other : Bool) (q : Request) (text : List ℕ) (x y z : Reply) → (b ≡ true → other ≡ true) → x.status ≡ 404 → y.status ≡ 404 → z.status ≡ 200 → z.body ≡ (if is_head q then [] else text)
+    → Shows (if other then None else Some text) q (if b then x else if other then y else z)
+page_shown true true q text x y z none empty missing status body = empty
+page_shown true false q text x y z none empty missing status body = absurd (true≢false (sym (none refl)))
+page_shown false other q text x y z none empty missing status body = shows other q text y z missing status body
+
+-- where nothing is shown there is no page
+no_pages : (count number : ℕ) → (count == 0) ≡ true → (number == 0 || nat_lt ((count + 999) / 1000) number) ≡ true
+no_pages count number none = grind (arith, nat_tests, none)
+
+page_shows : (base : List ℕ) (known : Knowledge) (q : Request) (original : List ℕ) (number : ℕ) → route_of q ≡ Page number original
+    → Shows (page_at base known original number) q (reply base known q)
+page_shows base known q original number is =
+    let ms = set.items (shown known original) in
+    subst (λ (r : Reply). Shows (page_at base known original number) q r) (sym (page_reply base known q number original is))
+    (page_shown (length ms == 0) (number == 0 || nat_lt (pages ms) number) q (page_of base known original number) _ _ _ (no_pages (length ms) number) refl refl refl refl)
+
+-- whoever asks for a TimeMap, a page or a TimeGate asks for no delta
 timemap_asked : (q : Request) (original : List ℕ) → route_of q ≡ TimeMap original → IsOfTaken q
 timemap_asked q original route cursor other = let both : TimeMap original ≡ Delta cursor = sym route ∙ other in cc
+
+page_asked : (q : Request) (number : ℕ) (original : List ℕ) → route_of q ≡ Page number original → IsOfTaken q
+page_asked q number original route cursor other = let both : Page number original ≡ Delta cursor = sym route ∙ other in cc
 
 timegate_asked : (q : Request) (original : List ℕ) (asked : Option ℕ) → route_of q ≡ TimeGate original asked → IsOfTaken q
 timegate_asked q original asked route cursor other = let both : TimeGate original asked ≡ Delta cursor = sym route ∙ other in cc
 
 pub serves_timemaps : (base : List ℕ) (world : World) (i : ℕ) (known : Knowledge) → HasTaken world i known → ServesTimeMaps base world i known
-serves_timemaps base world i known is q original r route gives =
-    subst (λ (r : Reply). Shows (timemap_at base known original) q r) (sym (given base world i known q r is (timemap_asked q original route) gives))
-    (timemap_shows base known q original route)
+serves_timemaps base world i known is = record {
+  timemaps = λ q original r route gives.
+      subst (λ (r : Reply). Shows (timemap_at base known original) q r) (sym (given base world i known q r is (timemap_asked q original route) gives))
+      (timemap_shows base known q original route);
+  pages = λ q original number r route gives.
+      subst (λ (r : Reply). Shows (page_at base known original number) q r) (sym (given base world i known q r is (page_asked q number original route) gives))
+      (page_shows base known q original number route);
+}
 
 pub serves_timegates : (base : List ℕ) (world : World) (i : ℕ) (known : Knowledge) → HasTaken world i known → ServesTimeGates base world i known
 serves_timegates base world i known is q original asked r route gives =

@@ -1,5 +1,7 @@
--- What holds of every world: replicas have the state of their merges, cursors are reached, and messages tell what their senders had.
-use Rattle.std.proofs.Common.{◌≡◌, ℕ, ◌+◌, ◌<◌, ◌≤◌, Bool, true, false, cond, eqb, ◌⊎◌, List, [], ◌∷◌, ◌++◌, length, take, take_all, Option, Some, None, refl, sym, ap, subst, ◌∙◌, append-nil, inl, inr, arith}
+-- What holds of every world: replicas have the state of their merges, cursors are reached, and messages tell what their
+-- senders had.
+use Rattle.std.proofs.Common.{◌≡◌, ℕ, ◌+◌, ◌<◌, ◌≤◌, Bool, true, false, cond, eqb, ◌⊎◌, List, [], ◌∷◌, ◌++◌, length, take, take_all, Option, Some}
+use Rattle.std.proofs.Common.{None, refl, sym, ap, subst, ◌∙◌, append-nil, inl, inr, arith}
 use Rattle.std.specs.Prelude.{◌==◌, ◌&&◌, nat_le, nat_lt}
 use Rattle.std.specs.Ordering.{nat_cmp, eq_by_cmp}
 use Rattle.std.specs.Cmp.{nat_cmp_total}
@@ -34,8 +36,8 @@ pub record Reaches (logs : Logs) (x : Entries) (c : Cursor) : Type 0 where
   pub within : c.number ≤ length (logs c.incarnation)
   pub reached : AtMost (state_after (take c.number (logs c.incarnation))) x
 
--- a message goes from a number of merges to another, at which its sender had taken what it had; and to what has at least the
--- first, its state adds what the sender had
+-- a message goes from a number of merges to another, at which its sender had taken what it had; and to what has at
+-- least the first, its state adds what the sender had
 pub record Tells (logs : Logs) (m : Message) : Type 0 where
   pub order : m.delta.start ≤ m.delta.end
   pub within : m.delta.end ≤ length (logs m.delta.incarnation)
@@ -116,14 +118,16 @@ module _ (logs : Logs) (w : World) (sound : Sound logs w) (i : ℕ) (r : Replica
   pub logs_grow : Grow logs more_logs
   logs_grow number = at (log_of number)
     where
-      at : ((number ≡ r.incarnation) × (more_logs number ≡ r.merges ++ m ∷ [])) ⊎ ((¬ (number ≡ r.incarnation)) × (more_logs number ≡ logs number)) → (rest : List Merge) × (more_logs number ≡ logs number ++ rest)
+      at : ((number ≡ r.incarnation) × (more_logs number ≡ r.merges ++ m ∷ [])) ⊎ ((¬ (number ≡ r.incarnation)) × (more_logs number ≡ logs number))
+          → (rest : List Merge) × (more_logs number ≡ logs number ++ rest)
       at (inl (is, log)) = (m ∷ [], log ∙ ap (λ (l : List Merge). l ++ m ∷ []) (sym (sound.own i r there) ∙ ap logs (sym is)))
       at (inr (other, log)) = ([], log ∙ sym (append-nil (logs number)))
 
   own_log : more_logs r.incarnation ≡ r.merges ++ m ∷ []
   own_log = at (log_of r.incarnation)
     where
-      at : ((r.incarnation ≡ r.incarnation) × (more_logs r.incarnation ≡ r.merges ++ m ∷ [])) ⊎ ((¬ (r.incarnation ≡ r.incarnation)) × (more_logs r.incarnation ≡ logs r.incarnation)) → more_logs r.incarnation ≡ r.merges ++ m ∷ []
+      at : ((r.incarnation ≡ r.incarnation) × (more_logs r.incarnation ≡ r.merges ++ m ∷ []))
+          ⊎ ((¬ (r.incarnation ≡ r.incarnation)) × (more_logs r.incarnation ≡ logs r.incarnation)) → more_logs r.incarnation ≡ r.merges ++ m ∷ []
       at (inl (is, log)) = log
       at (inr (other, log)) = absurd (other refl)
 
@@ -281,7 +285,8 @@ start_within s (Some c) =
       | false ↦ λ e. omega arith
     ] refl
 
-pub sound_sent : (logs : Logs) (w : World) (i : ℕ) (r : Replica) (s : StampedState) (cursor : Option Cursor) → Sound logs w → replica w i ≡ Some r → IsStamped r.merges s → s.incarnation ≡ r.incarnation
+pub sound_sent : (logs : Logs) (w : World) (i : ℕ) (r : Replica) (s : StampedState) (cursor : Option Cursor) → Sound logs w → replica w i ≡ Some r
+    → IsStamped r.merges s → s.incarnation ≡ r.incarnation
     → Sound logs (with_message w (sent_by i r (delta_from s cursor)))
 sound_sent logs w i r s cursor sound there is incarnation = record {
   own = sound.own;

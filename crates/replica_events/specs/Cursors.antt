@@ -31,8 +31,8 @@ pub record IsReached {base : List ℕ} (course : Course base) (peer : ℕ) (c : 
   pub reached : AtMost (state_after was.merges) state
 
 -- The replica of this number was delivered a message of the peer, and after that, when all this happened, it wasn't
--- restarted. The cursor is the end of the message's delta: the incarnation that the peer was in when it sent the message,
--- and how often it had merged in it.
+-- restarted. The cursor is the end of the message's delta: the incarnation that the peer was in when it sent the
+-- message, and how often it had merged in it.
 pub record WasBrought (count : ℕ) (history : History) (i peer : ℕ) (end : Cursor) (after : History) : Type 0 where
   pub before : History
   pub message : ℕ

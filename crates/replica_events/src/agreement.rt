@@ -11,7 +11,7 @@ ghost use Rattle.replica_events.specs.History.{LearntAlike, history_of};
 ghost use Rattle.replica_events.specs.Agreement.{HasTaken, Gives, SameHarvests, Agree, ServesTimeMaps};
 ghost use Rattle.replica_events.specs.Agreement.{ServesTimeGates, RedirectsWell};
 
-/// After every list of harvests taken, states sent, restarts, and deliveries that were lost, delayed, repeated or
+/// After every list of harvests taken, messages sent, restarts, and deliveries that were lost, delayed, repeated or
 /// reordered, two replicas that have learnt the same harvests since their last restart, directly or through each
 /// other, as the accepted events alone say it, give every original the same TimeMap bytes, and every request that asks
 /// for no delta the same reply (a delta also tells of the merges by which the harvests came); each redirect names a

@@ -1,5 +1,5 @@
 -- What a merge does to the stamps: its number goes to the keys of what is news, and no other entry changes.
-use Rattle.std.proofs.Common.{◌≡◌, ℕ, ◌+◌, Bool, true, false, cond, ◌++◌, map, List, [], ◌∷◌, Option, Some, None, is_some, Result, Ok, Err, OnOk, OnErr, refl, sym, ap, subst, ◌∙◌, inl, inr}
+use Rattle.std.proofs.Common.{◌≡◌, ℕ, ◌+◌, Bool, true, false, ◌||◌, cond, ◌++◌, map, List, [], ◌∷◌, Option, Some, None, is_some, Result, Ok, Err, OnOk, OnErr, refl, sym, ap, subst, ◌∙◌, inl, inr}
 use Rattle.std.specs.Prelude.{MatchOption, IfSome}
 use Rattle.std.specs.Result.{IsErrAnd}
 use Rattle.std.specs.Ordering.{eq_by_cmp}
@@ -17,7 +17,7 @@ use Rattle.harvest_lattice.proofs.Entries.{entry_semilattice, at_most_from_join,
 use Rattle.memento_index.specs.declared.merge.Merge.{Merge}
 use Rattle.memento_index.specs.Merges.{adds_of}
 use Rattle.replica_exchange.specs.Stamps.{Stamps, StampedState, IsRestamped, IsAbsorbed}
-use Rattle.replica_exchange.specs.StampShelves.{Shelves, stamps_in, slot, has_key, restamped, filled}
+use Rattle.replica_exchange.specs.StampShelves.{Shelves, stamps_in, slot, is_among, restamped, filled}
 use Rattle.replica_exchange.specs.declared.stamped.StampFault.{StampFault}
 use Rattle.replica_exchange.specs.declared.stamped.StampFault.TheVariants.{NumbersSpent, NoMemory as OutOfMemory}
 use Rattle.replica_exchange.proofs.ShelfLemmas.{get-stamps_in}
@@ -32,13 +32,13 @@ either_way : (b : Bool) (v : Option ℕ) → v ≡ cond b v v
 either_way true v = refl
 either_way false v = refl
 
-pub restamped_push : (rows : List Row) (row : Row) (number : ℕ) (k : Key) (was : Option ℕ) → restamped (rows ++ row ∷ []) number k was ≡ cond (eq_by_cmp key_cmp k (row_key row)) (Some number) (restamped rows number k was)
-restamped_push [] row number k was =
-    elim (eq_by_cmp key_cmp k (row_key row)) as (λ b. cond (is_some (cond b (Some (row_entry row).1) None)) (Some number) was ≡ cond b (Some number) was) [ true ↦ refl | false ↦ refl ]
-restamped_push (r ∷ rows) row number k was =
-    elim (eq_by_cmp key_cmp k (row_key r)) as (λ b. cond (is_some (cond b (Some (row_entry r).1) (fmap.find key_cmp k (map row_entry (rows ++ row ∷ []))))) (Some number) was ≡ cond (eq_by_cmp key_cmp k (row_key row)) (Some number) (cond (is_some (cond b (Some (row_entry r).1) (fmap.find key_cmp k (map row_entry rows)))) (Some number) was)) [
-      | true ↦ either_way (eq_by_cmp key_cmp k (row_key row)) (Some number)
-      | false ↦ restamped_push rows row number k was
+pub restamped_push : (keys : List Key) (key : Key) (number : ℕ) (k : Key) (was : Option ℕ) → restamped (keys ++ key ∷ []) number k was ≡ cond (eq_by_cmp key_cmp k key) (Some number) (restamped keys number k was)
+restamped_push [] key number k was =
+    elim (eq_by_cmp key_cmp k key) as (λ b. cond (b || false) (Some number) was ≡ cond b (Some number) was) [ true ↦ refl | false ↦ refl ]
+restamped_push (q ∷ keys) key number k was =
+    elim (eq_by_cmp key_cmp k q) as (λ b. cond (b || is_among (keys ++ key ∷ []) k) (Some number) was ≡ cond (eq_by_cmp key_cmp k key) (Some number) (cond (b || is_among keys k) (Some number) was)) [
+      | true ↦ either_way (eq_by_cmp key_cmp k key) (Some number)
+      | false ↦ restamped_push keys key number k was
     ]
 
 -- ---- what is news
@@ -65,34 +65,43 @@ module _ (x y news : Entries) (is : IsNews x y news) where
   unchanged : (k : Key) → fmap.get news k ≡ None → fmap.get (join x y) k ≡ fmap.get x k
   unchanged k none = joined k None none ∙ alone (fmap.get x k)
 
+-- a key is among those of rows where a row has it
+among_rows : (rows : List Row) (k : Key) → is_among (map row_key rows) k ≡ is_some (fmap.find key_cmp k (map row_entry rows))
+among_rows [] k = refl
+among_rows (row ∷ rows) k =
+    elim (eq_by_cmp key_cmp k (row_key row)) as (λ b. (b || is_among (map row_key rows) k) ≡ is_some (cond b (Some (row_entry row).1) (fmap.find key_cmp k (map row_entry rows)))) [ true ↦ refl | false ↦ among_rows rows k ]
+
 -- the stamps change just where the entries do
-pub absorbed : (s t : StampedState) (m : Merge) (news : Entries) (rows : List Row) → IsNews s.entries (lat (adds_of m)) news → map row_entry rows ≡ fmap.entries news
-    → t.entries ≡ join s.entries (lat (adds_of m)) → ((k : Key) → fmap.get t.stamps k ≡ restamped rows t.number k (fmap.get s.stamps k)) → t.number ≡ s.number + 1 → t.incarnation ≡ s.incarnation → IsAbsorbed s m t
-absorbed s t m news rows is listed entries stamps number incarnation = record {
-  entries = entries;
+pub absorbed : (s t : StampedState) (m : Merge) (news : Entries) (rows : List Row) (keys : List Key) → IsNews s.entries (lat (adds_of m)) news → map row_entry rows ≡ fmap.entries news → keys ≡ map row_key rows
+    → t.entries ≡ join s.entries news → ((k : Key) → fmap.get t.stamps k ≡ restamped keys t.number k (fmap.get s.stamps k)) → t.number ≡ s.number + 1 → t.incarnation ≡ s.incarnation → IsAbsorbed s m t
+absorbed s t m news rows keys is listed of_rows entries stamps number incarnation = record {
+  entries = joins;
   stamps = λ k. at k (fmap.get news k) refl;
   number = number;
   incarnation = incarnation;
 }
   where
-    has : (k : Key) (o : Option Kept) → fmap.get news k ≡ o → has_key rows k ≡ is_some o
-    has k o here = ap is_some (ap (fmap.find key_cmp k) listed ∙ (sym (fmap.get-entries news k) ∙ here))
+    joins : t.entries ≡ join s.entries (lat (adds_of m))
+    joins = entries ∙ is.whole
+
+    has : (k : Key) (o : Option Kept) → fmap.get news k ≡ o → is_among keys k ≡ is_some o
+    has k o here = ap (λ (ks : List Key). is_among ks k) of_rows ∙ among_rows rows k ∙ ap is_some (ap (fmap.find key_cmp k) listed ∙ (sym (fmap.get-entries news k) ∙ here))
 
     stamp : (k : Key) (o : Option Kept) → fmap.get news k ≡ o → fmap.get t.stamps k ≡ cond (is_some o) (Some t.number) (fmap.get s.stamps k)
     stamp k o here = stamps k ∙ ap (λ b. cond b (Some t.number) (fmap.get s.stamps k)) (has k o here)
 
     now : (k : Key) → fmap.get t.entries k ≡ fmap.get (join s.entries (lat (adds_of m))) k
-    now k = ap (λ (z : Entries). fmap.get z k) entries
+    now k = ap (λ (z : Entries). fmap.get z k) joins
 
     at : (k : Key) (o : Option Kept) → fmap.get news k ≡ o → IsRestamped s t k
     at k None here = inl (now k ∙ unchanged s.entries (lat (adds_of m)) news is k here, stamp k None here)
     at k (Some e) here = inr (λ same. changed s.entries (lat (adds_of m)) news is k e here (sym (now k) ∙ same), stamp k (Some e) here)
 
 -- the stamps in slots that were made and then filled for these rows
-pub get-restamped : (was : Stamps) (rows : List Row) (number : ℕ) (old made new : Shelves) → stamps_in old ≡ was → IsOrdered text_cmp old → IsOrdered text_cmp new → ((k : Key) → filled (slot made k) ≡ filled (slot old k))
-    → ((k : Key) → filled (slot new k) ≡ restamped rows number k (filled (slot made k))) → (k : Key) → fmap.get (stamps_in new) k ≡ restamped rows number k (fmap.get was k)
-get-restamped was rows number old made new view h g same stamped k =
-    get-stamps_in new g k ∙ (stamped k ∙ ap (restamped rows number k) (same k ∙ (sym (get-stamps_in old h k) ∙ ap (λ (s : Stamps). fmap.get s k) view)))
+pub get-restamped : (was : Stamps) (keys : List Key) (number : ℕ) (old made new : Shelves) → stamps_in old ≡ was → IsOrdered text_cmp old → IsOrdered text_cmp new → ((k : Key) → filled (slot made k) ≡ filled (slot old k))
+    → ((k : Key) → filled (slot new k) ≡ restamped keys number k (filled (slot made k))) → (k : Key) → fmap.get (stamps_in new) k ≡ restamped keys number k (fmap.get was k)
+get-restamped was keys number old made new view h g same stamped k =
+    get-stamps_in new g k ∙ (stamped k ∙ ap (restamped keys number k) (same k ∙ (sym (get-stamps_in old h k) ∙ ap (λ (s : Stamps). fmap.get s k) view)))
 
 -- ---- a merge that is refused
 

@@ -18,7 +18,8 @@ use Rattle.memento_sets.proofs.Sets.{items_sorted, from_list-items}
 use Rattle.memento_sets.proofs.Ordered.{sorted_marked, items_in_order}
 use Rattle.memento_sets.proofs.Rising.{rise_in_order}
 use Rattle.harvest_lattice.specs.Lattice.{Key, Kept, least, first_of, whole}
-use Rattle.harvest_lattice.specs.Parts.{kept_with}
+use Rattle.harvest_lattice.specs.Parts.{kept_in, kept_with}
+use Rattle.harvest_lattice.proofs.Parts.{entries_in, whole_in}
 use Rattle.harvest_lattice.proofs.Made.{kept_of_its_own}
 use Rattle.replica_exchange.specs.declared.format.Format.{Format}
 use Rattle.replica_exchange.specs.declared.format.Format.TheVariants.{One, Two}
@@ -27,7 +28,7 @@ use Rattle.replica_exchange.specs.StateText.{IsPart, IsEntry, IsWholeAlone}
 use Rattle.replica_exchange.specs.Spelling.{Spelling, Begins, ended, field, number}
 use Rattle.replica_exchange.specs.Parts.{memento, IsWholeField, line_with, head, old_head, set_of, part_head, part, new_entry, old_entry, entry, many}
 use Rattle.replica_exchange.proofs.SpellingLemmas.{Once, number_once, whole_once, archive_once, original_once, uri_once}
-use Rattle.replica_exchange.proofs.Sequences.{Leaves, seq, seq_found, seq_first, seq_then, seq_once, many_once}
+use Rattle.replica_exchange.proofs.Sequences.{Leaves, seq, seq_found, seq_first, seq_then, seq_once, many_once, many_more, many_leaves}
 
 -- a field, its end, and what follows
 parted : (a : List ℕ) (end : ℕ) (x : List ℕ) → a ++ end ∷ x ≡ (a ++ end ∷ []) ++ x
@@ -322,6 +323,20 @@ old_head_once = line_once (λ n. n < 2 ^ 64) decimal (number_once 32 (omega arit
 
 -- ---- an entry in format 2
 
+-- the entry of one revision
+pub one_made : (w : Bool) (p : ℕ × Mementos) → kept_with (cond w (Some p.0) None) (p ∷ []) ≡ Some (kept_in w p [])
+one_made w p = (kept_of_its_own (cond w (Some p.0) None) (p ∷ []) (kept_in w p [])).1 (whole_in w p [] tt, entries_in w p [] tt)
+
+none_yet : (text : List ℕ) → Begins (many 0 part) text [] text
+none_yet text = record { is = (refl, All-nil part.Is); whole = refl }
+
+-- one revision is a list of them
+pub one_begins : (text rest : List ℕ) (p : ℕ × Mementos) → Begins part text p rest → Begins (many 1 part) text (p ∷ []) rest
+one_begins text rest p begins = many_more part 0 text text rest [] p (none_yet text) begins
+
+pub one_leaves : (text : List ℕ) → Leaves part (many 1 part) text text
+one_leaves text = many_leaves part part_once 1 0 text text [] (omega arith) (none_yet text)
+
 -- entries of the same whole revision and the same revisions are one
 same_kept : (a b : Kept) → whole a ≡ whole b → map.entries a.revisions ≡ map.entries b.revisions → a ≡ b
 same_kept a b same_whole same_parts =
@@ -457,16 +472,6 @@ module _ (text left : List ℕ) (h : Key × (ℕ × ℕ)) (begun : Begins old_he
       (its.its_part.1, rest, (alone_set (e.0, its.its_part) rest its.begins).1)
 
   module _ (s : Mementos) (rest : List ℕ) (listed : Begins (set_of h.1.1) left s rest) where
-    pub old_unmade : kept_with (Some h.1.0) ((h.1.0, s) ∷ []) ≡ None → (e : Key × Kept) (r : List ℕ) → ¬ Begins old_entry text e r
-    old_unmade none e r begins =
-        let its = old_begins text r e begins in
-        let a = alone_set (e.0, its.its_part) r its.begins in
-        let sets = set_once h.1.1 left its.its_part.1 s r rest a.1 listed in
-        let part_is : its.its_part ≡ (h.1.0, s) = λ i. (a.0.1 i, sets.0 i) in
-        let made : kept_with (Some h.1.0) ((h.1.0, s) ∷ []) ≡ Some e.1 =
-        (kept_of_its_own (Some h.1.0) ((h.1.0, s) ∷ []) e.1).1 (its.whole_is ∙ ap (λ (n : ℕ). Some n) a.0.1, its.parts_are ∙ ap (λ (p : ℕ × Mementos). p ∷ []) part_is) in
-        none-some e.1 (sym none ∙ made)
-
     pub old_found : (kept : Kept) → kept_with (Some h.1.0) ((h.1.0, s) ∷ []) ≡ Some kept → Begins old_entry text (h.0, kept) rest
     old_found kept is =
         let its = (kept_of_its_own (Some h.1.0) ((h.1.0, s) ∷ []) kept).0 is in

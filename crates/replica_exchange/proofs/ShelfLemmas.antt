@@ -1,20 +1,19 @@
 -- What slots hold, as the stamps of a state.
 use Rattle.std.proofs.Common.{◌≡◌, ℕ, true, false, cond, ◌++◌, List, [], ◌∷◌, Option, Some, None, is_some, IsSome, refl, sym, ap, subst, ◌∙◌}
 use Rattle.std.specs.Prelude.{T}
-use Rattle.std.specs.declared.cmp.Ordering.{Ordering}
-use Rattle.std.specs.declared.cmp.Ordering.TheVariants.{Less, Equal, Greater}
+use Rattle.std.specs.declared.cmp.Ordering.TheVariants.{Less}
 use Rattle.std.specs.List.{AllByRecursion}
 use Rattle.std.specs.List.Sorted.{IsStrictlySortedBy}
 use Rattle.std.specs.Map.{lookup, keys_of}
 use Rattle.std.specs.BTreeMap as tree
 use Rattle.std.specs.BTreeMap.{is_at}
-use Rattle.std.specs.Ordering.{eq_by_cmp, is_lt, is_eq, ordering_then}
-use Rattle.std.specs.Cmp.{tied_itself, Equal-is, eq_by_cmp_equiv}
+use Rattle.std.specs.Ordering.{eq_by_cmp, is_lt, is_eq}
+use Rattle.std.specs.Cmp.{tied_itself, eq_by_cmp_equiv}
 use Rattle.std.specs.Cmp.Lexicographic.{nat_list_cmp_total}
 use Rattle.std.specs.FinMap as fmap
 use Rattle.std.specs.Option.{option_or}
+use Rattle.std.proofs.lemmas.Option.{none-some}
 use Rattle.std.proofs.lemmas.Bool.{true≢false}
-use Rattle.std.specs.FinMap.{slice_cmp-IsAntisymmetric, nat_cmp-IsAntisymmetric}
 use Rattle.std.specs.FinMap.Entries.{below_all}
 use Rattle.memento_time.specs.Mementos.{text_cmp}
 use Rattle.memento_sets.proofs.Sets.{less_from, two_parts}
@@ -168,3 +167,38 @@ new_shelf_stay m n a w none put = slots_stay m n a w put (λ o had. absurd (no_s
 
 pub slot_stays_filled : (m n : Shelves) (q : Key) (v : ℕ) → ((k : Key) → slot n k ≡ cond (eq_by_cmp key_cmp k q) (Some (Some v)) (slot m k)) → (k : Key) → IsSome (slot m k) → IsSome (slot n k)
 slot_stays_filled m n q v after k had = subst IsSome (sym (after k)) (elim (eq_by_cmp key_cmp k q) as (λ b. IsSome (cond b (Some (Some v)) (slot m k))) [ true ↦ refl | false ↦ had ])
+
+-- ---- a slot that is taken out
+
+-- the slots where one was taken out
+pub slot_removed : (es fs : List (List ℕ × Option ℕ)) (o : List ℕ) (now : Slots) → fmap.from_entries es ≡ now → ((q : List ℕ) → lookup (is_at (text_cmp q)) fs ≡ cond (is_at (text_cmp o) q) None (lookup (is_at (text_cmp q)) es)) → (q : List ℕ) → fmap.get (fmap.from_entries {R = text_cmp} fs) q ≡ cond (eq_by_cmp text_cmp o q) None (fmap.get now q)
+slot_removed es fs o now view put q = get-slots fs q ∙ (put q ∙ ap (λ (v : Option (Option ℕ)). cond (eq_by_cmp text_cmp o q) None v) (sym (get-slots es q) ∙ ap (λ (s : Slots). fmap.get s q) view))
+
+module _ (x y : Slots) (a : List ℕ) (put : (q : List ℕ) → fmap.get y q ≡ cond (eq_by_cmp text_cmp a q) None (fmap.get x q)) where
+  pub emptied_same : fmap.get x a ≡ Some None → (o : List ℕ) → filled (fmap.get y o) ≡ filled (fmap.get x o)
+  emptied_same empty o =
+      ap filled (put o)
+      ∙ elim (eq_by_cmp text_cmp a o) as (λ b. eq_by_cmp text_cmp a o ≡ b → filled (cond b None (fmap.get x o)) ≡ filled (fmap.get x o)) [
+        | true ↦ λ t. sym (ap filled (ap (fmap.get x) (sym (same_text a o t)) ∙ empty))
+        | false ↦ λ _. refl
+      ] refl
+
+  pub emptied_others : (o : List ℕ) → ¬ (fmap.get x o ≡ Some None) → ¬ (fmap.get y o ≡ Some None)
+  emptied_others o was is =
+      elim (eq_by_cmp text_cmp a o) as (λ b. cond b None (fmap.get x o) ≡ Some None → ⊥) [
+        | true ↦ λ same. none-some None same
+        | false ↦ was
+      ] (sym (put o) ∙ is)
+
+  pub emptied_gone : ¬ (fmap.get y a ≡ Some None)
+  emptied_gone is =
+      none-some None (sym (put a ∙ ap (λ r. cond (is_eq r) None (fmap.get x a)) (tied_itself nat_list_cmp_total a)) ∙ is)
+
+-- an archive's slots in its place, of which no more are empty
+pub no_more_empty : (m n : Shelves) (a : List ℕ) (w : Slots) → ((q : List ℕ) → tree.get text_cmp n q ≡ cond (eq_by_cmp text_cmp a q) (Some w) (tree.get text_cmp m q)) → ((o : List ℕ) → ¬ (slot_of (tree.get text_cmp m a) o ≡ Some None) → ¬ (fmap.get w o ≡ Some None)) → (k : Key) → ¬ (slot m k ≡ Some None) → ¬ (slot n k ≡ Some None)
+no_more_empty m n a w put others k was =
+    subst (λ s. ¬ (slot_of s k.1 ≡ Some None)) (sym (put k.0))
+    (elim (eq_by_cmp text_cmp a k.0) as (λ b. eq_by_cmp text_cmp a k.0 ≡ b → ¬ (slot_of (cond b (Some w) (tree.get text_cmp m k.0)) k.1 ≡ Some None)) [
+      | true ↦ λ t. others k.1 (subst (λ b. ¬ (slot_of (tree.get text_cmp m b) k.1 ≡ Some None)) (sym (same_text a k.0 t)) was)
+      | false ↦ λ _. was
+    ] refl)

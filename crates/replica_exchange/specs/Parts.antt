@@ -9,13 +9,14 @@ use Rattle.memento_time.specs.Mementos.{IsMemento}
 use Rattle.memento_sets.specs.Sets as set
 use Rattle.memento_sets.specs.MementoSets.{Mementos}
 use Rattle.harvest_lattice.specs.Lattice.{Key, Kept, Entries}
+use Rattle.harvest_lattice.specs.Parts.{kept_with}
 use Rattle.replica_exchange.specs.StateText.{line, memento_line, memento_lines, line_of_entry, whole_field}
 use Rattle.replica_exchange.specs.StateText.{part_line, part_text, entry_text, old_entry_text}
 use Rattle.replica_exchange.specs.StateText.{listing_text, IsPartLine, IsPart, IsEntry, IsWholeAlone}
 use Rattle.replica_exchange.specs.DeltaText.{from_line}
 use Rattle.replica_exchange.specs.declared.format.Format.{Format}
 use Rattle.replica_exchange.specs.declared.format.Format.TheVariants.{One, Two}
-use Rattle.replica_exchange.specs.Spelling.{Spelling, ended}
+use Rattle.replica_exchange.specs.Spelling.{Spelling, Begins, ended}
 
 -- the line of a memento
 abbrev pub memento : Spelling Memento
@@ -75,6 +76,12 @@ entry Two = new_entry
 -- this number of them, one after the other
 abbrev pub many : {A : Type 0} → ℕ → Spelling A → Spelling (List A)
 many count s = record { Is = λ xs. (length xs ≡ count) × All s.Is xs; spelled = flat_map s.spelled }
+
+-- the text is this number of revisions and what follows, and the entry is what they make with the whole one, if any
+pub record BeginsKept (whole : Option ℕ) (count : ℕ) (text : List ℕ) (kept : Option Kept) (rest : List ℕ) : Type 0 where
+  pub parts : List (ℕ × Mementos)
+  pub begins : Begins (many count part) text parts rest
+  pub makes : kept ≡ kept_with whole parts
 
 -- `entries N` to `end`
 abbrev pub listing : Format → Spelling (List (Key × Kept))

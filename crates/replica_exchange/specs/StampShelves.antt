@@ -1,14 +1,15 @@
 -- Where stamps are kept: of each archive a slot for each original that has one, with its stamp.
-use Rattle.std.specs.Prelude.{ℕ, Bool, cond, List, [], ◌∷◌, ◌++◌, map, Option, Some, None, is_some}
+use Rattle.std.specs.Prelude.{ℕ, Bool, cond, List, [], ◌∷◌, ◌++◌, Option, Some, None}
 use Rattle.std.specs.BTreeMap as tree
 use Rattle.std.specs.BTreeMap.{BTreeMap}
 use Rattle.std.specs.Coded.{Coded, coded_list, coded_option, coded_ℕ}
 use Rattle.std.specs.FinMap as fmap
+use Rattle.std.specs.Ordering.{eq_by_cmp}
+use Rattle.std.specs.Set.{is_member}
 use Rattle.memento_time.specs.Mementos.{text_cmp}
-use Rattle.harvest_lattice.specs.declared.row.Row.{Row}
 use Rattle.harvest_lattice.specs.Lattice.{Key, key_cmp}
-use Rattle.harvest_lattice.specs.Rows.{row_entry}
 use Rattle.replica_exchange.specs.Stamps.{Stamps}
+use Rattle.replica_exchange.specs.declared.stamps.ChangedKey.{ChangedKey}
 
 -- the slots of an archive: one for each original, which may be empty
 abbrev pub Slots : Type 0
@@ -55,10 +56,14 @@ all_rows (s ∷ ss) = shelf_rows s.0 (fmap.entries s.1) ++ all_rows ss
 abbrev pub stamps_in : Shelves → Stamps
 stamps_in shelves = fmap.from_entries (all_rows shelves.entries)
 
--- some row has the key
-abbrev pub has_key : List Row → Key → Bool
-has_key rows k = is_some (fmap.find key_cmp k (map row_entry rows))
+-- the archive and original of a changed key
+abbrev pub key_of : ChangedKey → Key
+key_of key = (key.archive, key.original)
 
--- the number at the key of a row, and at another key what was there
-abbrev pub restamped : List Row → ℕ → Key → Option ℕ → Option ℕ
-restamped rows number k was = cond (has_key rows k) (Some number) was
+-- the key is one of these
+abbrev pub is_among : List Key → Key → Bool
+is_among keys k = is_member (eq_by_cmp key_cmp) keys k
+
+-- the number at one of the keys, and at another key what was there
+abbrev pub restamped : List Key → ℕ → Key → Option ℕ → Option ℕ
+restamped keys number k was = cond (is_among keys k) (Some number) was

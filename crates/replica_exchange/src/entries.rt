@@ -1,11 +1,12 @@
 //! The entries of a state, read from their lines in either format.
 ghost use Rattle.std.specs.Prelude.{◌≡◌, ◌↔◌, ◌^◌, ◌<◌, ◌∷◌, [], codes, IsTrue, map as map_list, IfOk, IfErr};
 ghost use Rattle.std.specs.Arc.{arc_value};
+ghost use Rattle.harvest_lattice.specs.Parts.{kept_with};
 ghost use Rattle.harvest_lattice.specs.Rows.{row_entry};
 ghost use Rattle.replica_exchange.specs.Ends.{IsEndOf};
 ghost use Rattle.replica_exchange.specs.Spelling.{Begins, Refuses, RefusesWhole};
 ghost use Rattle.replica_exchange.specs.Parts.{memento, many, set_of, whole_ended, head, old_head, part_head, part};
-ghost use Rattle.replica_exchange.specs.Parts.{new_entry, old_entry, entry, listing};
+ghost use Rattle.replica_exchange.specs.Parts.{BeginsKept, new_entry, old_entry, entry, listing};
 
 use crate::fault::StateFault;
 use crate::fields::{cut, read_number, read_original, read_uri, skip};
@@ -56,7 +57,8 @@ fn read_mementos<'a>(
     Ok((mementos, rest))
 }
 
-/// The lines of `count` mementos in order, each once, and what follows.
+/// The lines of `count` mementos in order, each once, and what follows. Their addresses are copied into one buffer that
+/// has nothing else, so that the text isn't kept for them.
 fn read_set<'a>(
     alloc: Global,
     buffer: &Arc<Vec<u8>>,
@@ -69,7 +71,7 @@ fn read_set<'a>(
 {
     let (mementos, rest) = read_mementos(alloc, buffer, count, text)?;
     match Mementos::of_sorted(mementos) {
-        Some(set) => Ok((set, rest)),
+        Some(set) => Ok((set.packed()?, rest)),
         None => Err(StateFault::NotState),
     }
 }
@@ -104,8 +106,7 @@ struct Head {
     original: Original,
 }
 
-fn read_head<'a>(buffer: &Arc<Vec<u8>>, text: &'a [u8]) -> Result<(Head, &'a [u8]), StateFault>
-    requires { IsEndOf text.now (arc_value buffer.now).items }
+fn read_head(alloc: Global, text: &[u8]) -> Result<(Head, &[u8]), StateFault>
     ensures found { IfOk result (λ read. let h = read.0 in
         Begins head text.now ((h.archive, h.original), (h.whole, h.revisions)) read.1.now) }
     ensures refused { IfErr result (λ fault. Refuses head text.now fault) }
@@ -117,7 +118,7 @@ fn read_head<'a>(buffer: &Arc<Vec<u8>>, text: &'a [u8]) -> Result<(Head, &'a [u8
     };
     let (whole, rest) = read_whole(rest)?;
     let (revisions, rest) = read_number(rest, b' ')?;
-    let (original, rest) = read_original(buffer, rest)?;
+    let (original, rest) = read_original(alloc, rest)?;
     let head = Head {
         archive,
         whole,
@@ -181,6 +182,41 @@ fn read_parts<'a>(
     Ok((parts, rest))
 }
 
+/// The entry of one revision. None where a whole one is another.
+fn entry_of_one(whole: Option<u64>, part: Part) -> Option<Entry>
+    ensures { result ≡ kept_with whole (part ∷ []) }
+{
+    let Some(whole) = whole else {
+        return Some(Entry::of_part(false, part));
+    };
+    if whole != part.revision() {
+        return None;
+    }
+    Some(Entry::of_part(true, part))
+}
+
+/// `count` revisions, what entry they make with this whole one, if any, and what follows. Of a single revision no list
+/// is made.
+fn read_kept<'a>(
+    alloc: Global,
+    buffer: &Arc<Vec<u8>>,
+    whole: Option<u64>,
+    count: u64,
+    text: &'a [u8],
+) -> Result<(Option<Entry>, &'a [u8]), StateFault>
+    requires { IsEndOf text.now (arc_value buffer.now).items }
+    ensures found { IfOk result (λ read. BeginsKept whole count text.now read.0 read.1.now) }
+    ensures refused { IfErr result (λ fault. Refuses (many count part) text.now fault) }
+{
+    if count == 1 {
+        let (part, rest) = read_part(alloc, buffer, text)?;
+        return Ok((entry_of_one(whole, part), rest));
+    }
+    let (parts, rest) = read_parts(alloc, buffer, count, text)?;
+    let entry = Entry::with_parts(alloc, whole, parts)?;
+    Ok((entry, rest))
+}
+
 /// An entry of format 2, and what follows.
 fn read_new_entry<'a>(
     alloc: Global,
@@ -191,9 +227,8 @@ fn read_new_entry<'a>(
     ensures found { IfOk result (λ read. Begins new_entry text.now (row_entry read.0) read.1.now) }
     ensures refused { IfErr result (λ fault. Refuses new_entry text.now fault) }
 {
-    let (head, rest) = read_head(buffer, text)?;
-    let (parts, rest) = read_parts(alloc, buffer, head.revisions, rest)?;
-    let entry = Entry::with_parts(alloc, head.whole, parts)?;
+    let (head, rest) = read_head(alloc, text)?;
+    let (entry, rest) = read_kept(alloc, buffer, head.whole, head.revisions, rest)?;
     let Some(entry) = entry else {
         return Err(StateFault::NotState);
     };
@@ -214,11 +249,7 @@ struct OldHead {
     original: Original,
 }
 
-fn read_old_head<'a>(
-    buffer: &Arc<Vec<u8>>,
-    text: &'a [u8],
-) -> Result<(OldHead, &'a [u8]), StateFault>
-    requires { IsEndOf text.now (arc_value buffer.now).items }
+fn read_old_head(alloc: Global, text: &[u8]) -> Result<(OldHead, &[u8]), StateFault>
     ensures found { IfOk result (λ read. let h = read.0 in
         Begins old_head text.now ((h.archive, h.original), (h.revision, h.count)) read.1.now) }
     ensures refused { IfErr result (λ fault. Refuses old_head text.now fault) }
@@ -230,7 +261,7 @@ fn read_old_head<'a>(
     };
     let (revision, rest) = read_number(rest, b' ')?;
     let (count, rest) = read_number(rest, b' ')?;
-    let (original, rest) = read_original(buffer, rest)?;
+    let (original, rest) = read_original(alloc, rest)?;
     let head = OldHead {
         archive,
         revision,
@@ -250,14 +281,9 @@ fn read_old_entry<'a>(
     ensures found { IfOk result (λ read. Begins old_entry text.now (row_entry read.0) read.1.now) }
     ensures refused { IfErr result (λ fault. Refuses old_entry text.now fault) }
 {
-    let (head, rest) = read_old_head(buffer, text)?;
+    let (head, rest) = read_old_head(alloc, text)?;
     let (set, rest) = read_set(alloc, buffer, head.count, rest)?;
-    let mut parts = Vec::new(alloc);
-    parts.push(Part::new(head.revision, set)?)?;
-    let entry = Entry::with_parts(alloc, Some(head.revision), parts)?;
-    let Some(entry) = entry else {
-        return Err(StateFault::NotState);
-    };
+    let entry = Entry::of_part(true, Part::new(head.revision, set)?);
     let row = Row {
         archive: head.archive,
         original: head.original,

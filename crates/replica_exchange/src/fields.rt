@@ -8,6 +8,7 @@ ghost use Rattle.replica_exchange.specs.Spelling.{Begins, Refuses, field, number
 
 use crate::fault::StateFault;
 use memento_time::{Clean, CleanFault, Original};
+use std::alloc::Global;
 use std::sync::Arc;
 use text_fields::{read_decimal, split_once};
 
@@ -58,30 +59,14 @@ fn shared_uri(buffer: &Arc<Vec<u8>>, text: &[u8], line: &[u8]) -> Result<Clean, 
     Clean::part(buffer, start, len)
 }
 
-/// The original that the line is, in the same way.
-fn shared_original(buffer: &Arc<Vec<u8>>, text: &[u8], line: &[u8]) -> Result<Original, CleanFault>
-    requires end { IsEndOf text.now (arc_value buffer.now).items }
-    requires line { (rest : List ℕ) × (text.now ≡ line.now ++ rest) }
-    ensures ok { IfOk result (λ original. (original ≡ line.now) × IsOriginal line.now) }
-    ensures not_clean { IsErrOf result CleanFault.NotClean ↔ ¬ IsOriginal line.now }
-{
-    let read = buffer.as_slice().len() - text.len();
-    let start = read as u32;
-    let len = line.len() as u32;
-    Original::part(buffer, start, len)
-}
-
-/// An original and the end of its line, and what follows. The text is what is left of the buffer, which is shared.
-pub fn read_original<'a>(
-    buffer: &Arc<Vec<u8>>,
-    text: &'a [u8],
-) -> Result<(Original, &'a [u8]), StateFault>
-    requires { IsEndOf text.now (arc_value buffer.now).items }
+/// An original and the end of its line, and what follows. The original has a buffer of its own, since a state keeps it
+/// as a key when the rest of the text is long gone.
+pub fn read_original(alloc: Global, text: &[u8]) -> Result<(Original, &[u8]), StateFault>
     ensures found { IfOk result (λ read. Begins (field IsOriginal 10) text.now read.0 read.1.now) }
     ensures refused { IfErr result (λ fault. Refuses (field IsOriginal 10) text.now fault) }
 {
     let (line, rest) = cut(text, b'\n')?;
-    let original = shared_original(buffer, text, line)?;
+    let original = Original::new(alloc, line)?;
     Ok((original, rest))
 }
 

@@ -39,7 +39,7 @@ fn read_entries_of_state(
 }
 
 /// The state whose text this is, in either format. Takes time linear in the text; N, REVISIONS and COUNT reserve
-/// nothing. The state's addresses and originals share one copy of the text.
+/// nothing. Of the text nothing is kept: an original has a buffer of its own, and so have the addresses of a revision.
 pub fn read_state(alloc: Global, text: &[u8]) -> Result<State, StateFault>
     ensures found { IfOk result (λ state. IsTextOf text.now state) }
     ensures within { IfOk result (λ _. length text.now ≤ longest_text) }
@@ -84,7 +84,7 @@ fn read_span(text: &[u8]) -> Result<(Span, &[u8]), StateFault>
 }
 
 /// The delta whose text this is, in either format. Takes time linear in the text; N, REVISIONS and COUNT reserve
-/// nothing. The addresses and originals of its state share one copy of the text.
+/// nothing. Of the text nothing is kept: an original has a buffer of its own, and so have the addresses of a revision.
 pub fn read_delta(alloc: Global, text: &[u8]) -> Result<Delta, StateFault>
     ensures found { IfOk result (λ delta. IsDeltaText text.now delta) }
     ensures within { IfOk result (λ _. length text.now ≤ longest_text) }

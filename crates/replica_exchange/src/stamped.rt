@@ -1,17 +1,22 @@
 //! A state with the stamp of each of its entries.
-ghost use Rattle.std.specs.Prelude.{◌≡◌, ◌+◌, ◌≤◌, ◌↔◌, [], ◌∷◌, ◌++◌, List, OnOk, OnErr, IfOk, IsErrOf, Some};
+ghost use Rattle.std.specs.Prelude.{◌≡◌, ◌+◌, ◌≤◌, ◌↔◌, [], ◌∷◌, ◌++◌, List, OnOk, OnErr, IsErrOf, IsSome, Some};
+ghost use Rattle.std.specs.BTreeMap.{IsOrdered};
 ghost use Rattle.std.specs.FinMap as map;
-ghost use Rattle.harvest_lattice.specs.Knowledge.{lat};
-ghost use Rattle.harvest_lattice.specs.News.{IsNews};
-ghost use Rattle.memento_index.specs.Merges.{adds_of};
+ghost use Rattle.std.specs.List.{All};
+ghost use Rattle.memento_time.specs.Mementos.{text_cmp};
+ghost use Rattle.harvest_lattice.specs.Lattice.{Key, join};
+ghost use Rattle.memento_index.specs.Lists.{AreNews};
 ghost use Rattle.replica_exchange.specs.CursorRule.{start_from};
 ghost use Rattle.replica_exchange.specs.Faults.{stamp_words};
 ghost use Rattle.replica_exchange.specs.Stamps.{IsStamped, IsAbsorbed, is_above};
+ghost use Rattle.replica_exchange.specs.StampShelves.{filled, slot, key_of};
 ghost use Rattle.replica_exchange.specs.declared.stamped.StampFault.TheVariants.{NoMemory as OutOfMemory};
 
 use crate::cursor::Cursor;
-use crate::stamps::{StampShelves, fill_all, make_rooms, stamp_at};
-use harvest_lattice::{Changes, State};
+use crate::stamps::{
+    ChangedKey, StampShelves, drop_rooms, fill_all, keys_of, make_rooms, stamp_at,
+};
+use harvest_lattice::Changes;
 use memento_index::{Index, Merge};
 use memento_time::{ArchiveName, NoMemory, Original};
 use std::alloc::Global;
@@ -50,14 +55,25 @@ impl From<NoMemory> for StampFault {
     }
 }
 
-/// What comes with a merge and is news to a state.
-fn news_of(state: &State, merge: &Merge) -> Result<Changes, NoMemory>
-    ensures { IfOk result (IsNews state.now (lat (adds_of merge.now))) }
+/// Makes room for the stamps of the keys, and has the index take the changes. Where memory is refused, the index and the
+/// stamps are as they were, and slots may have been made that are empty.
+fn put_with_room(
+    index: &mut Index,
+    stamps: &mut StampShelves,
+    alloc: Global,
+    changes: Changes,
+    keys: &[ChangedKey],
+) -> Result<(), NoMemory>
+    requires ordered { IsOrdered text_cmp stamps.old }
+    requires news { AreNews index.old changes }
+    ensures ok { OnOk result (index.new ≡ join index.old changes) }
+    ensures err { OnErr result (index.new ≡ index.old) }
+    ensures same { (k : Key) → filled (slot stamps.new k) ≡ filled (slot stamps.old k) }
+    ensures made { OnOk result (All (λ key. IsSome (slot stamps.new (key_of key))) keys.now) }
+    ensures ordered { IsOrdered text_cmp stamps.new }
 {
-    match merge {
-        Merge::Harvest(harvest) => state.changes_by(harvest),
-        Merge::State(other) => state.changes(other),
-    }
+    make_rooms(stamps, alloc, keys)?;
+    index.put(changes)
 }
 
 /// What the merges of an incarnation made, and since which of them each entry is as it is.
@@ -133,13 +149,26 @@ impl Stamped {
         ensures ok { OnOk result (IsAbsorbed self.old merge.now self.new) }
         ensures err { OnErr result (self.new ≡ self.old) }
     {
-        let changes = news_of(self.index.state(), merge)?;
-        let rows = changes.rows();
-        make_rooms(&mut self.stamps, self.alloc, rows)?;
-        self.index.absorb(merge)?;
-        fill_all(&mut self.stamps, rows, number);
-        self.number = number;
-        Ok(())
+        let changes = self.index.changes(merge)?;
+        let keys = keys_of(self.alloc, changes.rows())?;
+        let taken = put_with_room(
+            &mut self.index,
+            &mut self.stamps,
+            self.alloc,
+            changes,
+            &keys,
+        );
+        match taken {
+            Ok(()) => {
+                fill_all(&mut self.stamps, &keys, number);
+                self.number = number;
+                Ok(())
+            }
+            Err(refused) => {
+                drop_rooms(&mut self.stamps, &keys);
+                Err(refused)
+            }
+        }
     }
 
     /// The index of the state.

@@ -1,5 +1,5 @@
 //! Where stamps are kept: slots by archive and original.
-ghost use Rattle.std.specs.Prelude.{◌≡◌, ℕ, List, cond, IsSome, OnOk, Some};
+ghost use Rattle.std.specs.Prelude.{◌≡◌, ◌↔◌, ℕ, List, cond, IsSome, IsTrue, OnOk, IfOk, None, Some, map as map_list};
 ghost use Rattle.std.specs.BTreeMap as tree;
 ghost use Rattle.std.specs.BTreeMap.{IsOrdered};
 ghost use Rattle.std.specs.FinMap as map;
@@ -8,13 +8,44 @@ ghost use Rattle.std.specs.Ordering.{eq_by_cmp};
 ghost use Rattle.memento_time.specs.Mementos.{text_cmp};
 ghost use Rattle.harvest_lattice.specs.Lattice.{Key, key_cmp};
 ghost use Rattle.harvest_lattice.specs.Rows.{row_key};
-ghost use Rattle.replica_exchange.specs.StampShelves.{filled, slot, restamped};
+ghost use Rattle.replica_exchange.specs.StampShelves.{filled, slot, key_of, restamped};
 
 use harvest_lattice::Row;
 use memento_time::{ArchiveName, NoMemory, Original};
 use std::alloc::Global;
 use std::collections::BTreeMap;
 use std::marker::Model;
+
+/// The archive and original of an entry that changes.
+#[derive(Debug, Drop)]
+pub struct ChangedKey {
+    archive: ArchiveName,
+    original: Original,
+}
+
+impl ChangedKey {
+    fn of(row: &Row) -> Result<ChangedKey, NoMemory>
+        ensures { IfOk result (λ key. key_of key ≡ row_key row.now) }
+    {
+        let original = row.original().try_clone()?;
+        Ok(ChangedKey {
+            archive: row.archive(),
+            original,
+        })
+    }
+}
+
+/// The keys of the rows. They stay where the rows are taken in.
+pub fn keys_of(alloc: Global, rows: &[Row]) -> Result<Vec<ChangedKey>, NoMemory>
+    ensures { IfOk result (λ keys. map_list key_of keys.items ≡ map_list row_key rows.now) }
+{
+    let mut keys = Vec::new(alloc);
+    for row in rows {
+        let key = ChangedKey::of(row)?;
+        keys.push(key)?;
+    }
+    Ok(keys)
+}
 
 /// The slots of an archive. An empty slot counts as none: it is room that was made before a change, so that the change
 /// can't be refused.
@@ -64,6 +95,27 @@ impl StampShelf {
             self.slots.insert(original, None)?;
         }
         Ok(())
+    }
+
+    /// Whether the slot is there and empty.
+    fn has_empty(&self, original: &Original) -> bool
+        ensures { IsTrue result ↔ (map.get self.now original.now ≡ Some None) }
+    {
+        match self.slots.get(original) {
+            Some(slot) => slot.is_none(),
+            None => false,
+        }
+    }
+
+    /// Drops the slot if it is empty. The stamps stay.
+    fn drop_empty(&mut self, original: &Original)
+        ensures same { (o : List ℕ) → filled (map.get self.new o) ≡ filled (map.get self.old o) }
+        ensures gone { ¬ (map.get self.new original.now ≡ Some None) }
+        ensures others { (o : List ℕ) → ¬ (map.get self.old o ≡ Some None) → ¬ (map.get self.new o ≡ Some None) }
+    {
+        if self.has_empty(original) {
+            self.slots.remove(original);
+        }
     }
 
     /// Puts a stamp into a slot that is there.
@@ -126,17 +178,48 @@ fn make_room(
     }
 }
 
-/// Makes a slot for the key of each row.
-pub fn make_rooms(shelves: &mut StampShelves, alloc: Global, rows: &[Row]) -> Result<(), NoMemory>
+/// Makes a slot for each key.
+pub fn make_rooms(
+    shelves: &mut StampShelves,
+    alloc: Global,
+    keys: &[ChangedKey],
+) -> Result<(), NoMemory>
     requires ordered { IsOrdered text_cmp shelves.old }
     ensures same { (k : Key) → filled (slot shelves.new k) ≡ filled (slot shelves.old k) }
-    ensures made { OnOk result (All (λ row. IsSome (slot shelves.new (row_key row))) rows.now) }
+    ensures made { OnOk result (All (λ key. IsSome (slot shelves.new (key_of key))) keys.now) }
     ensures ordered { IsOrdered text_cmp shelves.new }
 {
-    for row in rows {
-        make_room(shelves, alloc, row.archive(), row.original())?;
+    for key in keys {
+        make_room(shelves, alloc, key.archive, &key.original)?;
     }
     Ok(())
+}
+
+/// Drops the slot of a key if it is empty. The stamps stay.
+fn drop_room(shelves: &mut StampShelves, archive: ArchiveName, original: &Original)
+    requires ordered { IsOrdered text_cmp shelves.old }
+    ensures same { (k : Key) → filled (slot shelves.new k) ≡ filled (slot shelves.old k) }
+    ensures gone { ¬ (slot shelves.new (archive, original.now) ≡ Some None) }
+    ensures others { (k : Key) → ¬ (slot shelves.old k ≡ Some None) → ¬ (slot shelves.new k ≡ Some None) }
+    ensures ordered { IsOrdered text_cmp shelves.new }
+{
+    let Some(shelf) = shelves.get_mut(&archive) else {
+        return;
+    };
+    shelf.drop_empty(original);
+}
+
+/// Drops the slots of the keys that are empty, so that a merge that is refused leaves no copies of originals. The
+/// stamps stay.
+pub fn drop_rooms(shelves: &mut StampShelves, keys: &[ChangedKey])
+    requires ordered { IsOrdered text_cmp shelves.old }
+    ensures same { (k : Key) → filled (slot shelves.new k) ≡ filled (slot shelves.old k) }
+    ensures gone { All (λ key. ¬ (slot shelves.new (key_of key) ≡ Some None)) keys.now }
+    ensures ordered { IsOrdered text_cmp shelves.new }
+{
+    for key in keys {
+        drop_room(shelves, key.archive, &key.original);
+    }
 }
 
 /// Puts a stamp into the slot of a key, which is there.
@@ -154,15 +237,15 @@ fn fill(shelves: &mut StampShelves, archive: ArchiveName, original: &Original, s
     shelf.fill(original, stamp);
 }
 
-/// Puts a stamp into the slots of the rows' keys, which are there.
-pub fn fill_all(shelves: &mut StampShelves, rows: &[Row], stamp: u64)
+/// Puts a stamp into the slots of the keys, which are there.
+pub fn fill_all(shelves: &mut StampShelves, keys: &[ChangedKey], stamp: u64)
     requires ordered { IsOrdered text_cmp shelves.old }
-    requires room { All (λ row. IsSome (slot shelves.old (row_key row))) rows.now }
+    requires room { All (λ key. IsSome (slot shelves.old (key_of key))) keys.now }
     ensures stamps { (k : Key)
-        → filled (slot shelves.new k) ≡ restamped rows.now stamp k (filled (slot shelves.old k)) }
+        → filled (slot shelves.new k) ≡ restamped (map_list key_of keys.now) stamp k (filled (slot shelves.old k)) }
     ensures ordered { IsOrdered text_cmp shelves.new }
 {
-    for row in rows {
-        fill(shelves, row.archive(), row.original(), stamp);
+    for key in keys {
+        fill(shelves, key.archive, &key.original, stamp);
     }
 }

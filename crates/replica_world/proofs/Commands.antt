@@ -130,7 +130,8 @@ few_all count some most = grind (arith, common_steps)
 pub start_is : (text : List ℕ) → Finds (start_at text) (λ s. IsStartAt text s.0 s.1)
 unfolding start_at start_of
 start_is text s = (there, here) where
-  there : (line_of text >>= λ line. (replicas_of line.0 >>= λ count. service_of count.1 >>= λ base. Some (record { replicas = count.0; base = base })) >>= λ begin. Some (begin, line.1)) ≡ Some s → IsStartAt text s.0 s.1
+  there : (line_of text >>= λ line. (replicas_of line.0 >>= λ count. service_of count.1 >>= λ base. Some (record { replicas = count.0; base = base }))
+      >>= λ begin. Some (begin, line.1)) ≡ Some s → IsStartAt text s.0 s.1
   there is =
       let line = bound (line_of text) _ s is in
       let begin = bound (start_of line.0.0) _ s line.2 in
@@ -155,12 +156,17 @@ start_is text s = (there, here) where
       } in
       subst (λ (q : Start × List ℕ). IsStartAt text q.0 q.1) (ap (λ (b : Start). (b, line.0.1)) begin_is ∙ same_Some (begin.0, line.0.1) s begin.2) at
 
-  here : IsStartAt text s.0 s.1 → (line_of text >>= λ line. (replicas_of line.0 >>= λ count. service_of count.1 >>= λ base. Some (record { replicas = count.0; base = base })) >>= λ begin. Some (begin, line.1)) ≡ Some s
+  here : IsStartAt text s.0 s.1 → (line_of text >>= λ line. (replicas_of line.0 >>= λ count. service_of count.1 >>= λ base. Some
+      (record { replicas = count.0; base = base })) >>= λ begin. Some (begin, line.1)) ≡ Some s
   here laid =
       let n : ℕ = s.0.replicas in
       let whole : List ℕ = parted (codes "replicas" ∷ decimal n ∷ laid.base ∷ []) in
       let small : n < 2 ^ 64 = omega (arith, laid.most) in
-      let word : field whole ≡ Some (codes "replicas", decimal n ++ 32 ∷ laid.base) = (parts_are 32 whole (codes "replicas", decimal n ++ 32 ∷ laid.base)).1 (lacks_space (codes "replicas") refl, refl) in
+      let word : field whole ≡ Some (
+        codes "replicas",
+        decimal n
+            ++ 32 ∷ laid.base,
+      ) = (parts_are 32 whole (codes "replicas", decimal n ++ 32 ∷ laid.base)).1 (lacks_space (codes "replicas") refl, refl) in
       let number : number_field (decimal n ++ 32 ∷ laid.base) ≡ Some (n, laid.base) = (number_field_is (decimal n ++ 32 ∷ laid.base) (n, laid.base)).1 (small, refl) in
       let count : replicas_of whole ≡ Some (n, laid.base) =
       onward (field whole) _ (codes "replicas", decimal n ++ 32 ∷ laid.base) word ∙ onward (number_field (decimal n ++ 32 ∷ laid.base)) _ (n, laid.base) number

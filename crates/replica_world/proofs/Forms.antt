@@ -13,7 +13,9 @@ use Rattle.text_fields.specs.Parts.{Lacks, parted}
 use Rattle.text_fields.proofs.DecimalLemmas.{number_is, decimal_lacks}
 use Rattle.text_fields.proofs.PartLemmas.{parts_are, parts_none_lacks, parts_lacking}
 use Rattle.replica_world.specs.Fields.{◌>>=◌, field, number_field, word_field, is_visible}
-use Rattle.replica_world.specs.Form.{Form, TakeForm, AskForm, Take, Map, Gate, GateAt, Ask, Send, SendFrom, Deliver, Receive, Restart, form_text, IsNumber, IsWord, IsWritten, most_asked, take_word, take_of, map_of, gate_at, gate_of, ask_of, send_of, send_from_of, deliver_of, receive_of, restart_of, form_by_word, form_of}
+use Rattle.replica_world.specs.Form.{Form, TakeForm, AskForm, Take, Map, Gate, GateAt, Ask, Send, SendFrom, Deliver, Receive, Restart, form_text}
+use Rattle.replica_world.specs.Form.{IsNumber, IsWord, IsWritten, most_asked, take_word, take_of, map_of, gate_at, gate_of, ask_of, send_of}
+use Rattle.replica_world.specs.Form.{send_from_of, deliver_of, receive_of, restart_of, form_by_word, form_of}
 
 -- ---- one reading after another
 
@@ -166,7 +168,9 @@ take_laid is_whole fields f is =
     subst (Laid (take_word is_whole) fields) (same_Some _ _ len.2) (
       (r.0, a.0, v.0, d.0, n.0),
       refl,
-      r.1 ∙ ap (λ (t : List ℕ). decimal replica.0.0 ++ 32 ∷ t) (a.1 ∙ ap (λ (t : List ℕ). archive.0.0 ++ 32 ∷ t) (v.1 ∙ ap (λ (t : List ℕ). decimal revision.0.0 ++ 32 ∷ t) (d.1 ∙ ap (λ (t : List ℕ). address.0.0 ++ 32 ∷ t) n.1))),
+      r.1 ∙ ap (λ (t : List ℕ). decimal replica.0.0 ++ 32 ∷ t)
+          (a.1 ∙ ap (λ (t : List ℕ). archive.0.0 ++ 32 ∷ t) (v.1
+          ∙ ap (λ (t : List ℕ). decimal revision.0.0 ++ 32 ∷ t) (d.1 ∙ ap (λ (t : List ℕ). address.0.0 ++ 32 ∷ t) n.1))),
     )
 
 map_laid : (fields : List ℕ) (f : Form) → map_of fields ≡ Some f → Laid (codes "map") fields f

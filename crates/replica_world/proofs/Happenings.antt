@@ -65,7 +65,8 @@ harvest_taken old new t original page harvest text name sorted harvest_is few ha
       },
     )
 
-pub harvest_taken_if : {V E : Type 0} (items : V → List ℕ) (old new : Kept) (t : Taking) (original : List ℕ) (page : Page) (archive : List ℕ) (mementos : List Memento) (harvest : Harvested) (accepted : List ℕ) (result : Result V E)
+pub harvest_taken_if : {V E : Type 0} (items : V → List ℕ) (old new : Kept) (t : Taking) (original : List ℕ) (page : Page) (archive : List ℕ)
+    (mementos : List Memento) (harvest : Harvested) (accepted : List ℕ) (result : Result V E)
     → SomeIff (Some archive) (IsArchiveName t.archive) t.archive → IsStrictlySortedBy memento_cmp page.mementos
     → harvest ≡ record { archive = archive; original = original; revision = t.revision; is_whole = t.is_whole; mementos = set.from_list mementos } → mementos ≡ page.mementos
     → length (set.items harvest.mementos) ≤ 100000 → accepted ≡ taken_line page
@@ -112,7 +113,8 @@ page_taken_if old new t original page (Ok text) named read taken = (
 )
 
 -- so a command that takes a page is performed
-pub taking_performed_if : {E : Type 0} (old new : Kept) (t : Taking) (result : Result (List ℕ) E) → IfOk result (λ text. IsPageTaken old t text new) → IfOk result (λ text. IsPerformed old (script.Take t) text new)
+pub taking_performed_if : {E : Type 0} (old new : Kept) (t : Taking) (result : Result (List ℕ) E) → IfOk result (λ text. IsPageTaken old t text new)
+    → IfOk result (λ text. IsPerformed old (script.Take t) text new)
 taking_performed_if old new t (Err e) taken = tt
 taking_performed_if old new t (Ok text) taken = taken
 

@@ -1,5 +1,6 @@
 -- What is found in a text is what is laid out there.
-use Rattle.std.proofs.Common.{◌≡◌, ◌≢◌, ℕ, suc, ◌+◌, ◌<◌, ◌≤◌, ◌⊎◌, inl, inr, Bool, true, false, ◌==◌, ◌||◌, nat_lt, if◌then◌else◌, List, [], ◌∷◌, ◌++◌, length, take, drop, Option, Some, None, refl, sym, ap, subst, ◌∙◌, append-nil, arith}
+use Rattle.std.proofs.Common.{◌≡◌, ◌≢◌, ℕ, suc, ◌+◌, ◌<◌, ◌≤◌, ◌⊎◌, inl, inr, Bool, true, false, ◌==◌, ◌||◌, nat_lt, if◌then◌else◌, List, [], ◌∷◌}
+use Rattle.std.proofs.Common.{◌++◌, length, take, drop, Option, Some, None, refl, sym, ap, subst, ◌∙◌, append-nil, arith}
 use Rattle.std.specs.Prelude.{◌↔◌, unwrap_or}
 use Rattle.std.specs.Option.{option_map}
 use Rattle.std.proofs.Math.Seq.{take-append_seam, drop-append_seam}
@@ -111,7 +112,8 @@ ended_to len text parts same (inr whole) = let at = part_is len text parts.0 [] 
 pub block_is : (len : ℕ) (text : List ℕ) → Finds (block_of len text) (IsBlock len text)
 unfolding block_of
 block_is len text parts = on (is_no_block len text) refl where
-  behind : is_no_block len text ≡ false → (found : Option (List ℕ)) → Finds found (Follows (drop len text)) → (option_map {U = List ℕ × List ℕ} (λ rest. (take len text, rest)) found ≡ Some parts) ↔ IsBlock len text parts
+  behind : is_no_block len text ≡ false → (found : Option (List ℕ)) → Finds found (Follows (drop len text))
+      → (option_map {U = List ℕ × List ℕ} (λ rest. (take len text, rest)) found ≡ Some parts) ↔ IsBlock len text parts
   behind is None follows = (
     λ found. absurd (let same : None ≡ Some parts = found in cc),
     λ laid. let none : None ≡ Some parts.1 = (follows parts.1).1 (ended_to len text parts laid.1 laid.2).1 in absurd (cc),

@@ -1,6 +1,8 @@
 pub mod Places
 pub mod Worlds
 pub mod Questions
+mod Found
+mod Sizes
 mod ReadBack
 mod Lines
 mod Written

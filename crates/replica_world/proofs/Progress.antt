@@ -1,5 +1,6 @@
 -- A replay's loop over the commands of a text.
-use Rattle.std.proofs.Common.{◌≡◌, ℕ, Bool, true, false, ◌==◌, zero, suc, ◌<◌, ◌≤◌, List, [], ◌∷◌, ◌++◌, length, Option, Some, None, Result, Ok, Err, refl, sym, ap, ◌∙◌, append_assoc, append-nil, arith, subst}
+use Rattle.std.proofs.Common.{◌≡◌, ℕ, Bool, true, false, ◌==◌, zero, suc, ◌<◌, ◌≤◌, List, [], ◌∷◌, ◌++◌, length, Option, Some, None, Result, Ok, Err}
+use Rattle.std.proofs.Common.{refl, sym, ap, ◌∙◌, append_assoc, append-nil, arith, subst}
 use Rattle.std.specs.Option.{option_map}
 use Rattle.std.proofs.lemmas.Grind.{common_steps}
 use Rattle.std.specs.Io.KnownBytes.{Appends}
@@ -51,7 +52,8 @@ commands_none (suc bytes) (b ∷ rest) none = absurd (omega arith)
 
 -- ---- the loop
 
--- the commands before what is left of the text have written what the writer got, and led to a world that the code's stands for
+-- the commands before what is left of the text have written what the writer got, and led to a world that the code's
+-- stands for
 pub record Progress (base : List ℕ) (w : World) (text : List ℕ) (kept : Kept) (rest : List ℕ) (old new : Option (List ℕ)) : Type 0 where
   pub bytes : ℕ
   pub enough : length rest ≤ bytes
@@ -172,7 +174,8 @@ progress_out_of_memory one base w script text kept rest old new result p result_
     subst (λ (r : Result (Unit {0}) ReplayFault). ReplaysFrom base w script text old new r) (sym result_is) (progress_broken one base w text kept rest old new p)
 
 -- it ends as a write fails
-pub progress_cut : OnePage → (base : List ℕ) (w : World) (script text : List ℕ) (kept next_kept : Kept) (rest next : List ℕ) (old mid new : Option (List ℕ)) (said bytes : List ℕ) (result : Result (Unit {0}) ReplayFault)
+pub progress_cut : OnePage → (base : List ℕ) (w : World) (script text : List ℕ) (kept next_kept : Kept) (rest next : List ℕ)
+    (old mid new : Option (List ℕ)) (said bytes : List ℕ) (result : Result (Unit {0}) ReplayFault)
     → Progress base w text kept rest old mid → 0 < length rest → IsFirstPerformed kept rest said next next_kept → length next < length rest → bytes ≡ said → AppendsBeginning mid new bytes
     → result ≡ Err Write → ReplaysFrom base w script text old new result
 progress_cut one base w script text kept next_kept rest next old mid new said bytes result p some performed shorter bytes_are wrote result_is =

@@ -1,4 +1,5 @@
--- The commands of a script come to events that lead to its world, and it writes their answers; replicas that have learnt alike write the same.
+-- The commands of a script come to events that lead to its world, and it writes their answers; replicas that have
+-- learnt alike write the same.
 use Rattle.std.proofs.Common.{◌≡◌, ℕ, ◌<◌, ◌≤◌, ◌⊎◌, List, [], ◌∷◌, length, Option, Some, None, inl, inr, refl, sym, ap, ◌∙◌, subst, append-nil, arith}
 use Rattle.std.specs.Prelude.{◌++◌, MatchOption, codes, zip}
 use Rattle.timemap_reader.specs.declared.page.Page.{Page}
@@ -74,7 +75,8 @@ no_original t event is h = let no = sym is ∙ h.named in absurd cc
 
 -- what comes of bytes that are a page, or none
 abbrev OfPage : List ℕ → World → Taking → List ℕ → World → List ℕ → Type 0
-OfPage base w t text next original = (((page : Page) → ¬ (IsPage t.address t.body page)) × RefusedAs (codes "bad page") w text next) ⊎ ((page : Page) × IsPage t.address t.body page × TakesHarvest base w t original page text next)
+OfPage base w t text next original = (((page : Page) → ¬ (IsPage t.address t.body page)) × RefusedAs (codes "bad page") w text next)
+    ⊎ ((page : Page) × IsPage t.address t.body page × TakesHarvest base w t original page text next)
 
 page_first : OnePage → (base : List ℕ) (w : World) (t : Taking) (commands : List Command) (text more : List ℕ) (next end : World)
     → TakesPage base w t text next → IsRunOf base next commands more end → IsRunOf base w (script.Take t ∷ commands) (text ++ more) end
@@ -95,13 +97,15 @@ page_first one base w t commands text more next end takes r = of_original (origi
 command_first : OnePage → (base : List ℕ) (w : World) (command : Command) (commands : List Command) (text more : List ℕ) (next end : World)
     → Performs base w command text next → IsRunOf base next commands more end → IsRunOf base w (command ∷ commands) (text ++ more) end
 command_first one base w (script.Take t) commands text more next end takes r = page_first one base w t commands text more next end takes r
-command_first one base w (script.Step event) commands text more next end happens r = happening_first base w _ (script.Step event) commands event text more next end (λ happened writes. writes) happens r
+command_first one base w (script.Step event) commands text more next end happens r = happening_first base w _ (script.Step event) commands event text
+    more next end (λ happened writes. writes) happens r
 
 -- so the events of commands in turn lead to the world that they end in, and the text is that of their answers
 pub commands_run : OnePage → (base : List ℕ) (w : World) (commands : List Command) (text : List ℕ) (end : World) → Says base w commands text end → IsRunOf base w commands text end
 commands_run one base w [] text end (is, same) = record { events = []; answers = []; come = (refl, is); run = same }
 commands_run one base w (command ∷ commands) text end (first, next, later, performs, says, is) =
-    subst (λ (t : List ℕ). IsRunOf base w (command ∷ commands) t end) (sym is) (command_first one base w command commands first later next end performs (commands_run one base next commands later end says))
+    subst (λ (t : List ℕ). IsRunOf base w (command ∷ commands) t end) (sym is)
+    (command_first one base w command commands first later next end performs (commands_run one base next commands later end says))
 
 -- ---- questions
 
@@ -129,7 +133,8 @@ question_of_merges one base count commands text w says i r there q said next per
     (s, replies.1, replies.2, replies.3 ∙ ap (λ (e : Entries). reply_text (reply_of base (record s { entries = e }) q)) state)
 
 -- a question to a replica that has taken this writes the reply of what it has taken
-pub question_writes : (base : List ℕ) (w : World) (i : ℕ) (known : Knowledge) (q : Request) (text : List ℕ) (next : World) → HasTaken w i known → IsOfTaken q → Performs base w (script.Step (Ask i q)) text next
+pub question_writes : (base : List ℕ) (w : World) (i : ℕ) (known : Knowledge) (q : Request) (text : List ℕ) (next : World) → HasTaken w i known
+    → IsOfTaken q → Performs base w (script.Step (Ask i q)) text next
     → text ≡ reply_text (reply base known q)
 question_writes base w i known q text next (r, there, known_is) compared performs =
     let replies = question_replies base w i r q text next there performs in
@@ -155,14 +160,16 @@ answers_twice one base count commands i j q output end compared says =
       run = run;
       twice = λ here there alike. replies parts.1 parts.2 end run here there alike parts.4 parts.5;
     } where
-      replies : {said : List ℕ} (mid : World) (more : List ℕ) (end : World) (run : IsRunOf base (start count) commands said mid) → HasReplica mid i → HasReplica mid j → LearntAlike (zip run.events run.answers) i j
+      replies : {said : List ℕ} (mid : World) (more : List ℕ) (end : World) (run : IsRunOf base (start count) commands said mid) → HasReplica mid i
+          → HasReplica mid j → LearntAlike (zip run.events run.answers) i j
           → Says base mid (script.Step (Ask i q) ∷ script.Step (Ask j q) ∷ []) more end → output ≡ said ++ more → (r : Reply) × (output ≡ said ++ (reply_text r ++ reply_text r))
       replies {said} mid more end run (one_there, i_is) (other_there, j_is) alike (first, next, later, asked, (second, last, none, again, nothing, later_is), more_is) whole =
           let course : Course base = record { count = count; events = run.events; answers = run.answers; world = mid; run = run.run } in
           let known : Knowledge = one_there.taken in
           let other : Knowledge = other_there.taken in
           let one_writes = question_writes base mid i known q first next (one_there, i_is, refl) compared asked in
-          let again_there : Performs base mid (script.Step (Ask j q)) second last = subst (λ (w : World). Performs base w (script.Step (Ask j q)) second last) (question_unchanged base mid i q first next asked) again in
+          let again_there : Performs base mid (script.Step (Ask j q)) second last = subst
+          (λ (w : World). Performs base w (script.Step (Ask j q)) second last) (question_unchanged base mid i q first next asked) again in
           let other_writes = question_writes base mid j other q second last (other_there, j_is, refl) compared again_there in
           let same : reply base known q ≡ reply base other q =
           same_reply base known other q (same_state known other (same_harvests course i j known other (one_there, i_is, refl) (other_there, j_is, refl) alike)) in

@@ -1,11 +1,12 @@
--- What is written as a TimeMap is read as a page of just the mementos that it lists.
-use Rattle.std.proofs.Common.{◌≡◌, ℕ, suc, ◌+◌, ◌-◌, ◌*◌, ◌≤◌, ◌==◌, Bool, true, false, List, [], ◌∷◌, ◌++◌, length, codes, Option, Some, None, Ok, refl, ap, ◌∙◌, arith}
-use Rattle.std.specs.Prelude.{All, IsTrue, slice_get, count_by}
-use Rattle.std.specs.List.{filter}
-use Rattle.std.specs.Option.{is_none}
-use Rattle.std.proofs.lemmas.List.{length-append}
+-- What is written as a TimeMap, as a page of one or as the index of its pages is read as just what it lists.
+use Rattle.std.proofs.Common.{◌≡◌, ℕ, zero, suc, ◌+◌, ◌-◌, ◌*◌, ◌^◌, ◌<◌, ◌≤◌, ◌==◌, nat_lt, Bool, true, false, List, [], ◌∷◌, ◌++◌, length, take}
+use Rattle.std.proofs.Common.{drop, map, codes, Option, Some, None, Ok, refl, sym, ap, subst, ◌∙◌, append_assoc, arith}
+use Rattle.std.specs.Prelude.{All, slice_get}
+use Rattle.std.specs.List.{range_with_len}
+use Rattle.std.proofs.lemmas.List.{length-append, length-take}
 use Rattle.std.proofs.lemmas.List.Elements.{All-head, All-tail}
 use Rattle.url.specs.Parts.{Parts}
+use Rattle.url_texts.specs.Followed.{IsFollowed}
 use Rattle.memento_time.specs.declared.mementos.Memento.{Memento}
 use Rattle.memento_time.specs.Mementos.{IsMemento}
 use Rattle.memento_time.specs.Second.{IsSecond, imf}
@@ -13,103 +14,19 @@ use Rattle.memento_time.specs.Text.{IsOriginal}
 use Rattle.memento_time.proofs.ReadLemmas.{Reads-imf}
 use Rattle.link_format.specs.Grammar.{Link}
 use Rattle.link_format.specs.Limits.{FewLinks, FewParams, ShortTargets}
-use Rattle.timemap_reader.specs.Address.{is_http_target, memento_address}
 use Rattle.timemap_reader.specs.Answer.{IsAnswer, IsShort, base_of}
-use Rattle.timemap_reader.specs.Page.{named, left_out, IsPageOf}
-use Rattle.timemap_reader.specs.Role.{is_memento_link, is_further_link, memento_of, further_of, datetime_of}
-use Rattle.timemap_reader.proofs.Cleans.{its_own}
-use Rattle.timemap_reader.proofs.Datetimes.{imf_read}
-use Rattle.link_format.specs.Writing.{param_text, link_text, escape, followed}
+use Rattle.link_format.specs.Writing.{param_text, params_text, link_text, escape, followed}
 use Rattle.link_format.proofs.Appended.{escape_longer}
 use Rattle.timemap_writer.specs.Service.{IsBase}
 use Rattle.timemap_writer.specs.TimeMap as written
-use Rattle.timemap_writer.specs.TimeMap.{memento_link, memento_links, original_link, timegate_link, timemap_link, period, timemap_text, timemap_links}
+use Rattle.timemap_writer.specs.TimeMap.{memento_link, memento_links, original_link, timegate_link, timemap_link, head_links, period, timemap_text, timemap_links}
+use Rattle.timemap_writer.specs.Pages.{pages, numbers, stretch, stretch_links, page_path, page_address, page_link, page_links, page_text, index_links, index_text}
 use Rattle.timemap_writer.proofs.Bases.{base_short}
-use Rattle.timemap_writer.proofs.Readings.{timemap_reads}
-use Rattle.replica_world.specs.ReadBack.{AreOnWeb, page_of}
-
--- ---- the link to a memento
-
-is_memento : (first last : Bool) (m : Memento) → is_memento_link (memento_link first last m) ≡ true
-is_memento true true m = refl
-is_memento true false m = refl
-is_memento false true m = refl
-is_memento false false m = refl
-
-is_not_further : (first last : Bool) (m : Memento) → is_further_link (memento_link first last m) ≡ false
-is_not_further true true m = refl
-is_not_further true false m = refl
-is_not_further false true m = refl
-is_not_further false false m = refl
-
-its_datetime : (first last : Bool) (m : Memento) → IsSecond m.at → datetime_of (memento_link first last m) ≡ Some m.at
-its_datetime first last m is = imf_read m.at is
-
-its_address : (url : Parts) (m : Memento) → IsMemento m → is_http_target m.uri ≡ true → memento_address url m.uri ≡ Some m.uri
-its_address url m is http = rw http (its_own m.uri is.uri)
-
-its_memento : (url : Parts) (first last : Bool) (m : Memento) → IsMemento m → is_http_target m.uri ≡ true
-    → memento_of url (memento_link first last m) ≡ Some m
-its_memento url first last m is http = rw (its_datetime first last m is.at, its_address url m is http) refl
-
--- ---- the links of a TimeMap
-
--- what links name on a page
-record NamesJust (url : Parts) (links : List Link) (mementos : List Memento) : Type 0 where
-  listed : named is_memento_link (memento_of url) links ≡ mementos
-  further : named is_further_link (further_of url) links ≡ []
-  all_listed : left_out is_memento_link (memento_of url) links ≡ 0
-  all_further : left_out is_further_link (further_of url) links ≡ 0
-
-count_passes : {X : Type 0} (p : X → Bool) (x : X) (xs : List X) → p x ≡ false → count_by p (x ∷ xs) ≡ count_by p xs
-count_passes p x xs e = rw e refl
-
-with_memento : (url : Parts) (link : Link) (m : Memento) (links : List Link) (ms : List Memento)
-    → is_memento_link link ≡ true → is_further_link link ≡ false → memento_of url link ≡ Some m → NamesJust url links ms → NamesJust url (link ∷ links) (m ∷ ms)
-with_memento url link m links ms role other means rest = record {
-  listed = rw (role, means) (ap (λ more. m ∷ more) rest.listed);
-  further = rw other rest.further;
-  all_listed =
-      let unnamed : Link → Bool = λ x. is_none (memento_of url x) in
-      let here : filter is_memento_link (link ∷ links) ≡ link ∷ filter is_memento_link links = rw role refl in
-      ap (count_by unnamed) here ∙ (count_passes unnamed link (filter is_memento_link links) (ap is_none means) ∙ rest.all_listed);
-  all_further = rw other rest.all_further;
-}
-
-with_other : (url : Parts) (link : Link) (links : List Link) (ms : List Memento)
-    → is_memento_link link ≡ false → is_further_link link ≡ false → NamesJust url links ms → NamesJust url (link ∷ links) ms
-with_other url link links ms role other rest = record {
-  listed = rw role rest.listed;
-  further = rw other rest.further;
-  all_listed = rw role rest.all_listed;
-  all_further = rw other rest.all_further;
-}
-
-abbrev IsAtHttp : Memento → Type 0
-IsAtHttp m = IsTrue (is_http_target m.uri)
-
-mementos_named : (url : Parts) (first : Bool) (ms : List Memento) → All IsMemento ms → All IsAtHttp ms → NamesJust url (memento_links first ms) ms
-mementos_named url first [] each http = record { listed = refl; further = refl; all_listed = refl; all_further = refl }
-mementos_named url first (m ∷ ms) each http =
-    let last = length ms == 0 in
-    with_memento url (memento_link first last m) m (memento_links false ms) ms (is_memento first last m) (is_not_further first last m)
-    (its_memento url first last m (All-head IsMemento m ms each) (All-head IsAtHttp m ms http))
-    (mementos_named url false ms (All-tail IsMemento m ms each) (All-tail IsAtHttp m ms http))
-
-timemap_named : (url : Parts) (base original : List ℕ) (ms : List Memento) → All IsMemento ms → All IsAtHttp ms → NamesJust url (timemap_links base original ms) ms
-timemap_named url base original ms each http =
-    with_other url (original_link original) _ ms refl refl
-    (with_other url (timegate_link base original) _ ms refl refl
-    (with_other url (timemap_link (codes "self") base original ms) _ ms refl refl (mementos_named url true ms each http)))
-
-its_page : (url : Parts) (base original : List ℕ) (ms : List Memento) → AreOnWeb ms → IsPageOf url (timemap_links base original ms) (page_of ms)
-its_page url base original ms web =
-    let just = timemap_named url base original ms web.each web.http in
-    record {
-      mementos = rw just.listed (record { sorted = web.sorted; same = λ m. ((λ h. h), λ h. h) });
-      further = rw just.further refl;
-      dropped = rw (just.all_listed, just.all_further) refl;
-    }
+use Rattle.timemap_writer.proofs.Readings.{All-stretch, timemap_reads, page_reads, index_reads}
+use Rattle.timemap_writer.proofs.Stretches.{lines_taken}
+use Rattle.replica_world.specs.ReadBack.{AreOnWeb, page_of, index_of}
+use Rattle.replica_world.proofs.Sizes.{page_is_short}
+use Rattle.replica_world.proofs.Found.{path_length, its_timemap, its_page, its_index}
 
 -- ---- its limits
 
@@ -126,7 +43,7 @@ few_params base original ms =
     let from = at_most_one (codes "from") (slice_get ms 0) in
     let until = at_most_one (codes "until") (slice_get ms (length ms - 1)) in
     let both : length (period ms) ≤ 2 = rw (length-append) (omega (arith, from, until)) in
-    let self : length (timemap_link (codes "self") base original ms).params ≤ 32 = omega (arith, both) in
+    let self : length (timemap_link (codes "self") (written.timemap_address base original) ms).params ≤ 32 = omega (arith, both) in
     (omega arith, (omega arith, (self, mementos_few true ms)))
 
 mementos_short : (first : Bool) (ms : List Memento) → All IsMemento ms → ShortTargets (memento_links first ms)
@@ -134,7 +51,7 @@ mementos_short first [] each = tt
 mementos_short first (m ∷ ms) each =
     (omega (arith, (All-head IsMemento m ms each).uri.0.1), mementos_short false ms (All-tail IsMemento m ms each))
 
-address_short : (base path original : List ℕ) → length base ≤ 256 → length path ≤ 14 → length original ≤ 4096 → length (base ++ path ++ original) ≤ 8192
+address_short : (base path original : List ℕ) → length base ≤ 256 → length path ≤ 40 → length original ≤ 4096 → length (base ++ path ++ original) ≤ 8192
 address_short base path original b p o =
     let whole : length (base ++ path ++ original) ≡ length base + length path + length original =
     length-append (base ++ path) original ∙ ap (λ n. n + length original) (length-append base path) in
@@ -146,6 +63,47 @@ short_targets base original ms is known each =
     let gate : length (written.timegate_address base original) ≤ 8192 = address_short base (codes "/timegate/") original whole (omega arith) known.1 in
     let self : length (written.timemap_address base original) ≤ 8192 = address_short base (codes "/timemap/link/") original whole (omega arith) known.1 in
     (omega (arith, known.1), (gate, (self, mementos_short true ms each)))
+
+-- ---- and those of a page and of an index
+
+page_few : (relation address : List ℕ) (ms : List Memento) → length (timemap_link relation address ms).params ≤ 32
+page_few relation address ms =
+    let from = at_most_one (codes "from") (slice_get ms 0) in
+    let until = at_most_one (codes "until") (slice_get ms (length ms - 1)) in
+    let both : length (period ms) ≤ 2 = rw (length-append) (omega (arith, from, until)) in
+    omega (arith, both)
+
+stretch_few : (first more : Bool) (ms : List Memento) → FewParams (stretch_links first more ms)
+stretch_few first more [] = tt
+stretch_few first more (m ∷ ms) = (omega arith, stretch_few false more ms)
+
+stretch_short : (first more : Bool) (ms : List Memento) → All IsMemento ms → ShortTargets (stretch_links first more ms)
+stretch_short first more [] each = tt
+stretch_short first more (m ∷ ms) each =
+    (omega (arith, (All-head IsMemento m ms each).uri.0.1), stretch_short false more ms (All-tail IsMemento m ms each))
+
+page_short : (base original : List ℕ) (page : ℕ) → IsBase base → IsOriginal original → page < 2 ^ 64 → length (page_address base original page) ≤ 8192
+page_short base original page is known small =
+    address_short base (page_path page) original (base_short base is) (path_length page small) known.1
+
+pages_few : (base original : List ℕ) (ms : List Memento) (from count : ℕ) → FewParams (map (page_link base original ms) (range_with_len from count))
+pages_few base original ms from zero = tt
+pages_few base original ms from (suc count) = (page_few (codes "timemap") (page_address base original from) (stretch from ms), pages_few base original ms (from + 1) count)
+
+pages_short : (base original : List ℕ) (ms : List Memento) (from count : ℕ) → IsBase base → IsOriginal original → from + count ≤ 2 ^ 64
+    → ShortTargets (map (page_link base original ms) (range_with_len from count))
+pages_short base original ms from zero is known room = tt
+pages_short base original ms from (suc count) is known room =
+    (page_short base original from is known (omega (arith, room)), pages_short base original ms (from + 1) count is known (omega (arith, room)))
+
+head_few : (base original address : List ℕ) (ms : List Memento) (links : List Link) → FewParams links → FewParams (head_links base original address ms ++ links)
+head_few base original address ms links few = (omega arith, (omega arith, (page_few (codes "self") address ms, few)))
+
+head_short : (base original address : List ℕ) (ms : List Memento) (links : List Link) → IsBase base → IsOriginal original → length address ≤ 8192 → ShortTargets links
+    → ShortTargets (head_links base original address ms ++ links)
+head_short base original address ms links is known here short =
+    let gate : length (written.timegate_address base original) ≤ 8192 = address_short base (codes "/timegate/") original (base_short base is) (omega arith) known.1 in
+    (omega (arith, known.1), (gate, (here, short)))
 
 -- ---- a short text lists few mementos
 
@@ -181,7 +139,7 @@ text_length base original ms each =
     let n = 42 * length ms in
     let separator = codes ",\n" in
     let gate = separator ++ link_text (timegate_link base original) in
-    let self = separator ++ link_text (timemap_link (codes "self") base original ms) in
+    let self = separator ++ link_text (timemap_link (codes "self") (written.timemap_address base original) ms) in
     let lines = followed separator (memento_links true ms) in
     let body = gate ++ (self ++ lines) in
     let inside : n ≤ length body = longer_right gate (self ++ lines) n (longer_right self lines n (lines_length separator true ms each)) in
@@ -196,6 +154,81 @@ few_links base original ms each short =
     let count = links_length true ms in
     omega (arith, text_length base original ms each, short, count)
 
+page_line : (address : List ℕ) (ms : List Memento) → 42 ≤ length (link_text (timemap_link (codes "timemap") address ms))
+page_line address ms =
+    let relation = param_text (codes "rel") (Some (codes "timemap")) in
+    let kind = param_text (codes "type") (Some (codes "application/link-format")) in
+    let both : 42 ≤ length (relation ++ kind) = omega arith in
+    let start = codes "<" ++ address ++ codes ">" in
+    let more = params_text (period ms) in
+    let parts : link_text (timemap_link (codes "timemap") address ms) ≡ start ++ ((relation ++ kind) ++ more) = simp append_assoc in
+    subst (λ (t : List ℕ). 42 ≤ length t) (sym parts) (longer_right start ((relation ++ kind) ++ more) 42 (longer_left (relation ++ kind) more 42 both))
+
+page_lines_length : (base original : List ℕ) (ms : List Memento) (separator : List ℕ) (from count : ℕ)
+    → 42 * count ≤ length (followed separator (map (page_link base original ms) (range_with_len from count)))
+page_lines_length base original ms separator from zero = omega arith
+page_lines_length base original ms separator from (suc count) =
+    let line = link_text (page_link base original ms from) in
+    let one = longer_right separator line 42 (page_line (page_address base original from) (stretch from ms)) in
+    let rest = followed separator (map (page_link base original ms) (range_with_len (from + 1) count)) in
+    let more = page_lines_length base original ms separator (from + 1) count in
+    rw (length-append (separator ++ line) rest) (omega (arith, one, more))
+
+index_length : (base original : List ℕ) (ms : List Memento) → 42 * pages ms ≤ length (index_text base original ms)
+unfolding index_text
+index_length base original ms =
+    let n = 42 * pages ms in
+    let separator = codes ",\n" in
+    let gate = separator ++ link_text (timegate_link base original) in
+    let self = separator ++ link_text (timemap_link (codes "self") (written.timemap_address base original) ms) in
+    let lines = followed separator (map (page_link base original ms) (numbers ms)) in
+    let body = gate ++ (self ++ lines) in
+    let inside : n ≤ length body = longer_right gate (self ++ lines) n (longer_right self lines n (page_lines_length base original ms separator 1 (pages ms))) in
+    longer_left (link_text (original_link original) ++ body) (codes "\n") n (longer_right (link_text (original_link original)) body n inside)
+
+numbered_length : (f : ℕ → Link) (from count : ℕ) → length (map f (range_with_len from count)) ≡ count
+numbered_length f from zero = refl
+numbered_length f from (suc count) = ap (λ n. suc n) (numbered_length f (from + 1) count)
+
+index_few : (base original : List ℕ) (ms : List Memento) → IsShort (index_text base original ms) → FewLinks (index_links base original ms)
+index_few base original ms short =
+    let count = numbered_length (page_link base original ms) 1 (pages ms) in
+    omega (arith, index_length base original ms, short, count)
+
+pub index_back : (base original address : List ℕ) (url : Parts) (mementos : List Memento) → IsBase base → IsFollowed base → IsOriginal original → IsFollowed original
+    → All IsMemento mementos → length mementos < 2 ^ 64 → base_of address ≡ Some url → IsShort (index_text base original mementos)
+    → IsAnswer address (index_text base original mementos) (Ok (index_of base original mementos))
+index_back base original address url ms is base_is known followed each small at short =
+    let room : 1 + pages ms ≤ 2 ^ 64 = omega (arith, small) in
+    let self : length (written.timemap_address base original) ≤ 8192 = address_short base (codes "/timemap/link/") original (base_short base is) (omega arith) known.1 in
+    let links = map (page_link base original ms) (numbers ms) in
+    let params = head_few base original (written.timemap_address base original) ms links (pages_few base original ms 1 (pages ms)) in
+    let targets = head_short base original (written.timemap_address base original) ms links is known self (pages_short base original ms 1 (pages ms) is known room) in (
+      index_links base original ms,
+      url,
+      short,
+      (index_reads base original ms is known each small, index_few base original ms short, params, targets),
+      at,
+      its_index base original url ms is known base_is followed small,
+    )
+
+pub page_back : (base original address : List ℕ) (url : Parts) (mementos : List Memento) (page : ℕ) → IsBase base → IsOriginal original → AreOnWeb mementos
+    → page < 2 ^ 64 → base_of address ≡ Some url → IsAnswer address (page_text base original mementos page) (Ok (page_of (stretch page mementos)))
+page_back base original address url ms page is known web small at =
+    let here = stretch page ms in
+    let lines = lines_taken page ms in
+    let each = All-stretch IsMemento page ms web.each in
+    let few : length (stretch page (memento_links true ms)) ≤ 1000 = omega (arith, length-take 1000 (drop (1000 * (page - 1)) (memento_links true ms))) in
+    let first = 1000 * (page - 1) == 0 in
+    let more = nat_lt 1000 (length (drop (1000 * (page - 1)) ms)) in
+    let links = stretch page (memento_links true ms) in
+    let params = head_few base original (page_address base original page) here links (subst FewParams lines (stretch_few first more here)) in
+    let self = page_short base original page is known small in
+    let gate = address_short base (codes "/timegate/") original (base_short base is) (omega arith) known.1 in
+    let short = page_is_short base original ms page known.1 gate self web.each in
+    let targets = head_short base original (page_address base original page) here links is known self (subst ShortTargets lines (stretch_short first more here each)) in
+    (page_links base original ms page, url, short, (page_reads base original ms page is known web.each small, omega (arith, few), params, targets), at, its_page base original url ms page web)
+
 pub read_back : (base original address : List ℕ) (url : Parts) (mementos : List Memento) → IsBase base → IsOriginal original → AreOnWeb mementos
     → base_of address ≡ Some url → IsShort (timemap_text base original mementos)
     → IsAnswer address (timemap_text base original mementos) (Ok (page_of mementos))
@@ -205,4 +238,4 @@ read_back base original address url ms is known web at short =
     let few = few_links base original ms web.each short in
     let params = few_params base original ms in
     let targets = short_targets base original ms is known web.each in
-    (links, url, short, (reading, few, params, targets), at, its_page url base original ms web)
+    (links, url, short, (reading, few, params, targets), at, its_timemap url base original ms web)

@@ -31,7 +31,9 @@ use Rattle.replica_events.specs.declared.event.Said.TheVariants.{Taken, Sent, Jo
 use Rattle.replica_events.specs.declared.event.Refused.{Refused}
 use Rattle.replica_events.specs.declared.event.Refused.TheVariants.{NoReplica, NoMessage, BadState, NoMemory, Gap, NumbersSpent}
 use Rattle.replica_events.specs.Faults.{refusal, stamp_refusal}
-use Rattle.replica_events.specs.World.{World, Replica, Message, Answer, Step, Effect, numbered, HasReplica, TakesMemory, IsText, last_number, replica, message, with_replica, with_message, taking, joining, sent_by, own_cursor, fresh, fresh_after, restarting, start}
+use Rattle.replica_events.specs.World.{World, Replica, Message, Answer, Step, Effect, numbered, HasReplica, TakesMemory, IsText, last_number, replica}
+use Rattle.replica_events.specs.World.{message, with_replica, with_message, taking, joining, sent_by, own_cursor, fresh, fresh_after, restarting}
+use Rattle.replica_events.specs.World.{start}
 use Rattle.replica_events.proofs.Numbers.{messages_stay, last_stays}
 use Rattle.replica_events.proofs.Moments.{run_push, longer, merges_made}
 use Rattle.replica_world.specs.Places.{IsPlaceOf, IsNoNumber}
@@ -102,7 +104,8 @@ absent kept w (suc place) stands none = zip_none Keeps kept.replicas w.replicas 
 pub refused_as : (old new : Kept) (event : Event) (why : Refused) (answer : Answer) → Steps old event (Err why) old → new ≡ old → answer ≡ Err why → Steps old event answer new
 refused_as old new event why answer steps new_is answer_is = subst (λ (k : Kept). Steps old event answer k) (sym new_is) (subst (λ (a : Answer). Steps old event a old) (sym answer_is) steps)
 
-pub no_replica : (kept new : Kept) (event : Event) (why : Refused) (answer : Answer) → (why ≡ NoReplica) × IsNoNumber (number_of event) (length kept.replicas) → new ≡ kept → answer ≡ Err why → Steps kept event answer new
+pub no_replica : (kept new : Kept) (event : Event) (why : Refused) (answer : Answer) → (why ≡ NoReplica)
+    × IsNoNumber (number_of event) (length kept.replicas) → new ≡ kept → answer ≡ Err why → Steps kept event answer new
 no_replica kept new event why answer is new_is answer_is =
     refused_as kept new event NoReplica answer
     (stays kept event (Err NoReplica) (λ w stands. inl (refused_without kept.base w event (absent kept w (number_of event) stands is.1))))
@@ -144,7 +147,8 @@ receive_ran_out kept number place bytes here within = ran_out kept number place 
 
 -- ---- one replica merges
 
-placed : (kept : Kept) (w : World) (number place : ℕ) (k : KeptReplica) (r : Replica) → Stands kept w → number ≡ place + 1 → Keeps k r → AllZip Keeps (slice_set kept.replicas place k) (with_replica w number r).replicas
+placed : (kept : Kept) (w : World) (number place : ℕ) (k : KeptReplica) (r : Replica) → Stands kept w → number ≡ place + 1 → Keeps k r
+    → AllZip Keeps (slice_set kept.replicas place k) (with_replica w number r).replicas
 placed kept w number place k r stands is keeps =
     let same : suc place ≡ number = omega (arith, is) in
     subst (λ (n : ℕ). AllZip Keeps (slice_set kept.replicas place k) (with_replica w n r).replicas) same (zip_set Keeps kept.replicas w.replicas place k r stands.replicas keeps)
@@ -172,7 +176,8 @@ merged_step old new number place event answer m held here a takes = record {
       let p = takes w r stands x.there x.keeps (λ last. a.merged.left (x.keeps.stamped.number ∙ last)) in
       let next : Replica = p.0 in
       let keeps : Keeps (kept_at new place) next = record {
-        stamped = subst (λ (ms : List Merge). IsStamped ms (kept_at new place).stamped) (sym p.1) (absorbed_is_stamped r.merges m (kept_at old place).stamped (kept_at new place).stamped x.keeps.stamped a.merged.absorbed);
+        stamped = subst (λ (ms : List Merge). IsStamped ms (kept_at new place).stamped) (sym p.1)
+            (absorbed_is_stamped r.merges m (kept_at old place).stamped (kept_at new place).stamped x.keeps.stamped a.merged.absorbed);
         incarnation = a.merged.absorbed.incarnation ∙ (x.keeps.incarnation ∙ sym p.2);
         cursors = a.merged.cursors ∙ p.3;
       } in
@@ -181,7 +186,8 @@ merged_step old new number place event answer m held here a takes = record {
         step = p.4;
         stands = record {
           reached = subst (λ (b : List ℕ). IsReached b (with_replica w number next)) (sym a.base) (reached_next old.base w event answer (with_replica w number next) stands.reached p.4);
-          replicas = subst (λ (ks : List KeptReplica). AllZip Keeps ks (with_replica w number next).replicas) (sym a.replicas) (placed old w number place (kept_at new place) next stands here.number_is keeps);
+          replicas = subst (λ (ks : List KeptReplica). AllZip Keeps ks (with_replica w number next).replicas) (sym a.replicas)
+              (placed old w number place (kept_at new place) next stands here.number_is keeps);
           messages = a.messages ∙ (stands.messages ∙ ap (map kept_message) (sym (messages_stay w number next)));
           last = a.last ∙ (stands.last ∙ sym (last_stays w number next));
           sent = subst (All IsSent) (sym (messages_stay w number next)) stands.sent;
@@ -298,7 +304,8 @@ delivered old new number place k m read here sent is fit a =
     ))
 
 -- a delta that leaves a gap is refused with the cursor that is held
-gap_left : (kept : Kept) (number place k : ℕ) (m : SentMessage) (read : Delta) (held : Option Cursor) → IsPlaceOf number (length kept.replicas) place → numbered kept.messages k ≡ Some m → IsReadFrom m read
+gap_left : (kept : Kept) (number place k : ℕ) (m : SentMessage) (read : Delta) (held : Option Cursor) → IsPlaceOf number (length kept.replicas) place
+    → numbered kept.messages k ≡ Some m → IsReadFrom m read
     → held ≡ fmap.get (kept_at kept place).cursors m.sender → fits (fmap.get (kept_at kept place).cursors m.sender) read ≡ false
     → Steps kept (Deliver number k) (Err (Gap held)) kept
 gap_left kept number place k m read held here sent is held_is gap =
@@ -325,7 +332,8 @@ spent_delivery kept number place k m read here sent is fit spent =
     (λ i. fits (fmap.get (sym x.keeps.cursors i) (sym same.sender i)) (sym same.delta i)) ∙ fit in
     inl (rw x.there (rw f.there (inl (same.within, inl (follows, inr (sym x.keeps.stamped.number ∙ spent, (refl, refl))))))))
 
-deliver_ran_out : (kept : Kept) (number place k : ℕ) (m : SentMessage) → IsPlaceOf number (length kept.replicas) place → numbered kept.messages k ≡ Some m → length m.bytes ≤ longest_text → Steps kept (Deliver number k) (Err NoMemory) kept
+deliver_ran_out : (kept : Kept) (number place k : ℕ) (m : SentMessage) → IsPlaceOf number (length kept.replicas) place
+    → numbered kept.messages k ≡ Some m → length m.bytes ≤ longest_text → Steps kept (Deliver number k) (Err NoMemory) kept
 deliver_ran_out kept number place k m here sent within =
     ran_out kept number place (Deliver number k) here
     (λ w stands there.
@@ -333,7 +341,8 @@ deliver_ran_out kept number place k m here sent within =
     (there, (f.found, f.there, subst (λ (k : SentMessage). length k.bytes ≤ longest_text) f.kept_is within)))
 
 -- a delta that was read isn't joined
-pub not_joined : (kept : Kept) (number place k : ℕ) (m : SentMessage) (read : Delta) (why : Refused) → IsPlaceOf number (length kept.replicas) place → numbered kept.messages k ≡ Some m → IsReadFrom m read
+pub not_joined : (kept : Kept) (number place k : ℕ) (m : SentMessage) (read : Delta) (why : Refused) → IsPlaceOf number (length kept.replicas) place
+    → numbered kept.messages k ≡ Some m → IsReadFrom m read
     → IsJoinCause why (kept_at kept place) m.sender read → Steps kept (Deliver number k) (Err why) kept
 not_joined kept number place k m read (Gap held) here sent is cause = gap_left kept number place k m read held here sent is cause.0 cause.1
 not_joined kept number place k m read NumbersSpent here sent is cause = spent_delivery kept number place k m read here sent is cause.0 cause.1
@@ -342,7 +351,8 @@ not_joined kept number place k m read NoReplica here sent is cause = absurd caus
 not_joined kept number place k m read NoMessage here sent is cause = absurd cause
 not_joined kept number place k m read BadState here sent is cause = absurd cause
 
-pub no_message : (kept new : Kept) (number place k : ℕ) (why : Refused) (answer : Answer) → IsPlaceOf number (length kept.replicas) place → (why ≡ NoMessage) × (numbered kept.messages k ≡ None) → new ≡ kept → answer ≡ Err why
+pub no_message : (kept new : Kept) (number place k : ℕ) (why : Refused) (answer : Answer) → IsPlaceOf number (length kept.replicas) place
+    → (why ≡ NoMessage) × (numbered kept.messages k ≡ None) → new ≡ kept → answer ≡ Err why
     → Steps kept (Deliver number k) answer new
 no_message kept new number place k why answer here is new_is answer_is =
     refused_as kept new (Deliver number k) NoMessage answer
@@ -358,7 +368,8 @@ too_long : (bytes : List ℕ) (d : Delta) → IsDelta d → bytes ≡ delta_text
 too_long bytes d delta text (inl long) = long
 too_long bytes d delta text (inr not) = absurd (not.1 d (sent_text bytes d delta text))
 
-not_read : (kept : Kept) (number place k : ℕ) (m : SentMessage) (answer : Answer) → IsPlaceOf number (length kept.replicas) place → numbered kept.messages k ≡ Some m → IsDeltaCause TooLong m.bytes ⊎ IsDeltaCause NotState m.bytes → answer ≡ Err BadState
+not_read : (kept : Kept) (number place k : ℕ) (m : SentMessage) (answer : Answer) → IsPlaceOf number (length kept.replicas) place
+    → numbered kept.messages k ≡ Some m → IsDeltaCause TooLong m.bytes ⊎ IsDeltaCause NotState m.bytes → answer ≡ Err BadState
     → Steps kept (Deliver number k) answer kept
 not_read kept number place k m answer here sent cause is =
     stays kept (Deliver number k) answer

@@ -1,5 +1,6 @@
 -- Reads and writes one after another, and whose fault a failure is.
-use Rattle.std.proofs.Common.{◌≡◌, ◌≢◌, ℕ, zero, suc, ◌+◌, ◌<◌, ◌≤◌, min, arith, refl, length-append, List, [], ◌++◌, length, take, drop, Option, Some, None, Result, Ok, Err, sym, ap, subst, ◌∙◌, append-nil, append_assoc}
+use Rattle.std.proofs.Common.{◌≡◌, ◌≢◌, ℕ, zero, suc, ◌+◌, ◌<◌, ◌≤◌, min, arith, refl, length-append, List, [], ◌++◌, length, take, drop, Option}
+use Rattle.std.proofs.Common.{Some, None, Result, Ok, Err, sym, ap, subst, ◌∙◌, append-nil, append_assoc}
 use Rattle.std.specs.Prelude.{IfSome}
 use Rattle.std.specs.Io.KnownBytes.{Appends, Consumes, IsAtEnd}
 use Rattle.std.proofs.KnownBytes.{Appends-trans, Consumes-trans}
@@ -51,11 +52,13 @@ one_more_counted (suc more) old mid new counted is = record {
 }
 
 -- one that takes in more of what a reader has left
-pub read_more : {E : Type 0} (old mid new : Option (List ℕ)) (text more buffer : List ℕ) (count : ℕ) → Consumes old mid text → Consumes mid new (take count buffer) × E → more ≡ text ++ take count buffer → Consumes old new more
+pub read_more : {E : Type 0} (old mid new : Option (List ℕ)) (text more buffer : List ℕ) (count : ℕ) → Consumes old mid text
+    → Consumes mid new (take count buffer) × E → more ≡ text ++ take count buffer → Consumes old new more
 read_more old mid new text more buffer count before read more_is = subst (Consumes old new) (sym more_is) (Consumes-trans old mid new text (take count buffer) before read.0)
 
 -- who gave so many bytes had no fewer
-pub not_enough : (P : Type 0) (old new : Option (List ℕ)) (text : List ℕ) (most : ℕ) → Consumes old new text → most ≤ length text → 1000000000 ≤ most → IfSome old (λ bytes. length bytes < 1000000000 → P)
+pub not_enough : (P : Type 0) (old new : Option (List ℕ)) (text : List ℕ) (most : ℕ) → Consumes old new text → most ≤ length text → 1000000000 ≤ most
+    → IfSome old (λ bytes. length bytes < 1000000000 → P)
 not_enough P None new text most consumed long many = tt
 not_enough P (Some x) None text most consumed long many = absurd consumed
 not_enough P (Some x) (Some y) text most consumed long many = λ few.

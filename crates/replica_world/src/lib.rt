@@ -13,7 +13,7 @@ mod replica;
 mod world;
 
 pub use asked::{Asked, asked_after};
-pub use read_back::timemaps_are_pages;
+pub use read_back::{paged_timemaps_are_pages, timemaps_are_pages};
 pub use replaying::fault::ReplayFault;
 pub use replaying::laws::{
     one_output, same_text_from_both, script_is_its_layout, scripts_are_runs,

@@ -1,12 +1,16 @@
 //! What readers of pages find in the TimeMaps that are written here.
-ghost use Rattle.std.specs.Prelude.{◌≡◌, List, ℕ, Some, Ok};
+ghost use Rattle.std.specs.Prelude.{◌≡◌, ◌<◌, ◌^◌, List, ℕ, Some, Ok, All, length};
+ghost use Rattle.std.specs.List.{flat_map};
 ghost use Rattle.url.specs.Parts.{Parts};
 ghost use Rattle.memento_time.specs.Text.{IsOriginal};
 ghost use Rattle.memento_time.specs.declared.mementos.Memento.{Memento};
+ghost use Rattle.memento_time.specs.Mementos.{IsMemento};
+ghost use Rattle.url_texts.specs.Followed.{IsFollowed};
 ghost use Rattle.timemap_reader.specs.Answer.{IsAnswer, IsShort, base_of};
 ghost use Rattle.timemap_writer.specs.Service.{IsBase};
 ghost use Rattle.timemap_writer.specs.TimeMap.{timemap_text};
-ghost use Rattle.replica_world.specs.ReadBack.{AreOnWeb, page_of};
+ghost use Rattle.timemap_writer.specs.Pages.{numbers, stretch, index_text, page_text};
+ghost use Rattle.replica_world.specs.ReadBack.{AreOnWeb, page_of, index_of};
 
 /// A TimeMap of at most 8,388,608 bytes, whose mementos have addresses that begin with `http://` or `https://`, may be
 /// answered as a page of just these mementos, whatever http or https URL it was fetched from: so one aggregator can
@@ -17,4 +21,22 @@ pub fn timemaps_are_pages()
         → IsBase base → IsOriginal original → AreOnWeb mementos
         → base_of address ≡ Some url → IsShort (timemap_text base original mementos)
         → IsAnswer address (timemap_text base original mementos) (Ok (page_of mementos)) }
+{}
+
+/// The index of a TimeMap, and each page, which always is short enough, may be answered as pages of an archive too. The
+/// index, of an original as `read_original` writes it, is one of no mementos whose further TimeMaps are just the pages,
+/// in order, with nothing left out; page K is one of the mementos of its stretch of the list. And the stretches, in
+/// order, are the list: whoever reads the index and then what it names has just the list's mementos.
+pub fn paged_timemaps_are_pages()
+    ensures index { (base original address : List ℕ) (url : Parts) (mementos : List Memento)
+        → IsBase base → IsFollowed base → IsOriginal original → IsFollowed original
+        → All IsMemento mementos → length mementos < 2 ^ 64
+        → base_of address ≡ Some url → IsShort (index_text base original mementos)
+        → IsAnswer address (index_text base original mementos) (Ok (index_of base original mementos)) }
+    ensures page { (base original address : List ℕ) (url : Parts) (mementos : List Memento) (page : ℕ)
+        → IsBase base → IsOriginal original → AreOnWeb mementos → page < 2 ^ 64
+        → base_of address ≡ Some url
+        → IsAnswer address (page_text base original mementos page) (Ok (page_of (stretch page mementos))) }
+    ensures union { (mementos : List Memento)
+        → flat_map (λ page. stretch page mementos) (numbers mementos) ≡ mementos }
 {}

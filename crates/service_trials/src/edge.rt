@@ -1,5 +1,5 @@
-//! Over loopback, what no whole service shows: a gate without memory for an answer, and the fault of a body that ends too
-//! early.
+//! Over loopback, what no whole service shows: a gate without memory for an answer, and the fault of a body that ends
+//! too early.
 use anyhow::{Context, Result};
 use crossbeam_channel::{Receiver, Sender, bounded};
 use harvester::{Answer, Fetch, FetchFault};

@@ -328,23 +328,23 @@ fn chain(alloc: Global, pages: u64) -> Result<MemoryFetch> {
 #[test]
 fn chains(rt: HostRuntime) -> Result<()> {
     let first = "http://arc.example/1";
-    let whole = walk_counts(&rt, &chain(rt.alloc(), 64)?, first)?;
+    let whole = walk_counts(&rt, &chain(rt.alloc(), 128)?, first)?;
     assert_eq!(rt; whole, (Ok(0), MAX_PAGES));
-    let long = walk_counts(&rt, &chain(rt.alloc(), 65)?, first)?;
+    let long = walk_counts(&rt, &chain(rt.alloc(), 129)?, first)?;
     assert_eq!(rt; long, (Err(WalkFault::TooManyPages), MAX_PAGES));
     Ok(())
 }
 
-/// A chain of 63 pages, the first of which also lists a page that doesn't answer, and the last of which lists one more
+/// A chain of 127 pages, the first of which also lists a page that doesn't answer, and the last of which lists one more
 /// where it is told to.
 fn chain_with_a_silent_page(alloc: Global, last: &str) -> Result<MemoryFetch> {
     let mut table = MemoryFetch::new(alloc);
     let first = "<http://arc.example/2>;rel=timemap,<http://arc.example/silent>;rel=timemap";
     add(&mut table, alloc, "http://arc.example/1", 200, "", first)?;
-    for page in 2..63 {
-        add_link(&mut table, alloc, page, 63)?;
+    for page in 2..127 {
+        add_link(&mut table, alloc, page, 127)?;
     }
-    add(&mut table, alloc, "http://arc.example/63", 200, "", last)?;
+    add(&mut table, alloc, "http://arc.example/127", 200, "", last)?;
     Ok(table)
 }
 
@@ -352,10 +352,10 @@ fn chain_with_a_silent_page(alloc: Global, last: &str) -> Result<MemoryFetch> {
 fn lost_pages_count(rt: HostRuntime) -> Result<()> {
     let first = "http://arc.example/1";
     let most = walk_counts(&rt, &chain_with_a_silent_page(rt.alloc(), "")?, first)?;
-    assert_eq!(rt; most, (Ok(0), 63));
-    let more = "<http://arc.example/64>;rel=timemap";
+    assert_eq!(rt; most, (Ok(0), 127));
+    let more = "<http://arc.example/128>;rel=timemap";
     let many = walk_counts(&rt, &chain_with_a_silent_page(rt.alloc(), more)?, first)?;
-    assert_eq!(rt; many, (Err(WalkFault::TooManyPages), 63));
+    assert_eq!(rt; many, (Err(WalkFault::TooManyPages), 127));
     Ok(())
 }
 
@@ -366,10 +366,10 @@ fn push_pages(body: &mut String, alloc: Global, pages: u64) -> Result<()> {
     Ok(())
 }
 
-/// A page that lists itself and 64 others.
+/// A page that lists itself and 128 others.
 fn page_of_many(alloc: Global) -> Result<MemoryFetch> {
     let mut body = String::from_str(alloc, "<http://arc.example/0>;rel=timemap")?;
-    push_pages(&mut body, alloc, 64)?;
+    push_pages(&mut body, alloc, 128)?;
     let mut table = MemoryFetch::new(alloc);
     add(&mut table, alloc, "http://arc.example/0", 200, "", &body)?;
     Ok(table)
@@ -379,6 +379,30 @@ fn page_of_many(alloc: Global) -> Result<MemoryFetch> {
 fn a_page_of_too_many_pages(rt: HostRuntime) -> Result<()> {
     let counts = walk_counts(&rt, &page_of_many(rt.alloc())?, "http://arc.example/0")?;
     assert_eq!(rt; counts, (Err(WalkFault::TooManyPages), 1));
+    Ok(())
+}
+
+/// A page of so many mementos of one second.
+fn page_of_mementos(alloc: Global, count: u64) -> Result<MemoryFetch> {
+    let mut body = String::new(alloc);
+    for number in 0..count {
+        let link = format!(in alloc;
+            "<{number}>;rel=memento;datetime=\"Sat, 01 Jan 2000 00:00:00 GMT\","
+        )?;
+        body.push_str(&link)?;
+    }
+    let mut table = MemoryFetch::new(alloc);
+    add(&mut table, alloc, "http://arc.example/i", 200, "", &body)?;
+    Ok(table)
+}
+
+#[test]
+fn a_page_of_too_many_mementos(rt: HostRuntime) -> Result<()> {
+    let first = "http://arc.example/i";
+    let most = walk_counts(&rt, &page_of_mementos(rt.alloc(), 100_000)?, first)?;
+    assert_eq!(rt; most, (Ok(100_000), 1));
+    let many = walk_counts(&rt, &page_of_mementos(rt.alloc(), 100_001)?, first)?;
+    assert_eq!(rt; many, (Err(WalkFault::TooManyMementos), 1));
     Ok(())
 }
 

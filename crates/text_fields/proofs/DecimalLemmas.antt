@@ -1,5 +1,6 @@
 -- What decimals are read as.
-use Rattle.std.proofs.Common.{◌≡◌, ℕ, ◌+◌, ◌-◌, ◌*◌, ◌^◌, ◌<◌, ◌≤◌, zero, suc, Bool, true, false, ◌&&◌, nat_lt, if◌then◌else◌, List, length, get_or, take, take_all, Option, None, Some, IfSome, IfNone, refl, sym, ap, subst, ◌∙◌, arith}
+use Rattle.std.proofs.Common.{◌≡◌, ℕ, ◌+◌, ◌-◌, ◌*◌, ◌^◌, ◌<◌, ◌≤◌, zero, suc, Bool, true, false, ◌&&◌, nat_lt, if◌then◌else◌, List, length, get_or}
+use Rattle.std.proofs.Common.{take, take_all, Option, None, Some, IfSome, IfNone, refl, sym, ap, subst, ◌∙◌, arith}
 use Rattle.std.specs.Prelude.{◌↔◌, bytes_eq}
 use Rattle.std.specs.Option.{SomeIff}
 use Rattle.std.specs.Int.{IsInRange}
@@ -39,7 +40,8 @@ value_at digits i lt range =
     digits_value_more 10 digits i lt ∙ ap (λ (d : ℕ). digits_value 10 (take i digits) * 10 + d) same
 
 -- one more digit is read
-pub reads_more : (digits : List ℕ) (i number next : ℕ) → i < length digits → ReadsTo digits i number → IsInRange 48 57 (get_or digits i 0) → number * 10 + (get_or digits i 0 - 48) ≡ next → next < 2 ^ 64 → ReadsTo digits (i + 1) next
+pub reads_more : (digits : List ℕ) (i number next : ℕ) → i < length digits → ReadsTo digits i number → IsInRange 48 57 (get_or digits i 0)
+    → number * 10 + (get_or digits i 0 - 48) ≡ next → next < 2 ^ 64 → ReadsTo digits (i + 1) next
 reads_more digits i number next lt so_far range step below =
     let value = digit_value_digit (get_or digits i 0) range in
     let small : digit_value (get_or digits i 0) < 10 = omega (arith, value, range) in
@@ -50,7 +52,9 @@ reads_more digits i number next lt so_far range step below =
     }
 
 -- a digit that can't be appended stands in no number of 64 bits
-pub reads_no_more : (digits : List ℕ) (i number : ℕ) → i < length digits → ReadsTo digits i number → ¬ (IsInRange 48 57 (get_or digits i 0) × (number * 10 + (get_or digits i 0 - 48) < 2 ^ 64)) → ¬ (AllDigits 10 digits × (digits_value 10 digits < 2 ^ 64))
+pub reads_no_more : (digits : List ℕ) (i number : ℕ) → i < length digits → ReadsTo digits i number
+    → ¬ (IsInRange 48 57 (get_or digits i 0) × (number * 10 + (get_or digits i 0 - 48) < 2 ^ 64))
+    → ¬ (AllDigits 10 digits × (digits_value 10 digits < 2 ^ 64))
 reads_no_more digits i number lt so_far refused whole =
     let range = digit_at digits i whole.0 lt in
     let value = value_at digits i lt range in
@@ -94,7 +98,8 @@ reads_all digits i number le so_far =
 pub number_is : (digits : List ℕ) → Finds (number_of digits) (IsDecimal digits)
 unfolding number_of
 number_is digits n = on (nat_lt (digits_value 10 digits) (2 ^ 64) && bytes_eq digits (decimal (digits_value 10 digits))) refl where
-  on : (fits : Bool) → (nat_lt (digits_value 10 digits) (2 ^ 64) && bytes_eq digits (decimal (digits_value 10 digits))) ≡ fits → ((if fits then Some (digits_value 10 digits) else None) ≡ Some n) ↔ IsDecimal digits n
+  on : (fits : Bool) → (nat_lt (digits_value 10 digits) (2 ^ 64) && bytes_eq digits (decimal (digits_value 10 digits))) ≡ fits
+      → ((if fits then Some (digits_value 10 digits) else None) ≡ Some n) ↔ IsDecimal digits n
   on true is =
       let small : digits_value 10 digits < 2 ^ 64 = grind (arith, common_steps) in
       let same : bytes_eq digits (decimal (digits_value 10 digits)) ≡ true = grind (arith, common_steps) in

@@ -45,6 +45,17 @@ pub fn mementos(alloc: Global, captures: &[(u64, &[u8])]) -> Result<Vec<Memento>
     Ok(mementos)
 }
 
+/// So many mementos: each is a second later than the one before, the first on `FIRST_DAY`, and its address ends in its
+/// place, counted from 0, in at least four digits.
+pub fn numbered(alloc: Global, count: u32) -> Result<Vec<Memento>> {
+    let mut mementos = Vec::new(alloc);
+    for place in 0..count {
+        let uri = format!(in alloc; "http://m.example/{place:04}")?;
+        mementos.push(memento(alloc, FIRST_DAY + u64::from(place), uri.as_bytes())?)?;
+    }
+    Ok(mementos)
+}
+
 /// The archive of this name.
 pub fn archive(name: &[u8]) -> Result<ArchiveName>
     ensures { IfOk result (λ archive. archive ≡ name.now) }

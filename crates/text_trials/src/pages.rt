@@ -66,6 +66,62 @@ fn a_page(rt: HostRuntime) -> Result<(), Fail> {
     Ok(())
 }
 
+/// The layout of most archives, with a comma behind the last link.
+const LAYOUT: &[u8] = br#"<http://a.example>;rel="original",
+<http://arc.example/list>
+  ; rel="self";type="application/link-format",
+<http://arc.example/web/1>
+  ; rel="first memento";datetime="Sat, 01 Jan 2000 00:00:00 GMT",
+<http://arc.example/web/2>
+  ; rel="last memento";datetime="Mon, 03 Jan 2000 00:00:00 GMT",
+"#;
+
+/// What comes of the layout where it is cut.
+#[derive(Clone, Copy, Debug, PartialEq, Eq)]
+enum Cut {
+    /// It is read, and has so many mementos.
+    Read(usize),
+    /// It is refused at its end, as a text of which more is missing.
+    Missing,
+    /// It is refused otherwise.
+    Refused,
+}
+
+fn cut_at(rt: &HostRuntime, end: usize) -> Cut {
+    match read(rt, &LAYOUT[..end.min(LAYOUT.len())]) {
+        Ok(page) => Cut::Read(page.mementos.as_slice().len()),
+        Err(PageFault::Links(LinkFault::NotLinkFormat { at })) if at == end => Cut::Missing,
+        Err(_) => Cut::Refused,
+    }
+}
+
+/// Of how many cuts this comes.
+fn cuts_with(rt: &HostRuntime, wanted: Cut) -> usize {
+    let mut cuts = 0usize;
+    for end in 0..=LAYOUT.len() {
+        if cut_at(rt, end) == wanted {
+            cuts = cuts.saturating_add(1);
+        }
+    }
+    cuts
+}
+
+/// Cut at each byte a page is read as far as it goes, with a memento for each datetime that came whole, or refused at
+/// the place where more is missing: within a target or a quoted value, or behind `=`. The numbers are another reader's.
+#[test]
+fn cut_pages(rt: HostRuntime) -> Result<(), Fail> {
+    assert_eq!(rt; LAYOUT.len(), 293);
+    for (wanted, cuts) in [
+        (Cut::Read(0), 46),
+        (Cut::Read(1), 22),
+        (Cut::Read(2), 3),
+        (Cut::Missing, 223),
+    ] {
+        assert_eq!(rt; cuts_with(&rt, wanted), cuts);
+    }
+    Ok(())
+}
+
 /// A link with this target and these parameters, and the datetime of 1 January 2000.
 fn link(rt: &HostRuntime, target: &[u8], params: &str) -> Result<Vec<u8>, Fail> {
     let mut text = Vec::from_slice(rt.alloc(), b"<")?;

@@ -1,7 +1,11 @@
 //! What is written of mementos, and the base that it is written under (`timemap_writer`).
-use crate::makers::{FIRST_DAY, THIRD_DAY, mementos, original, service};
+use crate::makers::{FIRST_DAY, THIRD_DAY, mementos, numbered, original, service};
+use memento_time::Memento;
+use std::alloc::Global;
 use std::test::Fail;
-use timemap_writer::{Service, ServiceFault, write_gate_links, write_timemap};
+use timemap_writer::{
+    Service, ServiceFault, pages, write_gate_links, write_index, write_page, write_timemap,
+};
 
 /// Whether a copy of the service that the text names stands at this base.
 fn is_at(rt: &HostRuntime, text: &str, base: &str) -> Result<bool, Fail> {
@@ -125,5 +129,86 @@ fn gate_links(rt: HostRuntime) -> Result<(), Fail> {
         assert!(rt; links.strip_prefix(LINKS_FRONT) == Some(rest), "of {count}");
         assert!(rt; mementos.is_empty() || links.capacity() == links.len());
     }
+    Ok(())
+}
+
+const ROOT: &[u8] = b"http://a.example/";
+
+/// The page of this number of the list, if it has one.
+fn page_of(alloc: Global, mementos: &[Memento], number: usize) -> Result<Vec<u8>, Fail> {
+    if number == 0 || number > pages(mementos) {
+        return Err("no such page".into());
+    }
+    let (service, original) = (service(alloc)?, original(alloc, ROOT)?);
+    Ok(write_page(alloc, &service, &original, mementos, number)?)
+}
+
+fn index_of(alloc: Global, mementos: &[Memento]) -> Result<Vec<u8>, Fail> {
+    let (service, original) = (service(alloc)?, original(alloc, ROOT)?);
+    Ok(write_index(alloc, &service, &original, mementos)?)
+}
+
+/// How the index of 1,001 mementos ends, and the whole of their second page.
+const TWO_PAGES: &[u8] =
+    b"; from=\"Sat, 01 Jan 2000 00:00:00 GMT\"; until=\"Sat, 01 Jan 2000 00:16:40 GMT\",
+<http://agg.example/timemap/link/page/1/http://a.example/>; rel=\"timemap\"; type=\"application/link-format\"; from=\"Sat, 01 Jan 2000 00:00:00 GMT\"; until=\"Sat, 01 Jan 2000 00:16:39 GMT\",
+<http://agg.example/timemap/link/page/2/http://a.example/>; rel=\"timemap\"; type=\"application/link-format\"; from=\"Sat, 01 Jan 2000 00:16:40 GMT\"; until=\"Sat, 01 Jan 2000 00:16:40 GMT\"
+";
+
+const SECOND_PAGE: &[u8] = b"<http://a.example/>; rel=\"original\",
+<http://agg.example/timegate/http://a.example/>; rel=\"timegate\",
+<http://agg.example/timemap/link/page/2/http://a.example/>; rel=\"self\"; type=\"application/link-format\"; from=\"Sat, 01 Jan 2000 00:16:40 GMT\"; until=\"Sat, 01 Jan 2000 00:16:40 GMT\",
+<http://m.example/1000>; rel=\"last memento\"; datetime=\"Sat, 01 Jan 2000 00:16:40 GMT\"
+";
+
+/// How the first of the two pages ends: with a memento that is not the last.
+const END_OF_FIRST: &[u8] =
+    b",\n<http://m.example/0999>; rel=\"memento\"; datetime=\"Sat, 01 Jan 2000 00:16:39 GMT\"\n";
+
+#[test]
+fn pages_of_a_long_list(rt: HostRuntime) -> Result<(), Fail> {
+    let alloc = rt.alloc();
+    let mementos = numbered(alloc, 1_001)?;
+    let index = index_of(alloc, &mementos)?;
+    assert!(rt; index.len() == 643 && index.ends_with(TWO_PAGES));
+    let first = page_of(alloc, &mementos, 1)?;
+    assert!(rt; first.len() == 82_288 && first.ends_with(END_OF_FIRST));
+    let second = page_of(alloc, &mementos, 2)?;
+    assert!(rt; second.as_slice() == SECOND_PAGE);
+    Ok(())
+}
+
+/// Memory is asked for once, for little more than the text.
+#[test]
+fn memory_of_pages(rt: HostRuntime) -> Result<(), Fail> {
+    let alloc = rt.alloc();
+    let mementos = numbered(alloc, 2_001)?;
+    for number in 1..4 {
+        let page = page_of(alloc, &mementos, number)?;
+        assert!(rt; page.capacity() < page.len().saturating_add(64));
+    }
+    let index = index_of(alloc, &mementos)?;
+    assert!(rt; index.capacity() < index.len().saturating_add(128));
+    Ok(())
+}
+
+#[test]
+fn numbers_of_pages(rt: HostRuntime) -> Result<(), Fail> {
+    let alloc = rt.alloc();
+    for (count, number) in [
+        (0, 0),
+        (1, 1),
+        (1_000, 1),
+        (1_001, 2),
+        (2_000, 2),
+        (2_001, 3),
+    ] {
+        assert!(rt; pages(&numbered(alloc, count)?) == number, "{count}");
+    }
+    let one: (u64, &[u8]) = (
+        FIRST_DAY,
+        b"http://arc.example/web/20000101000000/http://a.example/",
+    );
+    assert!(rt; page_of(alloc, &mementos(alloc, &[one])?, 1)?.len() == 409);
     Ok(())
 }

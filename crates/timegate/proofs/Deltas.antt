@@ -15,8 +15,10 @@ use Rattle.text_fields.proofs.PartLemmas.{parts_are}
 use Rattle.replica_exchange.specs.declared.cursor.Cursor.{Cursor}
 use Rattle.timegate.specs.declared.request.Request.{Request}
 use Rattle.timegate.specs.declared.route.Route.{Route}
-use Rattle.timegate.specs.declared.route.Route.TheVariants.{BadMethod, State, Delta, NoRoute, BadOriginal, BadDatetime, TimeGate, TimeMap}
-use Rattle.timegate.specs.Route.{is_get, is_head, is_state, is_whole_delta, is_delta, is_timegate, is_timemap, deltas, slash, cursor_of, cursor_in, cursor_at, delta_route, datetime_route, timegate_route, original_route, route_of, delta_target, IsCursor, AsksDelta}
+use Rattle.timegate.specs.declared.route.Route.TheVariants.{BadMethod, State, Delta, NoRoute, BadOriginal, BadDatetime, TimeGate, TimeMap, Page}
+use Rattle.timegate.specs.Route.{is_get, is_head, is_state, is_whole_delta, is_delta, is_timegate, is_timemap, timemaps, deltas, slash, cursor_of}
+use Rattle.timegate.specs.Route.{cursor_in, cursor_at, delta_route, datetime_route, timegate_route, original_route, original_at, page_in}
+use Rattle.timegate.specs.Route.{listing_route, map_route, route_of, delta_target, IsCursor, AsksDelta}
 use Rattle.timegate.proofs.Promises.{asking, at_target, first_of}
 
 -- ---- the cursor that bytes name
@@ -78,6 +80,7 @@ cursor_asked BadOriginal = None
 cursor_asked BadDatetime = None
 cursor_asked (TimeGate original asked) = None
 cursor_asked (TimeMap original) = None
+cursor_asked (Page number original) = None
 
 gate_asks_none : (asked : List (List ℕ)) (original : Option (List ℕ)) → cursor_asked (original_route (timegate_route asked) original) ≡ None
 gate_asks_none asked None = refl
@@ -89,9 +92,20 @@ gate_asks_none (value ∷ []) (Some original) = dated (asked_of value)
     dated (Some second) = refl
 gate_asks_none (value ∷ next ∷ values) (Some original) = refl
 
-map_asks_none : (original : Option (List ℕ)) → cursor_asked (original_route TimeMap original) ≡ None
-map_asks_none None = refl
-map_asks_none (Some original) = refl
+whole_asks_none : (original : Option (List ℕ)) → cursor_asked (original_route TimeMap original) ≡ None
+whole_asks_none None = refl
+whole_asks_none (Some original) = refl
+
+page_asks_none : (number : ℕ) (original : Option (List ℕ)) → cursor_asked (original_route (Page number) original) ≡ None
+page_asks_none number None = refl
+page_asks_none number (Some original) = refl
+
+listing_asks_none : (page : Option (ℕ × List ℕ)) (bytes : List ℕ) → cursor_asked (listing_route page bytes) ≡ None
+listing_asks_none None bytes = whole_asks_none (original_at bytes)
+listing_asks_none (Some page) bytes = page_asks_none page.0 (original_at page.1)
+
+map_asks_none : (bytes : List ℕ) → cursor_asked (map_route bytes) ≡ None
+map_asks_none bytes = listing_asks_none (page_in bytes) bytes
 
 -- the first route that fits is a delta's
 abbrev IsDeltaRoute : Bool → Bool → Bool → Route → Option Cursor → Type 0
@@ -113,9 +127,9 @@ route_is_delta : (q : Request) (cursor : Option Cursor) → route_of q ≡ Delta
 unfolding route_of
 route_is_delta q cursor is =
     first_delta (not (is_get q) && not (is_head q)) (is_state q) (is_whole_delta q) (is_delta q) (is_timegate q) (is_timemap q) _ _ _ cursor
-    (gate_asks_none q.asked _) (map_asks_none _) (ap cursor_asked is)
+    (gate_asks_none q.asked _) (map_asks_none (drop (length timemaps) q.target)) (ap cursor_asked is)
 
-allowed_method : (q : Request) (g h : Bool) → is_get q ≡ g → is_head q ≡ h → (not g && not h) ≡ false → (q.method ≡ codes "GET") ⊎ (q.method ≡ codes "HEAD")
+pub allowed_method : (q : Request) (g h : Bool) → is_get q ≡ g → is_head q ≡ h → (not g && not h) ≡ false → (q.method ≡ codes "GET") ⊎ (q.method ≡ codes "HEAD")
 allowed_method q true h get head allowed = inl ((bytes_eq-Decides q.method (codes "GET")).0 get)
 allowed_method q false true get head allowed = inr ((bytes_eq-Decides q.method (codes "HEAD")).0 head)
 allowed_method q false false get head allowed = absurd (true≢false allowed)

@@ -1,25 +1,36 @@
 -- What a client may rely on, by what is asked for.
-use Rattle.std.proofs.Common.{◌≡◌, ℕ, ◌++◌, ◌&&◌, ◌==◌, Bool, true, false, not, length, List, [], ◌∷◌, Option, Some, None, refl, ap, append_assoc, sym, subst, ◌∙◌, arith}
+use Rattle.std.proofs.Common.{◌≡◌, ℕ, ◌<◌, ◌^◌, ◌++◌, ◌&&◌, ◌||◌, ◌==◌, nat_lt, inl, inr, Bool, true, false, not, length, drop, List, [], ◌∷◌, Option}
+use Rattle.std.proofs.Common.{Some, None, refl, ap, append_assoc, sym, subst, ◌∙◌, arith}
 use Rattle.std.specs.Prelude.{⊤, IfSome, codes, nat_eq, if◌then◌else◌}
 use Rattle.std.specs.List.{starts_with}
+use Rattle.std.specs.Option.{option_map}
+use Rattle.std.specs.Fmt.{decimal}
 use Rattle.std.proofs.lemmas.List.{append_cancel_left}
-use Rattle.std.proofs.lemmas.Bool.{true≢false}
+use Rattle.std.proofs.lemmas.Bool.{true≢false, cases_Bool}
 use Rattle.std.proofs.lemmas.Bool.Decides.{Decides-eqb}
 use Rattle.std.proofs.lemmas.Slice.Eq.{bytes_eq-Decides, starts_is}
 use Rattle.memento_time.specs.declared.mementos.Memento.{Memento}
 use Rattle.memento_time.specs.SecondOf.{asked_of}
+use Rattle.text_fields.specs.Decimals.{number_of}
+use Rattle.text_fields.specs.Parts.{parts_at}
+use Rattle.text_fields.proofs.DecimalLemmas.{decimal_lacks, number_is}
+use Rattle.text_fields.proofs.PartLemmas.{parts_are}
+use Rattle.url_texts.specs.Followed.{begins_on_web}
 use Rattle.memento_sets.specs.Sets as set
 use Rattle.memento_sets.specs.MementoSets.{Mementos}
 use Rattle.harvest_lattice.specs.Knowledge.{shown_of}
 use Rattle.replica_exchange.specs.declared.cursor.Cursor.{Cursor}
 use Rattle.replica_exchange.specs.Stamps.{StampedState}
 use Rattle.timemap_writer.specs.TimeMap.{timegate_address, timemap_address, gate_links}
+use Rattle.timemap_writer.specs.Pages.{pages, page_path, page_address}
 use Rattle.timegate.specs.declared.reply.Reply.{Reply}
 use Rattle.timegate.specs.declared.reply.Header.TheVariants.{Allow, Vary, Location, Link, ContentType}
 use Rattle.timegate.specs.declared.request.Request.{Request}
 use Rattle.timegate.specs.declared.route.Route.{Route}
-use Rattle.timegate.specs.declared.route.Route.TheVariants.{BadMethod, State, Delta, NoRoute, BadOriginal, BadDatetime, TimeGate, TimeMap}
-use Rattle.timegate.specs.Route.{is_get, is_head, is_state, is_timegate, is_timemap, is_whole_delta, is_delta, deltas, timegates, NamesItself, original_at, original_in, datetime_route, delta_route, timegate_route, original_route, route_of}
+use Rattle.timegate.specs.declared.route.Route.TheVariants.{BadMethod, State, Delta, NoRoute, BadOriginal, BadDatetime, TimeGate, TimeMap, Page}
+use Rattle.timegate.specs.Route.{is_get, is_head, is_state, is_timegate, is_timemap, is_whole_delta, is_delta, deltas, timegates, timemaps, slash}
+use Rattle.timegate.specs.Route.{page_part, IsAsked, original_at, original_in, datetime_route, delta_route, timegate_route, original_route, numbered}
+use Rattle.timegate.specs.Route.{page_in, listing_route, map_route, route_of}
 use Rattle.timegate.specs.Reply.{Headers, reply_at, reply_of, redirect, choice_at}
 use Rattle.timegate.specs.Served.{IsServed}
 use Rattle.timegate.specs.Promises.{as_get, without_body, vary_values, AreInOrder}
@@ -53,6 +64,9 @@ routed_bare base shows s q is BadDatetime = bare (is_head q) is _ _ _
 routed_bare base shows s q is (TimeGate original asked) = redirect_bare base q is original (shows original) (choice_at (shows original) asked)
 routed_bare base shows s q is (TimeMap original) =
     either_bare (length (set.items (shows original)) == 0) _ _ _ _ (bare (is_head q) is _ _ _) (bare (is_head q) is _ _ _)
+routed_bare base shows s q is (Page number original) =
+    either_bare (length (set.items (shows original)) == 0) _ _ _ _ (bare (is_head q) is _ _ _)
+    (either_bare (number == 0 || nat_lt (pages (set.items (shows original))) number) _ _ _ _ (bare (is_head q) is _ _ _) (bare (is_head q) is _ _ _))
 
 allowed : (g h : Bool) → h ≡ true → (refused route : Route) → (if not g && not h then refused else route) ≡ route
 allowed true h is refused route = refl
@@ -82,6 +96,7 @@ Elsewhere q BadOriginal = ⊤
 Elsewhere q BadDatetime = ⊤
 Elsewhere q (TimeGate original asked) = ⊤
 Elsewhere q (TimeMap original) = is_timegate q ≡ false
+Elsewhere q (Page number original) = is_timegate q ≡ false
 
 gate_elsewhere : (q : Request) (original : List ℕ) (second : Option ℕ) → Elsewhere q (datetime_route original second)
 gate_elsewhere q original None = tt
@@ -93,9 +108,20 @@ gates_elsewhere q [] (Some original) = tt
 gates_elsewhere q (value ∷ []) (Some original) = gate_elsewhere q original (asked_of value)
 gates_elsewhere q (value ∷ next ∷ values) (Some original) = tt
 
-map_elsewhere : (q : Request) → is_timegate q ≡ false → (original : Option (List ℕ)) → Elsewhere q (original_route TimeMap original)
-map_elsewhere q other None = tt
-map_elsewhere q other (Some original) = other
+found_elsewhere : (q : Request) → is_timegate q ≡ false → (original : Option (List ℕ)) → Elsewhere q (original_route TimeMap original)
+found_elsewhere q other None = tt
+found_elsewhere q other (Some original) = other
+
+page_elsewhere : (q : Request) → is_timegate q ≡ false → (number : ℕ) (original : Option (List ℕ)) → Elsewhere q (original_route (Page number) original)
+page_elsewhere q other number None = tt
+page_elsewhere q other number (Some original) = other
+
+listing_elsewhere : (q : Request) → is_timegate q ≡ false → (page : Option (ℕ × List ℕ)) (bytes : List ℕ) → Elsewhere q (listing_route page bytes)
+listing_elsewhere q other None bytes = found_elsewhere q other (original_at bytes)
+listing_elsewhere q other (Some page) bytes = page_elsewhere q other page.0 (original_at page.1)
+
+map_elsewhere : (q : Request) → is_timegate q ≡ false → (bytes : List ℕ) → Elsewhere q (map_route bytes)
+map_elsewhere q other bytes = listing_elsewhere q other (page_in bytes) bytes
 
 state_elsewhere : (q : Request) → is_state q ≡ true → is_timegate q ≡ false
 state_elsewhere q is = ap (λ (target : List ℕ). starts_with nat_eq target timegates) ((bytes_eq-Decides q.target (codes "/state")).0 is)
@@ -137,7 +163,7 @@ unfolding route_of
 elsewhere q =
     first_fit q (not (is_get q) && not (is_head q)) (is_state q) (is_whole_delta q) (is_delta q) (is_timegate q) (is_timemap q) _ _ _ refl
     (state_elsewhere q) (whole_delta_elsewhere q) (λ is. delta_elsewhere q (other_front q.target is) _)
-    (gates_elsewhere q q.asked _) (λ other. map_elsewhere q other _)
+    (gates_elsewhere q q.asked _) (λ other. map_elsewhere q other (drop (length timemaps) q.target))
 
 -- what stands in the header fields of a TimeGate's reply, or of another's
 abbrev gate_values : Bool → List (List ℕ)
@@ -185,6 +211,10 @@ keeps_routed base shows s q BadDatetime here = keeps_told (is_timegate q)
 keeps_routed base shows s q (TimeGate original asked) here = keeps_redirect base q original (shows original) (choice_at (shows original) asked)
 keeps_routed base shows s q (TimeMap original) here =
     keeps_either (is_timegate q) (length (set.items (shows original)) == 0) _ _ (keeps_told (is_timegate q)) (keeps_alone (is_timegate q) here (codes "application/link-format"))
+keeps_routed base shows s q (Page number original) here =
+    keeps_either (is_timegate q) (length (set.items (shows original)) == 0) _ _ (keeps_told (is_timegate q))
+    (keeps_either (is_timegate q) (number == 0 || nat_lt (pages (set.items (shows original))) number) _ _ (keeps_told (is_timegate q))
+    (keeps_alone (is_timegate q) here (codes "application/link-format")))
 
 keeps : (base : List ℕ) (s : StampedState) (q : Request) → Keeps (is_timegate q) (reply_of base s q).headers
 unfolding reply_of
@@ -203,10 +233,15 @@ gate_at : (asked : List (List ℕ)) (original : List ℕ)
 unfolding route_of
 gate_at asked original = refl
 
-map_at : (asked : List (List ℕ)) (original : List ℕ)
-    → route_of (record { method = codes "GET"; target = codes "/timemap/link/" ++ original; asked = asked }) ≡ original_route TimeMap (original_at original)
+map_at : (asked : List (List ℕ)) (bytes : List ℕ)
+    → route_of (record { method = codes "GET"; target = codes "/timemap/link/" ++ bytes; asked = asked }) ≡ map_route bytes
 unfolding route_of
-map_at asked original = refl
+map_at asked bytes = refl
+
+pub page_at : (asked : List (List ℕ)) (bytes : List ℕ)
+    → route_of (record { method = codes "GET"; target = codes "/timemap/link/page/" ++ bytes; asked = asked }) ≡ listing_route (numbered (parts_at slash bytes)) (page_part ++ bytes)
+unfolding route_of
+page_at asked bytes = refl
 
 abbrev pub asking : List ℕ → List ℕ → List (List ℕ) → Request
 asking method target asked = record { method = method; target = target; asked = asked }
@@ -221,24 +256,55 @@ gate_served base original q names method address =
     let target : q.target ≡ codes "/timegate/" ++ original = append_cancel_left base q.target (codes "/timegate/" ++ original) (address ∙ append_assoc base (codes "/timegate/") original) in
     at_target q (codes "GET") (codes "/timegate/" ++ original) method target ∙ gate_at q.asked original ∙ ap (original_route (timegate_route q.asked)) names
 
-map_served : (base original : List ℕ) (q : Request) → original_at original ≡ Some original → q.method ≡ codes "GET"
-    → base ++ q.target ≡ timemap_address base original → route_of q ≡ TimeMap original
-map_served base original q names method address =
-    let target : q.target ≡ codes "/timemap/link/" ++ original = append_cancel_left base q.target (codes "/timemap/link/" ++ original) (address ∙ append_assoc base (codes "/timemap/link/") original) in
-    at_target q (codes "GET") (codes "/timemap/link/" ++ original) method target ∙ map_at q.asked original ∙ ap (original_route TimeMap) names
+pub front_is : (bytes front : List ℕ) → starts_with nat_eq bytes front ≡ true → (rest : List ℕ) × (bytes ≡ front ++ rest)
+front_is bytes front is = (_, (starts_is Decides-eqb bytes front (starts_with nat_eq bytes front) refl).0 is)
 
--- what stands there of an original that names itself
-pub served : (base original : List ℕ) → NamesItself original → IsServed base original
-served base original names = record {
-  timegate = λ q. gate_served base original q names;
-  timemap = λ q. map_served base original q names;
+-- an original that is asked about doesn't begin as a page's number does
+no_page : (original : List ℕ) → begins_on_web original ≡ true → page_in original ≡ None
+no_page original web =
+    elim (cases_Bool (starts_with nat_eq original (codes "http://"))) [
+      | inl plain ↦ ap page_in (front_is original (codes "http://") plain).1
+      | inr other ↦ ap page_in (front_is original (codes "https://") (rw other at web)).1
+    ]
+
+map_served : (base original : List ℕ) (q : Request) → IsAsked original → q.method ≡ codes "GET"
+    → base ++ q.target ≡ timemap_address base original → route_of q ≡ TimeMap original
+map_served base original q is method address =
+    let target : q.target ≡ codes "/timemap/link/" ++ original = append_cancel_left base q.target (codes "/timemap/link/" ++ original)
+    (address ∙ append_assoc base (codes "/timemap/link/") original) in
+    at_target q (codes "GET") (codes "/timemap/link/" ++ original) method target ∙ map_at q.asked original
+    ∙ ap (λ (page : Option (ℕ × List ℕ)). listing_route page original) (no_page original is.followed.web) ∙ ap (original_route TimeMap) is.itself
+
+-- the number of a page is read as it is written
+pub page_read : (number : ℕ) (original : List ℕ) → number < 2 ^ 64 → numbered (parts_at slash (decimal number ++ slash ∷ original)) ≡ Some (number, original)
+page_read number original small =
+    let parts = (parts_are slash (decimal number ++ slash ∷ original) (decimal number, original)).1 (decimal_lacks slash (omega arith) number small, refl) in
+    let digits : number_of (decimal number) ≡ Some number = (number_is (decimal number) number).1 (small, refl) in
+    ap numbered parts ∙ ap (λ (n : Option ℕ). option_map (λ (k : ℕ). (k, original)) n) digits
+
+page_served : (base original : List ℕ) (q : Request) (number : ℕ) → original_at original ≡ Some original → number < 2 ^ 64 → q.method ≡ codes "GET"
+    → base ++ q.target ≡ page_address base original number → route_of q ≡ Page number original
+page_served base original q number names small method address =
+    let bytes = decimal number ++ slash ∷ original in
+    let whole : page_path number ++ original ≡ codes "/timemap/link/page/" ++ bytes =
+    append_assoc (codes "/timemap/link/page/" ++ decimal number) (codes "/") original ∙ append_assoc (codes "/timemap/link/page/") (decimal number) (codes "/" ++ original) in
+    let target : q.target ≡ codes "/timemap/link/page/" ++ bytes = append_cancel_left base q.target (page_path number ++ original) (address ∙ append_assoc base (page_path number) original) ∙ whole in
+    at_target q (codes "GET") (codes "/timemap/link/page/" ++ bytes) method target ∙ page_at q.asked bytes
+    ∙ ap (λ (page : Option (ℕ × List ℕ)). listing_route page (page_part ++ bytes)) (page_read number original small) ∙ ap (original_route (Page number)) names
+
+-- what stands there of an original that is asked about
+pub served : (base original : List ℕ) → IsAsked original → IsServed base original
+served base original is = record {
+  timegate = λ q. gate_served base original q is.itself;
+  timemap = λ q. map_served base original q is;
+  page = λ q number small. page_served base original q number is.itself small;
 }
 
 -- and so of the original that a request asks about
-pub asked_served : (base : List ℕ) (route other : Route) → route ≡ other → IfSome (original_in route) NamesItself → IfSome (original_in other) (IsServed base)
+pub asked_served : (base : List ℕ) (route other : Route) → route ≡ other → IfSome (original_in route) IsAsked → IfSome (original_in other) (IsServed base)
 asked_served base route other same names =
     subst (λ (r : Route). IfSome (original_in r) (IsServed base)) same (each_served base (original_in route) names)
   where
-    each_served : (base : List ℕ) (original : Option (List ℕ)) → IfSome original NamesItself → IfSome original (IsServed base)
+    each_served : (base : List ℕ) (original : Option (List ℕ)) → IfSome original IsAsked → IfSome original (IsServed base)
     each_served base None names = tt
     each_served base (Some original) names = served base original names

@@ -1,5 +1,5 @@
 -- What a reply depends on, and which memento a redirect names.
-use Rattle.std.proofs.Common.{◌≡◌, ℕ, ◌<◌, ◌≤◌, ◌⊎◌, ◌↔◌, ◌==◌, Bool, true, false, length, Result, Ok, Err, List, [], ◌∷◌, Option, Some, None, refl, ap, sym, subst, ◌∙◌, inl, inr, arith}
+use Rattle.std.proofs.Common.{◌≡◌, ℕ, ◌<◌, ◌≤◌, ◌⊎◌, ◌↔◌, ◌==◌, ◌||◌, nat_lt, Bool, true, false, length, Result, Ok, Err, List, [], ◌∷◌, Option, Some, None, refl, ap, sym, subst, ◌∙◌, inl, inr, arith}
 use Rattle.std.specs.Prelude.{MatchOption, Contains, IfOk, if◌then◌else◌}
 use Rattle.std.specs.List.{list_any}
 use Rattle.std.specs.Ordering.{eq_by_cmp}
@@ -17,18 +17,19 @@ use Rattle.memento_index.specs.Choice.{distance, IsNearest, IsLast}
 use Rattle.harvest_lattice.proofs.Knowledge.{lat_same, shown-is, shown-lat}
 use Rattle.memento_index.proofs.Choice.{nearest-is, last-is}
 use Rattle.timemap_writer.specs.TimeMap.{gate_links}
+use Rattle.timemap_writer.specs.Pages.{pages}
 use Rattle.timegate.specs.declared.reply.Reply.{Reply}
 use Rattle.timegate.specs.declared.reply.Header.{Header}
 use Rattle.timegate.specs.declared.reply.Header.TheVariants.{Location, Link}
 use Rattle.timegate.specs.declared.request.Request.{Request}
 use Rattle.timegate.specs.declared.route.Route.{Route}
-use Rattle.timegate.specs.declared.route.Route.TheVariants.{BadMethod, State, Delta, NoRoute, BadOriginal, BadDatetime, TimeGate, TimeMap}
+use Rattle.timegate.specs.declared.route.Route.TheVariants.{BadMethod, State, Delta, NoRoute, BadOriginal, BadDatetime, TimeGate, TimeMap, Page}
 use Rattle.replica_exchange.specs.declared.cursor.Cursor.{Cursor}
 use Rattle.replica_exchange.specs.Stamps.{StampedState}
 use Rattle.replica_exchange.specs.CursorRule.{delta_from}
 use Rattle.replica_exchange.specs.DeltaText.{delta_text}
 use Rattle.timegate.specs.Route.{IsOfTaken, is_head, route_of}
-use Rattle.timegate.specs.Reply.{reply_at, reply, reply_of, unnumbered, redirect, timemap, choice_at, vary}
+use Rattle.timegate.specs.Reply.{reply_at, reply, reply_of, unnumbered, redirect, timemap, page, choice_at, vary}
 use Rattle.timegate.specs.Redirect.{Redirects, IsGateReply}
 
 -- what is shown of each original follows from the state
@@ -44,6 +45,8 @@ shown_from_state base known s q (TimeGate original asked) is =
     ap (λ (ms : Mementos). redirect base q original ms (choice_at ms asked)) (shown-lat known original ∙ ap (λ (e : Entries). shown_of e original) (sym is))
 shown_from_state base known s q (TimeMap original) is =
     ap (λ (ms : Mementos). timemap base q original (set.items ms)) (shown-lat known original ∙ ap (λ (e : Entries). shown_of e original) (sym is))
+shown_from_state base known s q (Page number original) is =
+    ap (λ (ms : Mementos). page base q number original (set.items ms)) (shown-lat known original ∙ ap (λ (e : Entries). shown_of e original) (sym is))
 
 -- only a delta tells of merges
 untold : (base : List ℕ) (shows : List ℕ → Mementos) (s : StampedState) (q : Request) (route : Route) → ((cursor : Option Cursor) → ¬ (route ≡ Delta cursor))
@@ -56,6 +59,7 @@ untold base shows s q BadOriginal taken = refl
 untold base shows s q BadDatetime taken = refl
 untold base shows s q (TimeGate original asked) taken = refl
 untold base shows s q (TimeMap original) taken = refl
+untold base shows s q (Page number original) taken = refl
 
 -- a reply is that of the state
 pub reply_of_state : (base : List ℕ) (known : List Harvested) (q : Request) → reply base known q ≡ reply_of base (unnumbered (lat known)) q
@@ -76,6 +80,12 @@ pub timemap_reply : (base : List ℕ) (known : List Harvested) (q : Request) (or
     → reply base known q ≡ timemap base q original (set.items (shown known original))
 unfolding reply
 timemap_reply base known q original is = ap (λ (route : Route). reply_at base (shown known) (unnumbered (lat known)) q route) is
+
+-- a page of one is
+pub page_reply : (base : List ℕ) (known : List Harvested) (q : Request) (number : ℕ) (original : List ℕ) → route_of q ≡ Page number original
+    → reply base known q ≡ page base q number original (set.items (shown known original))
+unfolding reply
+page_reply base known q number original is = ap (λ (route : Route). reply_at base (shown known) (unnumbered (lat known)) q route) is
 
 -- equal states give equal replies
 pub same_reply : (base : List ℕ) (known others : List Harvested) (q : Request) → lat known ≡ lat others → reply base known q ≡ reply base others q
@@ -110,13 +120,16 @@ no_more a b (inr tie) = let e : a ≡ b = tie.0 in omega (arith, e)
 
 choice : (known : List Harvested) (original : List ℕ) (asked : Option ℕ) (m : Memento) → choice_at (shown known original) asked ≡ Some m → IsChosen known original asked m
 choice known original None m is =
-    let l : IsLast (shown known original) m = subst (λ (o : Option Memento). MatchOption o (set.items (shown known original) ≡ []) (IsLast (shown known original))) is (last-is (shown known original)) in
+    let l : IsLast (shown known original) m = subst (λ (o : Option Memento). MatchOption o (set.items (shown known original) ≡ [])
+    (IsLast (shown known original))) is (last-is (shown known original)) in
     record {
       shown = (shown-is known original m).0 l.held;
       nearest = λ other there. no_more other.at m.at (l.last other ((shown-is known original other).1 there));
     }
 choice known original (Some second) m is =
-    let n : IsNearest (shown known original) second m = subst (λ (o : Option Memento). MatchOption o (set.items (shown known original) ≡ []) (IsNearest (shown known original) second)) is (nearest-is (shown known original) second) in
+    let n : IsNearest (shown known original) second m = subst
+    (λ (o : Option Memento). MatchOption o (set.items (shown known original) ≡ []) (IsNearest (shown known original) second)) is
+    (nearest-is (shown known original) second) in
     record {
       shown = (shown-is known original m).0 n.held;
       nearest = λ other there. no_more (distance second m) (distance second other) (n.nearest other ((shown-is known original other).1 there));
@@ -144,10 +157,14 @@ nothing_in ms m none held =
 
 nothing_shown : (known : List Harvested) (original : List ℕ) (asked : Option ℕ) → choice_at (shown known original) asked ≡ None → (m : Memento) → ¬ IsShown known original m
 nothing_shown known original None is m there =
-    let none : set.items (shown known original) ≡ [] = subst (λ (o : Option Memento). MatchOption o (set.items (shown known original) ≡ []) (IsLast (shown known original))) is (last-is (shown known original)) in
+    let none : set.items (shown known original) ≡ [] = subst
+    (λ (o : Option Memento). MatchOption o (set.items (shown known original) ≡ []) (IsLast (shown known original))) is
+    (last-is (shown known original)) in
     nothing_in (shown known original) m none ((shown-is known original m).1 there)
 nothing_shown known original (Some second) is m there =
-    let none : set.items (shown known original) ≡ [] = subst (λ (o : Option Memento). MatchOption o (set.items (shown known original) ≡ []) (IsNearest (shown known original) second)) is (nearest-is (shown known original) second) in
+    let none : set.items (shown known original) ≡ [] = subst
+    (λ (o : Option Memento). MatchOption o (set.items (shown known original) ≡ []) (IsNearest (shown known original) second)) is
+    (nearest-is (shown known original) second) in
     nothing_in (shown known original) m none ((shown-is known original m).1 there)
 
 gate_at : (base : List ℕ) (known : List Harvested) (q : Request) (original : List ℕ) (asked : Option ℕ) (c : Option Memento) → choice_at (shown known original) asked ≡ c
@@ -167,6 +184,11 @@ not_found : (b : Bool) (x y : Reply) → x.status ≡ 404 → y.status ≡ 200 �
 not_found true x y is other status = omega (arith, is, status)
 not_found false x y is other status = omega (arith, other, status)
 
+-- one of three, likewise
+none_found : (b other : Bool) (x y z : Reply) → x.status ≡ 404 → y.status ≡ 404 → z.status ≡ 200 → (if b then x else if other then y else z).status ≡ 302 → ⊥
+none_found true other x y z is lost found status = omega (arith, is, status)
+none_found false other x y z is lost found status = not_found other y z lost found status
+
 -- that the reply to what is asked for redirects well
 abbrev RedirectsAt : List ℕ → List Harvested → Request → Route → Type 0
 RedirectsAt base known q route =
@@ -181,6 +203,8 @@ at_route base known q BadOriginal status = absurd (omega arith)
 at_route base known q BadDatetime status = absurd (omega arith)
 at_route base known q (TimeGate original asked) status = (original, asked, refl, redirected base known q original asked _ refl status)
 at_route base known q (TimeMap original) status = absurd (not_found (length (set.items (shown known original)) == 0) _ _ refl refl status)
+at_route base known q (Page number original) status =
+    absurd (none_found (length (set.items (shown known original)) == 0) (number == 0 || nat_lt (pages (set.items (shown known original))) number) _ _ _ refl refl refl status)
 
 pub redirects : (base : List ℕ) (known : List Harvested) (q : Request) → (reply base known q).status ≡ 302
     → (original : List ℕ) × (asked : Option ℕ) × (route_of q ≡ TimeGate original asked) × Redirects known original asked (reply base known q)
@@ -198,6 +222,8 @@ gate_alone base shows s q BadOriginal status = absurd (omega arith)
 gate_alone base shows s q BadDatetime status = absurd (omega arith)
 gate_alone base shows s q (TimeGate original asked) status = (original, asked, refl)
 gate_alone base shows s q (TimeMap original) status = absurd (not_found (length (set.items (shows original)) == 0) _ _ refl refl status)
+gate_alone base shows s q (Page number original) status =
+    absurd (none_found (length (set.items (shows original)) == 0) (number == 0 || nat_lt (pages (set.items (shows original))) number) _ _ _ refl refl refl status)
 
 pub redirects_alone : (base : List ℕ) (s : StampedState) (q : Request) → (reply_of base s q).status ≡ 302 → (original : List ℕ) × (asked : Option ℕ) × (route_of q ≡ TimeGate original asked)
 unfolding reply_of

@@ -1,6 +1,6 @@
 -- The reply to each request (RFC 7089, sections 4 and 5), from the state of the harvests that are known.
 use Rattle.std.specs.FinMap as map
-use Rattle.std.specs.Prelude.{ℕ, List, [], ◌∷◌, ◌++◌, Option, None, Some, length, codes, if◌then◌else◌, ◌==◌}
+use Rattle.std.specs.Prelude.{ℕ, List, [], ◌∷◌, ◌++◌, Option, None, Some, length, codes, if◌then◌else◌, ◌==◌, ◌||◌, nat_lt}
 use Rattle.memento_time.specs.declared.mementos.Memento.{Memento}
 use Rattle.memento_sets.specs.Sets as set
 use Rattle.memento_sets.specs.MementoSets.{Mementos}
@@ -11,14 +11,15 @@ use Rattle.replica_exchange.specs.StateText.{state_text}
 use Rattle.replica_exchange.specs.Stamps.{StampedState}
 use Rattle.replica_exchange.specs.CursorRule.{delta_from}
 use Rattle.replica_exchange.specs.DeltaText.{delta_text}
-use Rattle.timemap_writer.specs.TimeMap.{timemap_text, gate_links}
+use Rattle.timemap_writer.specs.TimeMap.{gate_links}
+use Rattle.timemap_writer.specs.Pages.{pages, page_text, listing_text}
 use Rattle.timegate.specs.declared.reply.Reply.{Reply}
 use Rattle.timegate.specs.declared.reply.Header.{Header}
 use Rattle.timegate.specs.declared.reply.Header.TheVariants.{Allow, Vary, Location, Link, ContentType}
 use Rattle.timegate.specs.declared.request.Request.{Request}
 use Rattle.timegate.specs.declared.route.Route.{Route}
 use Rattle.timegate.specs.declared.route.Route.TheVariants.{BadMethod, State, NoRoute, BadOriginal, BadDatetime}
-use Rattle.timegate.specs.declared.route.Route.TheVariants.{Delta, TimeGate, TimeMap}
+use Rattle.timegate.specs.declared.route.Route.TheVariants.{Delta, TimeGate, TimeMap, Page}
 use Rattle.timegate.specs.Route.{is_head, is_timegate, route_of}
 
 -- the name of a header field
@@ -61,11 +62,22 @@ redirect base q original mementos None = short_reply q 404 [] (codes "no memento
 redirect base q original mementos (Some m) =
     reply_with q 302 (vary q ++ (Location, m.uri) ∷ (Link, gate_links base original (set.items mementos)) ∷ []) []
 
--- the TimeMap, where any memento is shown (RFC 7089, section 5)
+-- a text in link-format (RFC 6690, section 7.3)
+abbrev pub links_reply : Request → List ℕ → Reply
+links_reply q text = reply_with q 200 ((ContentType, codes "application/link-format") ∷ []) text
+
+-- the TimeMap or the index of its pages, where any memento is shown (RFC 7089, section 5)
 abbrev pub timemap : List ℕ → Request → List ℕ → List Memento → Reply
 timemap base q original mementos =
     if length mementos == 0 then short_reply q 404 [] (codes "no memento\n")
-    else reply_with q 200 ((ContentType, codes "application/link-format") ∷ []) (timemap_text base original mementos)
+    else links_reply q (listing_text base original mementos)
+
+-- a page of the TimeMap, where any memento is shown and there is a page of this number
+abbrev pub page : List ℕ → Request → ℕ → List ℕ → List Memento → Reply
+page base q number original mementos =
+    if length mementos == 0 then short_reply q 404 [] (codes "no memento\n")
+    else if number == 0 || nat_lt (pages mementos) number then short_reply q 404 [] (codes "no such page\n")
+    else links_reply q (page_text base original mementos number)
 
 -- a text for peers
 abbrev pub peer_reply : Request → List ℕ → Reply
@@ -82,6 +94,7 @@ reply_at base shows s q BadDatetime = short_reply q 400 [] (codes "bad datetime\
 reply_at base shows s q (TimeGate original asked) =
     redirect base q original (shows original) (choice_at (shows original) asked)
 reply_at base shows s q (TimeMap original) = timemap base q original (set.items (shows original))
+reply_at base shows s q (Page number original) = page base q number original (set.items (shows original))
 
 -- the reply of one that has this state
 unfoldable pub reply_of : List ℕ → StampedState → Request → Reply
@@ -95,6 +108,10 @@ unnumbered x = record { entries = x; stamps = map.empty; number = 0; incarnation
 unfoldable pub reply : List ℕ → List Harvested → Request → Reply
 reply base known q = reply_at base (shown known) (unnumbered (lat known)) q (route_of q)
 
--- the text of an original's TimeMap
+-- what stands at the address of an original's TimeMap: the TimeMap, or the index of its pages
 abbrev pub timemap_of : List ℕ → List Harvested → List ℕ → List ℕ
-timemap_of base known original = timemap_text base original (set.items (shown known original))
+timemap_of base known original = listing_text base original (set.items (shown known original))
+
+-- and at the address of a page
+abbrev pub page_of : List ℕ → List Harvested → List ℕ → ℕ → List ℕ
+page_of base known original number = page_text base original (set.items (shown known original)) number

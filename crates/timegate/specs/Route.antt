@@ -1,19 +1,21 @@
--- What a request asks for: the TimeGate or the TimeMap of an original, the state bytes, a delta, or the reason that it
--- is refused.
+-- What a request asks for: the TimeGate or the TimeMap of an original, a page of the TimeMap, the state bytes, a delta,
+-- or the reason that it is refused.
 use Rattle.std.specs.Prelude.{◌≡◌, ℕ, Bool, not, ◌&&◌, List, [], ◌∷◌, Option, None, Some, drop, length, codes, bytes_eq}
 use Rattle.std.specs.Prelude.{◌<◌, ◌^◌, ◌++◌, ◌⊎◌, IfSome, nat_eq, if◌then◌else◌}
 use Rattle.std.specs.List.{starts_with}
+use Rattle.std.specs.Option.{option_map}
 use Rattle.std.specs.Str.{is_utf8}
 use Rattle.std.specs.Fmt.{decimal}
 use Rattle.memento_time.specs.SecondOf.{asked_of}
 use Rattle.text_fields.specs.Decimals.{number_of}
 use Rattle.text_fields.specs.Parts.{parts_at}
+use Rattle.url_texts.specs.Followed.{IsFollowed}
 use Rattle.timemap_reader.specs.Original.{original_of}
 use Rattle.replica_exchange.specs.declared.cursor.Cursor.{Cursor}
 use Rattle.timegate.specs.declared.request.Request.{Request}
 use Rattle.timegate.specs.declared.route.Route.{Route}
 use Rattle.timegate.specs.declared.route.Route.TheVariants.{BadMethod, State, NoRoute, BadOriginal, BadDatetime}
-use Rattle.timegate.specs.declared.route.Route.TheVariants.{Delta, TimeGate, TimeMap}
+use Rattle.timegate.specs.declared.route.Route.TheVariants.{Delta, TimeGate, TimeMap, Page}
 
 -- the method is GET, case-sensitive
 abbrev pub is_get : Request → Bool
@@ -110,10 +112,34 @@ original_in BadOriginal = None
 original_in BadDatetime = None
 original_in (TimeGate original asked) = Some original
 original_in (TimeMap original) = Some original
+original_in (Page number original) = Some original
 
--- the original names itself
-abbrev pub NamesItself : List ℕ → Type 0
-NamesItself original = original_at original ≡ Some original
+-- an original that is asked about: it names itself, begins with `http://` or `https://`, and has no fragment
+pub record IsAsked (original : List ℕ) : Type 0 where
+  pub itself : original_at original ≡ Some original
+  pub followed : IsFollowed original
+
+-- what the pages of a TimeMap have behind it, each followed by its number, a slash and the original
+abbrev pub page_part : List ℕ
+page_part = codes "page/"
+
+-- the number before a slash, where it is a decimal of 64 bits, and what stands behind it
+abbrev pub numbered : Option (List ℕ × List ℕ) → Option (ℕ × List ℕ)
+numbered None = None
+numbered (Some parts) = option_map (λ number. (number, parts.1)) (number_of parts.0)
+
+-- the number of a page and what stands behind it, where bytes begin with these
+abbrev pub page_in : List ℕ → Option (ℕ × List ℕ)
+page_in bytes = if starts_with nat_eq bytes page_part then numbered (parts_at slash (drop (length page_part) bytes)) else None
+
+-- a page of a TimeMap, where bytes begin with its number, and else the TimeMap of the original that they name
+abbrev pub listing_route : Option (ℕ × List ℕ) → List ℕ → Route
+listing_route None bytes = original_route TimeMap (original_at bytes)
+listing_route (Some page) bytes = original_route (Page page.0) (original_at page.1)
+
+-- by what stands behind `/timemap/link/`
+abbrev pub map_route : List ℕ → Route
+map_route bytes = listing_route (page_in bytes) bytes
 
 -- the first of these that fits
 unfoldable pub route_of : Request → Route
@@ -123,7 +149,7 @@ route_of q =
     else if is_whole_delta q then Delta None
     else if is_delta q then delta_route (cursor_at (drop (length deltas) q.target))
     else if is_timegate q then original_route (timegate_route q.asked) (original_at (drop (length timegates) q.target))
-    else if is_timemap q then original_route TimeMap (original_at (drop (length timemaps) q.target))
+    else if is_timemap q then map_route (drop (length timemaps) q.target)
     else NoRoute
 
 -- the target of the delta from a cursor, or from none
@@ -144,3 +170,12 @@ pub record AsksDelta (q : Request) (cursor : Option Cursor) : Type 0 where
 -- a reply follows from the harvests that were taken, and from nothing else that a replica keeps
 abbrev pub IsOfTaken : Request → Type 0
 IsOfTaken q = (cursor : Option Cursor) → ¬ (route_of q ≡ Delta cursor)
+
+-- a GET or HEAD of the target of this page: its number has 64 bits and is written as its decimal, and what stands
+-- behind it names the original
+pub record AsksPage (q : Request) (number : ℕ) (original : List ℕ) : Type 0 where
+  pub method : (q.method ≡ codes "GET") ⊎ (q.method ≡ codes "HEAD")
+  pub fits : number < 2 ^ 64
+  pub named : List ℕ
+  pub names : original_at named ≡ Some original
+  pub target : q.target ≡ codes "/timemap/link/page/" ++ decimal number ++ slash ∷ named

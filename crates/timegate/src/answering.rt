@@ -1,14 +1,16 @@
 //! The reply to a request.
 ghost use Rattle.std.specs.Prelude.{◌≡◌, ◌++◌, ◌∷◌, [], List, Option, IfOk, IfSome, OnOk, codes, option_copied};
+ghost use Rattle.std.specs.Prelude.{ℕ, ◌==◌, ◌||◌, nat_lt, true, IfNone};
 ghost use Rattle.std.specs.Prelude.{if◌then◌else◌};
 ghost use Rattle.memento_sets.specs.Sets as set;
 ghost use Rattle.harvest_lattice.specs.Knowledge.{Harvested, lat, shown_of};
+ghost use Rattle.timemap_writer.specs.Pages.{pages, IsPage};
 ghost use Rattle.replica_exchange.specs.StateText.{state_text};
 ghost use Rattle.replica_exchange.specs.CursorRule.{delta_from};
 ghost use Rattle.replica_exchange.specs.DeltaText.{delta_text};
 ghost use Rattle.replica_exchange.specs.declared.cursor.Cursor.{Cursor};
-ghost use Rattle.timegate.specs.Reply.{reply_with, vary, short_reply, bad_method, redirect, timemap, reply_at, reply};
-ghost use Rattle.timegate.specs.Reply.{reply_of, peer_reply};
+ghost use Rattle.timegate.specs.Reply.{reply_with, vary, short_reply, bad_method, redirect, timemap, page, reply_at};
+ghost use Rattle.timegate.specs.Reply.{reply, reply_of, links_reply, peer_reply};
 ghost use Rattle.timegate.specs.Route.{IsOfTaken, is_head, original_in, route_of};
 ghost use Rattle.timegate.specs.declared.route.Route.TheVariants.{Delta};
 ghost use Rattle.timegate.specs.Served.{IsServed};
@@ -20,7 +22,7 @@ use memento_index::Index;
 use memento_time::{Items, Memento, NoMemory, Octets, Original};
 use replica_exchange::{Cursor, Stamped, write_delta, write_state};
 use std::alloc::Global;
-use timemap_writer::{Service, write_gate_links, write_timemap};
+use timemap_writer::{Service, pages, write_gate_links, write_index, write_page, write_timemap};
 
 /// The reply to a request, by the first of these that fits:
 ///
@@ -34,15 +36,21 @@ use timemap_writer::{Service, write_gate_links, write_timemap};
 /// | a rest of the target that names no original | 400 | `bad original` |
 /// | a TimeGate that is asked for two datetimes, or for one that can't be read | 400 | `bad datetime` |
 /// | an original of which no memento is shown | 404 | `no memento` |
+/// | a page whose number is 0 or above the last page's | 404 | `no such page` |
 /// | a TimeGate | 302, with `Location` and `Link` | none |
-/// | a TimeMap | 200 | the TimeMap in link-format |
+/// | a TimeMap of at most 1,000 mementos | 200 | the TimeMap in link-format |
+/// | a TimeMap of more | 200 | the index of its pages, in link-format |
+/// | a page of a TimeMap | 200 | the page, in link-format |
+///
+/// A page is asked for at `/timemap/link/page/K/` and the original, K a decimal of 64 bits. It has 1,000 mementos, and
+/// the last has what is left. Where no decimal and slash stand behind `page/`, the whole is read as an original.
 ///
 /// A TimeGate names the memento nearest to the moment that it is asked for, or else the latest. Whatever is said of
 /// a TimeGate has `Vary: accept-datetime`. The short texts end in a line feed. `HEAD` is answered as `GET` without
 /// the body.
 ///
-/// The TimeMap and the `Link` of a redirect tell the addresses of the original's TimeGate and TimeMap. A client that
-/// gets one of these asks for what it was told.
+/// The TimeMap, its pages and the `Link` of a redirect tell the addresses of the original's TimeGate and TimeMap, and
+/// the index those of the pages. A client that gets one of these asks for what it was told.
 pub fn answer(
     alloc: Global,
     service: &Service,
@@ -88,6 +96,7 @@ fn reply_at(
             redirect(alloc, service, index, request, original, memento)
         }
         Route::TimeMap(original) => timemap(alloc, service, index, request, original),
+        Route::Page(number, original) => page(alloc, service, index, request, *number, original),
     }
 }
 
@@ -115,7 +124,7 @@ fn redirect(
     Ok(reply_with(request, 302, headers, Vec::new(alloc)))
 }
 
-/// The TimeMap, if any memento is shown.
+/// The TimeMap or the index of its pages, if any memento is shown.
 fn timemap(
     alloc: Global,
     service: &Service,
@@ -132,9 +141,56 @@ fn timemap(
     }
     let text = if is_head(request) {
         Vec::new(alloc)
+    } else if pages(mementos) > 1 {
+        write_index(alloc, service, original, mementos)?
     } else {
         write_timemap(alloc, service, original, mementos)?
     };
+    links_reply(alloc, request, text)
+}
+
+/// A page of the TimeMap, if any memento is shown and there is a page of this number.
+fn page(
+    alloc: Global,
+    service: &Service,
+    index: &Index,
+    request: &Request,
+    number: u64,
+    original: &Original,
+) -> Result<Reply, NoMemory>
+    ensures { IfOk result (λ answer. answer
+        ≡ page service.now request.now number original.now (set.items (shown_of index.now original.now))) }
+{
+    let all = index.list(original);
+    if all.is_empty() {
+        return short_reply(alloc, request, 404, Vec::new(alloc), b"no memento\n");
+    }
+    let Some(page) = page_of(all, number) else {
+        return short_reply(alloc, request, 404, Vec::new(alloc), b"no such page\n");
+    };
+    let text = if is_head(request) {
+        Vec::new(alloc)
+    } else {
+        write_page(alloc, service, original, all, page)?
+    };
+    links_reply(alloc, request, text)
+}
+
+/// The page of this number, if the list has one.
+fn page_of(mementos: &[Memento], number: u64) -> Option<usize>
+    ensures found { IfSome result (λ page. (page ≡ number) × IsPage mementos.now page) }
+    ensures none { IfNone result ((number == 0 || nat_lt (pages mementos.now) number) ≡ true) }
+{
+    if number == 0 || number > pages(mementos) as u64 {
+        return None;
+    }
+    Some(number as usize)
+}
+
+/// A text in link-format.
+fn links_reply(alloc: Global, request: &Request, text: Vec<u8>) -> Result<Reply, NoMemory>
+    ensures { IfOk result (λ answer. answer ≡ links_reply request.now text.items) }
+{
     let mut headers = Vec::new(alloc);
     let kind = octets(alloc, b"application/link-format")?;
     headers.push((Header::ContentType, kind))?;

@@ -4,10 +4,10 @@ ghost use Rattle.harvest_lattice.specs.Knowledge.{Harvested, lat};
 ghost use Rattle.replica_exchange.specs.Stamps.{StampedState};
 ghost use Rattle.replica_exchange.specs.declared.cursor.Cursor.{Cursor};
 ghost use Rattle.timegate.specs.declared.request.Request.{Request};
-ghost use Rattle.timegate.specs.declared.route.Route.TheVariants.{Delta, TimeGate};
+ghost use Rattle.timegate.specs.declared.route.Route.TheVariants.{Delta, TimeGate, Page};
 ghost use Rattle.timegate.specs.Redirect.{Redirects, IsGateReply};
 ghost use Rattle.timegate.specs.Reply.{reply, reply_of};
-ghost use Rattle.timegate.specs.Route.{AsksDelta, IsOfTaken, is_timegate, route_of};
+ghost use Rattle.timegate.specs.Route.{AsksDelta, AsksPage, IsOfTaken, is_timegate, route_of};
 ghost use Rattle.timegate.specs.Promises.{as_get, without_body, vary_values, AreInOrder};
 
 /// But for the deltas, a reply is a function of the state of the harvests that were taken.
@@ -59,4 +59,11 @@ pub fn headers_stand_in_order()
 /// number with a slash between. No other request asks for one.
 pub fn deltas_stand_at_their_cursors()
     ensures { (q : Request) (cursor : Option Cursor) → (route_of q ≡ Delta cursor) ↔ AsksDelta q cursor }
+{}
+
+/// A page of a TimeMap is asked for behind `/timemap/link/page/` at the decimal of its number with a slash behind it,
+/// and a text that names the original. No other request asks for one.
+pub fn pages_stand_at_their_numbers()
+    ensures { (q : Request) (number : ℕ) (original : List ℕ) → (route_of q ≡ Page number original)
+        ↔ AsksPage q number original }
 {}

@@ -11,7 +11,8 @@ mod route;
 pub use answering::answer;
 pub use laws::{
     deltas_stand_at_their_cursors, head_is_get_without_body, headers_stand_in_order,
-    redirects_name_the_nearest, replies_from_state, same_harvests_same_reply, timegates_vary,
+    pages_stand_at_their_numbers, redirects_name_the_nearest, replies_from_state,
+    same_harvests_same_reply, timegates_vary,
 };
 pub use reply::{Header, Reply};
 pub use request::Request;

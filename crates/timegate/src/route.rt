@@ -1,9 +1,9 @@
 //! What a request asks for.
-ghost use Rattle.std.specs.Prelude.{◌≡◌, true, false, drop, length, IfOk, IfSome, IfNone};
-ghost use Rattle.timegate.specs.Route.{is_get, is_head, is_state, is_timegate, is_timemap, NamesItself, original_at};
-ghost use Rattle.timegate.specs.Route.{original_in, is_whole_delta, is_delta, cursor_at, delta_route};
-ghost use Rattle.timegate.specs.Route.{deltas, timegates, timemaps};
-ghost use Rattle.timegate.specs.Route.{timegate_route, route_of};
+ghost use Rattle.std.specs.Prelude.{◌≡◌, true, false, nat_eq, drop, length, option_map, IfOk, IfSome, IfNone};
+ghost use Rattle.std.specs.List.{starts_with};
+ghost use Rattle.timegate.specs.Route.{is_get, is_head, is_state, is_whole_delta, is_timegate, IsAsked, original_at};
+ghost use Rattle.timegate.specs.Route.{original_in, cursor_at, delta_route, timegate_route, page_in, map_route};
+ghost use Rattle.timegate.specs.Route.{route_of};
 
 use crate::request::Request;
 use memento_time::{Moment, NoMemory, Octets, Original};
@@ -28,6 +28,8 @@ pub enum Route {
     TimeGate(Original, Option<Moment>),
     /// The TimeMap of an original.
     TimeMap(Original),
+    /// The page of this number of the TimeMap of an original.
+    Page(u64, Original),
 }
 
 pub fn is_head(request: &Request) -> bool
@@ -54,13 +56,13 @@ fn is_whole_delta(request: &Request) -> bool
     request.target.as_slice() == b"/delta".as_slice()
 }
 
-/// What stands where a delta's cursor is to be, if the target is to be that of a delta from one.
-fn delta_part(request: &Request) -> Option<&[u8]>
-    ensures found { IfSome result (λ part. (is_delta request.now ≡ true)
-        × (part.now ≡ drop (length deltas) request.now.target)) }
-    ensures none { IfNone result (is_delta request.now ≡ false) }
+/// What stands behind the front, where the bytes begin with it.
+fn behind<'a>(bytes: &'a [u8], front: &[u8]) -> Option<&'a [u8]>
+    ensures found { IfSome result (λ rest. (starts_with nat_eq bytes.now front.now ≡ true)
+        × (rest.now ≡ drop (length front.now) bytes.now)) }
+    ensures none { IfNone result (starts_with nat_eq bytes.now front.now ≡ false) }
 {
-    request.target.as_slice().strip_prefix(b"/delta/")
+    bytes.strip_prefix(front)
 }
 
 /// The cursor that bytes name: its incarnation, a slash, and its number.
@@ -84,34 +86,16 @@ fn delta_route(cursor: Option<Cursor>) -> Route
     }
 }
 
-/// What stands where a TimeGate's original is to be, if the target is a TimeGate's.
-fn timegate_part(request: &Request) -> Option<&[u8]>
-    ensures found { IfSome result (λ part. (is_timegate request.now ≡ true)
-        × (part.now ≡ drop (length timegates) request.now.target)) }
-    ensures none { IfNone result (is_timegate request.now ≡ false) }
-{
-    request.target.as_slice().strip_prefix(b"/timegate/")
-}
-
 pub fn is_timegate(request: &Request) -> bool
     ensures { result ≡ is_timegate request.now }
 {
-    timegate_part(request).is_some()
-}
-
-/// What stands where a TimeMap's original is to be, if the target is a TimeMap's.
-fn timemap_part(request: &Request) -> Option<&[u8]>
-    ensures found { IfSome result (λ part. (is_timemap request.now ≡ true)
-        × (part.now ≡ drop (length timemaps) request.now.target)) }
-    ensures none { IfNone result (is_timemap request.now ≡ false) }
-{
-    request.target.as_slice().strip_prefix(b"/timemap/link/")
+    request.target.as_slice().starts_with(b"/timegate/")
 }
 
 /// The original that bytes name.
 fn original_at(alloc: Global, bytes: &[u8]) -> Result<Option<Original>, NoMemory>
     ensures read { IfOk result (λ original. original ≡ original_at bytes.now) }
-    ensures kept { IfOk result (λ original. IfSome original NamesItself) }
+    ensures kept { IfOk result (λ original. IfSome original IsAsked) }
 {
     let Ok(text) = str::from_utf8(bytes) else {
         return Ok(None);
@@ -138,11 +122,36 @@ fn timegate_route(asked: &[Octets], original: Original) -> Route
     }
 }
 
-/// What the request asks for: the first refusal that fits, or the TimeGate or TimeMap.
+/// The number of a page and what stands behind it, where the bytes begin with these.
+fn page_in(bytes: &[u8]) -> Option<(u64, &[u8])>
+    ensures { option_map (λ page. (page.0, page.1.now)) result ≡ page_in bytes.now }
+{
+    let (number, rest) = split_once(behind(bytes, b"page/")?, b'/')?;
+    Some((read_decimal(number)?, rest))
+}
+
+/// A page of a TimeMap, where the bytes begin with its number, and else the TimeMap of the original that they name.
+fn map_route(alloc: Global, bytes: &[u8]) -> Result<Route, NoMemory>
+    ensures route { IfOk result (λ route. route ≡ map_route bytes.now) }
+    ensures kept { IfOk result (λ route. IfSome (original_in route) IsAsked) }
+{
+    match page_in(bytes) {
+        Some((number, rest)) => match original_at(alloc, rest)? {
+            None => Ok(Route::BadOriginal),
+            Some(original) => Ok(Route::Page(number, original)),
+        },
+        None => match original_at(alloc, bytes)? {
+            None => Ok(Route::BadOriginal),
+            Some(original) => Ok(Route::TimeMap(original)),
+        },
+    }
+}
+
+/// What the request asks for: the first refusal that fits, or the TimeGate, the TimeMap or a page of it.
 #[tactic(auto, unfolding(crate::specs::Route::route_of))]
 pub fn route_of(alloc: Global, request: &Request) -> Result<Route, NoMemory>
     ensures route { IfOk result (λ route. route ≡ route_of request.now) }
-    ensures kept { IfOk result (λ route. IfSome (original_in route) NamesItself) }
+    ensures kept { IfOk result (λ route. IfSome (original_in route) IsAsked) }
 {
     if !is_get(request) && !is_head(request) {
         return Ok(Route::BadMethod);
@@ -153,20 +162,18 @@ pub fn route_of(alloc: Global, request: &Request) -> Result<Route, NoMemory>
     if is_whole_delta(request) {
         return Ok(Route::Delta(None));
     }
-    if let Some(cursor) = delta_part(request) {
+    let target = request.target.as_slice();
+    if let Some(cursor) = behind(target, b"/delta/") {
         return Ok(delta_route(cursor_at(cursor)));
     }
-    if let Some(part) = timegate_part(request) {
-        return match original_at(alloc, part)? {
+    if let Some(original) = behind(target, b"/timegate/") {
+        return match original_at(alloc, original)? {
             None => Ok(Route::BadOriginal),
             Some(original) => Ok(timegate_route(request.asked.as_slice(), original)),
         };
     }
-    if let Some(part) = timemap_part(request) {
-        return match original_at(alloc, part)? {
-            None => Ok(Route::BadOriginal),
-            Some(original) => Ok(Route::TimeMap(original)),
-        };
+    if let Some(listing) = behind(target, b"/timemap/link/") {
+        return map_route(alloc, listing);
     }
     Ok(Route::NoRoute)
 }

@@ -1,5 +1,7 @@
 -- What is read as an original reads as itself.
-use Rattle.std.proofs.Common.{◌≡◌, ℕ, ◌+◌, ◌-◌, ◌<◌, Bool, true, false, not, ◌||◌, ◌==◌, nat_lt, ltb, List, [], ◌∷◌, ◌++◌, length, get_or, take, drop, Some, None, Ok, Err, All, sym, refl, ap, ◌∙◌, subst, inl, inr, ⊎_elim, append_assoc, append-nil, arith, length-append, take_at, drop_at, take_all, codes, lit<}
+use Rattle.std.proofs.Common.{◌≡◌, ℕ, ◌+◌, ◌-◌, ◌<◌, Bool, true, false, not, ◌||◌, ◌==◌, nat_lt, ltb, List, [], ◌∷◌, ◌++◌, length, get_or, take, drop}
+use Rattle.std.proofs.Common.{Some, None, Ok, Err, All, sym, refl, ap, ◌∙◌, subst, inl, inr, ⊎_elim, append_assoc, append-nil, arith, length-append}
+use Rattle.std.proofs.Common.{take_at, drop_at, take_all, codes, lit<}
 use Rattle.std.specs.Prelude.{Option, IfSome, is_some, unwrap_or, option_map, decimal, reverse, bytes_eq, if◌then◌else◌}
 use Rattle.std.specs.List.{prefix_len}
 use Rattle.std.proofs.lemmas.Bool.{cond-true, cond-false, cases_Bool, true≢false, lt-leb, ne_eqb, and_left}
@@ -23,14 +25,15 @@ use Rattle.url.specs.declared.host.Host.TheVariants.{Domain, Ipv4, Ipv6}
 use Rattle.url.specs.declared.scheme.SchemeType.{SchemeType}
 use Rattle.url.specs.declared.scheme.SchemeType.TheVariants.{SpecialNotFile, NotSpecial}
 use Rattle.url.specs.declared.error.ParseError.TheVariants.{EmptyHost}
-use Rattle.url.specs.declared.slicing.Position.TheVariants.{BeforeScheme, BeforeUsername, AfterPort, AfterQuery}
+use Rattle.url.specs.declared.slicing.Position.TheVariants.{BeforeScheme, BeforeUsername, AfterPort, AfterPath, AfterQuery}
 use Rattle.url.specs.Input.{is_empty, when, is_c0_control_or_space, is_tab_or_new_line, trim_c0_control_and_space, strip_tabs_and_new_lines, split_once, rsplit_once}
 use Rattle.url.specs.Scheme.{IsScheme, default_port, scheme_type, scheme_len, is_special, is_file, is_slash, is_scheme_byte}
 use Rattle.url.specs.Host.{host_text, parse_host, parse_special_host, is_forbidden_in_domain, IsDomain, IsOpaqueHost, IsHostOf}
 use Rattle.url.specs.Path.{segment_len, parse_path_start}
-use Rattle.url.specs.Parts.{Parts, kind_of, has_authority, has_credentials, host_or_empty, text_between, query_set, IsPortOf, IsValidHead, IsValid}
+use Rattle.url.specs.Parts.{Parts, kind_of, has_authority, has_credentials, host_or_empty, text_between, text_before, query_set, IsPortOf, IsValidHead, IsValid}
 use Rattle.url.specs.Head.{with_authority, head_only, without_tail}
-use Rattle.url.specs.Parser.{Parsed, and_then, split_port, parse_port, lacks_host, parse_authority, with_path, skip_slashes, after_double_slash, parse_body, with_tail, before_tail, parse_parts, base_for_scheme, split_scheme, parse_by_scheme, parse_url}
+use Rattle.url.specs.Parser.{Parsed, and_then, split_port, parse_port, lacks_host, parse_authority, with_path, skip_slashes, after_double_slash}
+use Rattle.url.specs.Parser.{parse_body, with_tail, before_tail, parse_parts, base_for_scheme, split_scheme, parse_by_scheme, parse_url}
 use Rattle.url.proofs.InputLemmas.{IsNot, Passes, StopsAt, split_once_at, split_once_none, prefix_len_at, filter_all, is_empty_nonempty, list_any_none}
 use Rattle.url.proofs.SetLemmas.{passes_from_kept, kept_differs, All_kept_differs, All_kept_by_smaller, kept_from_escape}
 use Rattle.url.proofs.SchemeLemmas.{scheme_bytes}
@@ -40,9 +43,10 @@ use Rattle.url.proofs.Theorems.{parse_url-serialize_special}
 use Rattle.url.proofs.PathLemmas.{rooted}
 use Rattle.url.proofs.ValidLemmas.{with_own_tail, segment_list_kept, path_kept, hierarchical, special_has_authority, base_from_authority}
 use Rattle.url.proofs.SetterLemmas.{own_credentials, host_is_some, own_host}
-use Rattle.url.proofs.TextLemmas.{All_one, All_kept, All_part, is_authority_byte, authority_bytes, query_byte}
-use Rattle.url.proofs.RoundTrip.{split_at_sign, split_own_scheme, parse_own_path, stays_unless_file, stops_at_path}
+use Rattle.url.proofs.TextLemmas.{body_bytes, is_body_byte, All_one, All_kept, All_part, is_authority_byte, authority_bytes, query_byte}
+use Rattle.url.proofs.RoundTrip.{All-query_text, split_at_sign, split_own_scheme, parse_own_path, stays_unless_file, stops_at_path}
 use Rattle.url.proofs.ParsedCanonical.{before_special}
+use Rattle.url_texts.specs.Followed.{begins_on_web, IsFollowed}
 use Rattle.timemap_reader.specs.declared.address.TheConstants.{ESCAPED}
 use Rattle.timemap_reader.specs.Address.{is_clean_byte, clean_byte_text, clean_text, is_http_scheme}
 use Rattle.timemap_reader.specs.declared.original.OriginalFault.TheVariants.{TooLong}
@@ -174,7 +178,8 @@ authority_parses url d h valid is_host opaque some parses =
     let user = ap (λ t. both_parts (split_once 58 t)) at.before ∙ own_userinfo url.username url.password (All_kept_differs USERINFO 58 refl url.username valid.username) in
     let has : lacks_host (rsplit_once 64 text).0 h (option_map decimal url.port) ≡ false = and_left _ _ (is_empty_nonempty h some) in
     let head : Host (List ℕ) → Option ℕ → Parsed Parts = λ x p. Ok (with_authority url.scheme (user 0).0 (user 0).1 x p) in
-    let made = (λ i. with_authority url.scheme (user i).0 (user i).1 (Domain d) url.port) ∙ own_credentials url url.scheme (Domain d) url.port valid ∙ (λ i. head_only (record url { host = sym is_host i })) in
+    let made = (λ i. with_authority url.scheme (user i).0 (user i).1 (Domain d) url.port) ∙ own_credentials url url.scheme (Domain d) url.port valid
+    ∙ (λ i. head_only (record url { host = sym is_host i })) in
     cond-false _ (Err EmptyHost) _ ((λ i. lacks_host (rsplit_once 64 text).0 (colon i).0 (colon i).1) ∙ has)
     ∙ ap (λ r. and_then r (λ x. and_then (parse_port url.scheme (unwrap_or (colon 0).1 [])) (head x))) (ap (λ c. parse_host (kind_of url) c.0) colon ∙ parses)
     ∙ ap (λ r. and_then r (head (Domain d))) (ap (λ c. parse_port url.scheme (unwrap_or c.1 [])) colon ∙ own_port url.scheme url.port valid.port)
@@ -197,7 +202,9 @@ body_parses url d h valid kind is_host opaque some parses =
     let bytes = authority_bytes (disguise url h) head in
     let long : 0 < length text = simp length-append (omega arith) in
     let slash = λ (b : ℕ). b == 47 || b == 92 in
-    let slashes = prefix_len_at slash (47 ∷ 47 ∷ []) (text ++ url.path) (All-cons (Passes slash) 47 (47 ∷ []) refl (All-cons (Passes slash) 47 [] refl (All-nil (Passes slash)))) (no_slash_first text url.path long bytes) in
+    let slashes = prefix_len_at slash (47 ∷ 47 ∷ []) (text ++ url.path)
+    (All-cons (Passes slash) 47 (47 ∷ []) refl (All-cons (Passes slash) 47 [] refl (All-nil (Passes slash))))
+    (no_slash_first text url.path long bytes) in
     let own = special_has_authority url valid.head (ap is_special kind) in
     let path = hierarchical url valid.path (base_from_authority url own) in
     let not_file : is_file k ≡ false = ap is_file kind in
@@ -289,8 +296,10 @@ whole_parses url d h valid kind is_host opaque some parses ink =
     let text = whole_text url h in
     let front = front_text url h in
     let body = 47 ∷ 47 ∷ (authority url h ++ url.path) in
-    let no_hash = All-front (IsNot 35) url h valid opaque some (λ b passes e. grind (arith, nat_tests)) (λ b passes e. grind (arith, nat_tests)) (λ e. omega arith) (λ e. omega arith) (All_kept_differs OPAQUE_PATH 35 refl url.path (path_kept url valid.path)) in
-    let no_mark = All-front (IsNot 63) url h valid opaque some (λ b passes e. grind (arith, nat_tests)) (λ b passes e. grind (arith, nat_tests)) (λ e. omega arith) (λ e. omega arith) (All_kept_differs OPAQUE_PATH 63 refl url.path (path_kept url valid.path)) in
+    let no_hash = All-front (IsNot 35) url h valid opaque some (λ b passes e. grind (arith, nat_tests)) (λ b passes e. grind (arith, nat_tests))
+    (λ e. omega arith) (λ e. omega arith) (All_kept_differs OPAQUE_PATH 35 refl url.path (path_kept url valid.path)) in
+    let no_mark = All-front (IsNot 63) url h valid opaque some (λ b passes e. grind (arith, nat_tests)) (λ b passes e. grind (arith, nat_tests))
+    (λ e. omega arith) (λ e. omega arith) (All_kept_differs OPAQUE_PATH 63 refl url.path (path_kept url valid.path)) in
     let cleaned = ap strip_tabs_and_new_lines (untrimmed text ink) ∙ unstripped text ink in
     let hash = ap (split_once 35) cleaned ∙ split_once_none 35 text (All-append (IsNot 35) front (query_text url.query) no_hash (no_hash_in_query url valid)) in
     let question = ap (λ r. split_once 63 r.0) hash ∙ split_query front url.query no_mark in
@@ -341,7 +350,8 @@ before_clean url valid =
     let behind : All P (colon ++ (url.password ++ mark)) = All-append P colon (url.password ++ mark) (All_one P (not (is_empty url.password)) 58 refl) password in
     let all : All P user = All-append P url.username (colon ++ (url.password ++ mark)) (All_kept is_clean_byte USERINFO refl url.username valid.head.username) behind in
     let slashes : All P (47 ∷ 47 ∷ user) = All-cons P 47 (47 ∷ user) refl (All-cons P 47 user refl all) in
-    All-append P url.scheme (58 ∷ 47 ∷ 47 ∷ user) (All-weaker (Passes is_scheme_byte) P (λ b passes. grind (arith, nat_tests)) url.scheme (scheme_bytes url.scheme valid.head.scheme)) (All-cons P 58 (47 ∷ 47 ∷ user) refl slashes)
+    All-append P url.scheme (58 ∷ 47 ∷ 47 ∷ user) (All-weaker (Passes is_scheme_byte) P (λ b passes. grind (arith, nat_tests)) url.scheme
+    (scheme_bytes url.scheme valid.head.scheme)) (All-cons P 58 (47 ∷ 47 ∷ user) refl slashes)
 
 digits_clean : (scheme : List ℕ) (port : Option ℕ) → IsPortOf scheme port → All IsInClean (digits port)
 digits_clean scheme None valid = All-nil IsInClean
@@ -389,7 +399,9 @@ host_back url (Ipv4 address) valid kind is_host is =
 host_back url (Ipv6 address) valid kind is_host is =
     let own : host_text (host_or_empty url) ≡ host_text (Ipv6 address) = ap (λ o. host_text (unwrap_or o (Domain []))) is_host in
     let groups = All-weaker IsHexOrColon IsInClean (λ b h. grind (arith, nat_tests)) _ (All-hex_groups_text (ipv6_segments address) is.1) in
-    clean_back url valid kind (subst (All IsInClean) (sym own) (All-cons IsInClean 91 _ refl (All-append IsInClean (hex_groups_text (ipv6_segments address)) (93 ∷ []) groups (All-cons IsInClean 93 [] refl (All-nil IsInClean)))))
+    clean_back url valid kind (subst (All IsInClean) (sym own)
+    (All-cons IsInClean 91 _ refl (All-append IsInClean (hex_groups_text (ipv6_segments address)) (93 ∷ []) groups
+    (All-cons IsInClean 93 [] refl (All-nil IsInClean)))))
 
 -- ---- originals
 
@@ -428,3 +440,32 @@ original_kept url original valid http read =
     let kept = limit_kept (nat_lt 4096 (length (clean_text (text_between url BeforeScheme AfterQuery)))) (clean_text (text_between url BeforeScheme AfterQuery)) original read in
     let back = host_back url (host_or_empty url) valid kind (host_is_some url own) host in
     subst (λ (t : List ℕ). original_reading t ≡ Ok t) kept.1 (read_again _ (bare url) kept.0 back http refl)
+
+-- ---- no number sign
+
+no_hash_before : (url : Parts) → IsValid url → All (IsNot 35) (text_between url BeforeScheme AfterQuery)
+no_hash_before url valid =
+    let body = All-weaker (Passes is_body_byte) (IsNot 35) (λ b passes e. grind (arith, nat_tests)) (text_before url AfterPath) (body_bytes url valid) in
+    All-query_text (IsNot 35) url valid body (λ e. omega arith) (λ b passes e. grind (arith, nat_tests))
+
+-- ---- the front
+
+begins_so : (url : Parts) → is_http_scheme url.scheme ≡ true → has_authority url ≡ true
+    → begins_on_web (clean_text (text_between url BeforeScheme AfterQuery)) ≡ true
+begins_so url http own =
+    ⊎_elim
+    (λ plain. rw ((bytes_eq-Decides url.scheme (codes "http")).0 plain, own) refl)
+    (λ other. rw ((bytes_eq-Decides url.scheme (codes "https")).0 (rw other at http), own) refl)
+    (cases_Bool (bytes_eq url.scheme (codes "http")))
+
+-- an original is followed as it stands
+pub original_followed : (url : Parts) (original : List ℕ) → IsValid url → is_http_scheme url.scheme ≡ true
+    → within_limit (clean_text (text_between url BeforeScheme AfterQuery)) ≡ Ok original → IsFollowed original
+original_followed url original valid http read =
+    let text = text_between url BeforeScheme AfterQuery in
+    let kept = limit_kept (nat_lt 4096 (length (clean_text text))) (clean_text text) original read in
+    let own = special_has_authority url valid.head (ap is_special (http_kind url.scheme http)) in
+    subst IsFollowed kept.1 (record {
+      web = begins_so url http own;
+      whole = All-clean_text (IsNot 35) (λ b escape e. grind (arith, nat_tests, escape, e)) text (no_hash_before url valid);
+    })

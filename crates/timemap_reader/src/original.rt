@@ -1,6 +1,7 @@
 //! Originals: the addresses that clients and archives are asked for.
 ghost use Rattle.std.specs.Prelude.{◌≡◌, ◌⊎◌, ◌<◌, Some, IfOk, IfErr, Ok, Err, length};
 ghost use Rattle.memento_time.specs.Text.{IsOriginal};
+ghost use Rattle.url_texts.specs.Followed.{IsFollowed};
 ghost use Rattle.timemap_reader.specs.Address.{clean_text};
 ghost use Rattle.timemap_reader.specs.Original.{original_reading, within_limit, words_of};
 
@@ -83,6 +84,8 @@ pub fn read_original(alloc: Global, text: &str) -> Result<Original, OriginalFaul
     // An original reads as itself.
     ensures kept { IfOk result (λ original. original_reading original ≡ Ok original) }
     ensures valid { IfOk result IsOriginal }
+    // It begins with `http://` or `https://`, and has no fragment.
+    ensures followed { IfOk result IsFollowed }
     ensures too_long { 4096 < length text.now → result ≡ Err OriginalFault.TooLong }
     // NoMemory may come at any later place.
     ensures refused { IfErr result (λ fault.

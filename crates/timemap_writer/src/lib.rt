@@ -7,6 +7,8 @@ mod lines;
 mod service;
 mod timemap;
 
-pub use laws::{bases_are_urls, ends_are_named, timemaps_are_read};
+pub use laws::{
+    bases_are_urls, ends_are_named, pages_are_read, pages_are_the_list, timemaps_are_read,
+};
 pub use service::{Service, ServiceFault};
-pub use timemap::{write_gate_links, write_timemap};
+pub use timemap::{pages, write_gate_links, write_index, write_page, write_timemap};

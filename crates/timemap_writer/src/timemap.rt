@@ -1,21 +1,38 @@
 //! TimeMaps, and the `Link` header of a redirect.
-ghost use Rattle.std.specs.Prelude.{◌≡◌, ◌++◌, IfOk, OnOk, codes, true};
-ghost use Rattle.link_format.specs.Writing.{followed};
-ghost use Rattle.timemap_writer.specs.TimeMap.{memento_links, timemap_text, gate_links};
+ghost use Rattle.std.specs.Prelude.{◌≡◌, ◌==◌, ◌&&◌, not, ◌++◌, length, IfOk, OnOk, codes};
+ghost use Rattle.link_format.specs.Grammar.{IsTarget};
+ghost use Rattle.link_format.specs.Writing.{followed, joined, link_text};
+ghost use Rattle.timemap_writer.specs.TimeMap.{head_links, lines_text, timemap_text, gate_links};
+ghost use Rattle.timemap_writer.specs.Pages.{pages, IsPage, stretch, page_path, page_link, page_text, index_text};
+ghost use Rattle.timemap_writer.specs.Pages.{stretch_links};
 
 use crate::lines::{push_memento, push_original, push_timegate, push_timemap};
 use crate::service::Service;
 use memento_time::{DateWriter, Memento, NoMemory, Original};
 use std::alloc::Global;
+use text_fields::write_decimal;
 
-/// The bytes of a TimeMap beside its addresses and the lines of its mementos, whose ends have `first` and `last`.
-const TIMEMAP_FRAME: usize = 199;
+/// The bytes of a TimeMap beside its addresses, its path and the lines of its mementos, whose ends have `first` and
+/// `last`.
+const LISTING_FRAME: usize = 185;
 
 /// The bytes of a memento's line beside its address.
 const MEMENTO_FRAME: usize = 61;
 
 /// The bytes of the `Link` header beside its addresses.
 const LINKS_FRAME: usize = 160;
+
+/// The mementos on a page.
+const PER_PAGE: usize = 1000;
+
+/// The bytes of the longest page path.
+const PAGE_PATH: usize = 40;
+
+/// The bytes of a page's line in an index beside its base and its original.
+const PAGE_FRAME: usize = 173;
+
+/// Where the TimeMap of an original stands, or the index of its pages.
+const TIMEMAP_PATH: &[u8] = b"/timemap/link/";
 
 /// The TimeMap of an original in link-format. The mementos are sorted and distinct, as an index lists them; the
 /// first has also the relation `first` and the last `last`. Of an empty list the link to the TimeMap itself has
@@ -28,47 +45,219 @@ pub fn write_timemap(
 ) -> Result<Vec<u8>, NoMemory>
     ensures { IfOk result (λ text. text.items ≡ timemap_text service.now original.now mementos.now) }
 {
-    let mut text = Vec::with_capacity(alloc, timemap_size(service, original, mementos))?;
-    push_original(&mut text, original)?;
-    text.extend_from_slice(b",\n")?;
-    push_timegate(&mut text, alloc, service, original)?;
-    text.extend_from_slice(b",\n")?;
+    listing(
+        alloc,
+        service,
+        original,
+        TIMEMAP_PATH,
+        mementos,
+        true,
+        false,
+    )
+}
+
+/// A page of the TimeMap of an original: the mementos of its stretch of the list. The first of the whole list has the
+/// relation `first` and its last `last`, so another page has neither.
+pub fn write_page(
+    alloc: Global,
+    service: &Service,
+    original: &Original,
+    mementos: &[Memento],
+    page: usize,
+) -> Result<Vec<u8>, NoMemory>
+    requires { IsPage mementos.now page }
+    ensures { IfOk result (λ text. text.items ≡ page_text service.now original.now mementos.now page) }
+{
+    let path = page_path(alloc, page)?;
+    let (first, more) = (page == 1, page < pages(mementos));
+    let stretch = stretch(mementos, page);
+    listing(alloc, service, original, &path, stretch, first, more)
+}
+
+/// The index of the pages of an original's TimeMap, which stands in the TimeMap's place: no memento, and a link to each
+/// page in order.
+pub fn write_index(
+    alloc: Global,
+    service: &Service,
+    original: &Original,
+    mementos: &[Memento],
+) -> Result<Vec<u8>, NoMemory>
+    ensures { IfOk result (λ text. text.items ≡ index_text service.now original.now mementos.now) }
+{
+    let count = pages(mementos);
+    let mut text = Vec::with_capacity(alloc, index_size(service, original, count))?;
     let mut dates = DateWriter::new();
-    push_timemap(
-        &mut text, alloc, &mut dates, b"self", service, original, mementos,
+    push_head(
+        &mut text,
+        alloc,
+        &mut dates,
+        service,
+        TIMEMAP_PATH,
+        original,
+        mementos,
     )?;
-    push_mementos(&mut text, &mut dates, mementos)?;
+    for page in 1..count + 1 {
+        push_page(
+            &mut text, alloc, &mut dates, service, original, mementos, page,
+        )?;
+    }
     text.extend_from_slice(b"\n")?;
     Ok(text)
 }
 
-// The lines of all mementos.
+// What stands behind this path and lists these mementos of the original: whether the head is the first of all, and
+// whether more follow the last.
+fn listing(
+    alloc: Global,
+    service: &Service,
+    original: &Original,
+    path: &[u8],
+    mementos: &[Memento],
+    first: bool,
+    more: bool,
+) -> Result<Vec<u8>, NoMemory>
+    requires { IsTarget path.now }
+    ensures { IfOk result (λ text. text.items ≡ lines_text
+        (head_links service.now original.now (service.now ++ path.now ++ original.now) mementos.now
+        ++ stretch_links first more mementos.now)) }
+{
+    let mut text = Vec::with_capacity(alloc, listing_size(service, original, path, mementos))?;
+    let mut dates = DateWriter::new();
+    push_head(
+        &mut text, alloc, &mut dates, service, path, original, mementos,
+    )?;
+    push_mementos(&mut text, &mut dates, first, more, mementos)?;
+    text.extend_from_slice(b"\n")?;
+    Ok(text)
+}
+
+/// How many pages of 1,000 the list has; the last is perhaps shorter.
+pub fn pages(mementos: &[Memento]) -> usize
+    ensures { result ≡ pages mementos.now }
+{
+    mementos.len().div_ceil(PER_PAGE)
+}
+
+// The mementos on a page.
+fn stretch(mementos: &[Memento], page: usize) -> &[Memento]
+    requires { IsPage mementos.now page }
+    ensures { result.now ≡ stretch page mementos.now }
+{
+    let left = &mementos[PER_PAGE * (page - 1)..];
+    &left[..left.len().min(PER_PAGE)]
+}
+
+// What the page's address has between the base and the original.
+fn page_path(alloc: Global, page: usize) -> Result<Vec<u8>, NoMemory>
+    ensures value { IfOk result (λ path. path.items ≡ page_path page) }
+    ensures target { IfOk result (λ path. IsTarget path.items) }
+{
+    let mut path = Vec::with_capacity(alloc, PAGE_PATH)?;
+    path.extend_from_slice(b"/timemap/link/page/")?;
+    write_decimal(&mut path, page as u64)?;
+    path.extend_from_slice(b"/")?;
+    Ok(path)
+}
+
+// The lines at the head of a text that lists these mementos and stands behind this path.
+fn push_head(
+    out: &mut Vec<u8>,
+    alloc: Global,
+    dates: &mut DateWriter,
+    service: &Service,
+    path: &[u8],
+    original: &Original,
+    mementos: &[Memento],
+) -> Result<(), NoMemory>
+    requires { IsTarget path.now }
+    ensures { OnOk result (out.new.items ≡ out.old.items ++ joined (codes ",\n")
+        (head_links service.now original.now (service.now ++ path.now ++ original.now) mementos.now)) }
+{
+    push_original(out, original)?;
+    out.extend_from_slice(b",\n")?;
+    push_timegate(out, alloc, service, original)?;
+    out.extend_from_slice(b",\n")?;
+    push_timemap(
+        out, alloc, dates, b"self", service, path, original, mementos,
+    )?;
+    Ok(())
+}
+
+// The index's line of a page, behind the comma and the end of the line before.
+fn push_page(
+    out: &mut Vec<u8>,
+    alloc: Global,
+    dates: &mut DateWriter,
+    service: &Service,
+    original: &Original,
+    mementos: &[Memento],
+    page: usize,
+) -> Result<(), NoMemory>
+    requires { IsPage mementos.now page }
+    ensures { OnOk result (out.new.items ≡ out.old.items ++ codes ",\n"
+        ++ link_text (page_link service.now original.now mementos.now page)) }
+{
+    out.extend_from_slice(b",\n")?;
+    let path = page_path(alloc, page)?;
+    let stretch = stretch(mementos, page);
+    push_timemap(
+        out, alloc, dates, b"timemap", service, &path, original, stretch,
+    )?;
+    Ok(())
+}
+
+// The lines of these mementos: whether the head is the first of all, and whether more follow the last.
 fn push_mementos(
     out: &mut Vec<u8>,
     dates: &mut DateWriter,
+    first: bool,
+    more: bool,
     mementos: &[Memento],
 ) -> Result<(), NoMemory>
-    ensures { OnOk result (out.new.items ≡ out.old.items ++ followed (codes ",\n") (memento_links true mementos.now)) }
+    ensures { OnOk result (out.new.items
+        ≡ out.old.items ++ followed (codes ",\n") (stretch_links first more mementos.now)) }
 {
-    let mut first = true;
+    let mut first = first;
     let mut left = mementos;
     while let [memento, rest @ ..] = left {
-        push_memento(out, dates, first, rest.is_empty(), memento)?;
+        push_memento(out, dates, first, is_last(more, rest), memento)?;
         first = false;
         left = rest;
     }
     Ok(())
 }
 
+// Whether a memento is the last of all: none is left behind it in its stretch, and no more follow that.
+fn is_last(more: bool, rest: &[Memento]) -> bool
+    ensures { result ≡ (not more && (length rest.now == 0)) }
+{
+    !more && rest.is_empty()
+}
+
+// The bytes of an index of so many pages, as far as a size can say them.
+fn index_size(service: &Service, original: &Original, pages: usize) -> usize {
+    let addresses = service.base().len() + original.as_bytes().len();
+    let head = LISTING_FRAME + 2 * service.base().len() + 3 * original.as_bytes().len();
+    pages
+        .saturating_mul(PAGE_FRAME + addresses)
+        .saturating_add(head + TIMEMAP_PATH.len())
+}
+
 // The bytes of the text: memory is asked for once. Where they exceed every size, the allocator refuses.
-fn timemap_size(service: &Service, original: &Original, mementos: &[Memento]) -> usize {
+fn listing_size(
+    service: &Service,
+    original: &Original,
+    path: &[u8],
+    mementos: &[Memento],
+) -> usize {
     let addresses = 2 * service.base().len() + 3 * original.as_bytes().len();
-    mementos
-        .iter()
-        .fold(TIMEMAP_FRAME + addresses, |size, memento| {
+    mementos.iter().fold(
+        (LISTING_FRAME + addresses).saturating_add(path.len()),
+        |size, memento| {
             size.saturating_add(MEMENTO_FRAME)
                 .saturating_add(memento.uri.as_bytes().len())
-        })
+        },
+    )
 }
 
 /// The value of the `Link` header beside a redirect to a memento of the original: the links to the original and to
@@ -87,7 +276,14 @@ pub fn write_gate_links(
     text.extend_from_slice(b", ")?;
     let mut dates = DateWriter::new();
     push_timemap(
-        &mut text, alloc, &mut dates, b"timemap", service, original, mementos,
+        &mut text,
+        alloc,
+        &mut dates,
+        b"timemap",
+        service,
+        TIMEMAP_PATH,
+        original,
+        mementos,
     )?;
     Ok(text)
 }

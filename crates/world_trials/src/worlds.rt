@@ -333,7 +333,8 @@ fn received_bytes(rt: HostRuntime) -> Result<()> {
     Ok(())
 }
 
-// Replica 1 takes a whole harvest, a part that is newer and one that is older; replica 2 takes them the other way round.
+// Replica 1 takes a whole harvest, a part that is newer and one that is older; replica 2 takes them the other way
+// round.
 fn parts_in_both_orders(alloc: Global) -> Result<Vec<Event>> {
     let mut events = Vec::new(alloc);
     events.push(take(alloc, 1, 5, &[FIRST])?)?;

@@ -20,6 +20,8 @@ pub enum Key {
     Originals,
     Peers,
     Archives,
+    /// Optional.
+    Patience,
 }
 
 impl Key {
@@ -37,6 +39,7 @@ impl Key {
             Key::Originals => "originals",
             Key::Peers => "peers",
             Key::Archives => "archives",
+            Key::Patience => "patience",
         }
     }
 
@@ -53,6 +56,7 @@ impl Key {
             Key::Originals => (0, 100_000),
             Key::Peers => (0, 15),
             Key::Archives => (0, 1_000),
+            Key::Patience => (1, 86_400),
         }
     }
 }

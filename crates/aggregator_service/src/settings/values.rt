@@ -24,6 +24,17 @@ pub(crate) fn number_at(table: &Table, key: Key) -> Result<u64, SettingsFault>
     }
 }
 
+/// The number at a key as `number_at` gives it, or `missing` where there is no such key.
+pub(crate) fn number_or(table: &Table, key: Key, missing: u64) -> Result<u64, SettingsFault>
+    requires { IsWithin key missing }
+    ensures { IfOk result (IsWithin key) }
+{
+    if table.get(key.name()).is_none() {
+        return Ok(missing);
+    }
+    number_at(table, key)
+}
+
 /// The list at a key, where the number of its elements is within the limits of that key.
 pub(crate) fn list_at<'a>(table: &'a Table, key: Key) -> Result<&'a [Value], SettingsFault>
     ensures { IfOk result (λ list. IsWithin key (length list.now)) }

@@ -38,8 +38,9 @@ pub fn script_is_its_layout()
 
 /// The commands of a script come to events, these lead to its world, and what it writes are their answers. So what
 /// holds of all replicas of a world holds of those of a script, whatever has happened in it: each question, also one
-/// for a delta, writes the reply of what its replica's merges made (`replies`); and where the script ends in one request
-/// to two replicas that have learnt the same harvests, and for no delta, it ends in one reply, written twice (`twice`).
+/// for a delta, writes the reply of what its replica's merges made (`replies`); and where the script ends in one
+/// request to two replicas that have learnt the same harvests, and for no delta, it ends in one reply, written twice
+/// (`twice`).
 pub fn scripts_are_runs()
     ensures runs { (base : List ℕ) (world : World) (commands : List Command) (text : List ℕ) (end : World) →
         Says base world commands text end → IsRunOf base world commands text end }

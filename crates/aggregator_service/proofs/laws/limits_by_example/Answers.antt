@@ -23,4 +23,7 @@ returns c = record {
   peers = ((omega arith, omega arith), λ within. omega (arith, within.1));
   no_archive = (omega arith, omega arith);
   archives = ((omega arith, omega arith), λ within. omega (arith, within.1));
+  no_patience = λ within. omega (arith, within.0);
+  a_patience = (omega arith, omega arith);
+  patience = ((omega arith, omega arith), λ within. omega (arith, within.1));
 }

@@ -8,4 +8,5 @@ use Rattle.memento_index.specs.Probes.{Lent}
 use Rattle.knowledge_trials.proofs.index.unseen.Goals as goal
 
 pub returns-clause-in_order : goal.returns-clause-in_order
-returns-clause-in_order c = subst (λ (ms : List Memento). IsStrictlySortedBy memento_cmp ms) (sym (ap (λ (l : Lent). l.list) c.new.ensures ∙ c.list.ensures.list)) (items_sorted memento_cmp (shown_of c.args.index.now c.args.original.now))
+returns-clause-in_order c = subst (λ (ms : List Memento). IsStrictlySortedBy memento_cmp ms)
+    (sym (ap (λ (l : Lent). l.list) c.new.ensures ∙ c.list.ensures.list)) (items_sorted memento_cmp (shown_of c.args.index.now c.args.original.now))

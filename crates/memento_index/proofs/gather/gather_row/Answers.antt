@@ -2,7 +2,7 @@ use Rattle.std.proofs.Common.{List, sym, subst, ◌∙◌}
 use Rattle.harvest_lattice.specs.Rows.{row_entry}
 use Rattle.memento_index.specs.declared.counted.Step.{Step}
 use Rattle.memento_index.specs.Lists.{steps_of, IsShifted}
-use Rattle.memento_index.proofs.Gathering.{steps_put, others_stay, first_put}
+use Rattle.memento_index.proofs.Gathering.{steps_put, others_stay, fit_put}
 use Rattle.memento_index.proofs.gather.gather_row.Goals as goal
 
 pub returns-clause-shifted : goal.returns-clause-shifted
@@ -19,7 +19,7 @@ returns-clause-others c =
     let same = c.in_ok-original.ensures ∙ c.original.ensures in
     others_stay c.args.all.now c.take_more_steps.new.all c.insert.new.self c.args.row.now.original c.in_ok-original.original c.in_ok-steps.steps c.in_ok-steps.ensures.gone c.in_ok-insert.ensures.updates.0 same
 
-pub returns-clause-first : goal.returns-clause-first
-returns-clause-first c =
+pub returns-clause-fit : goal.returns-clause-fit
+returns-clause-fit c =
     let same = c.in_ok-original.ensures ∙ c.original.ensures in
-    first_put c.args.all.now c.take_more_steps.new.all c.insert.new.self c.args.row.now.original c.in_ok-original.original c.in_ok-steps.steps c.in_ok-steps.ensures.gone c.in_ok-insert.ensures.updates.0 same c.args.lists.now c.requires.first c.in_ok-steps.ensures.first
+    fit_put c.args.all.now c.take_more_steps.new.all c.insert.new.self c.args.row.now.original c.in_ok-original.original c.in_ok-steps.steps c.in_ok-steps.ensures.gone c.in_ok-insert.ensures.updates.0 same c.args.lists.now c.requires.fit c.in_ok-steps.ensures.fit

@@ -7,7 +7,7 @@ use Rattle.harvest_lattice.specs.Lattice.{Key, Kept}
 use Rattle.harvest_lattice.specs.Rows.{row_entry}
 use Rattle.harvest_lattice.specs.declared.row.Row.{Row}
 use Rattle.memento_index.specs.declared.counted.Steps.{Steps}
-use Rattle.memento_index.specs.Lists.{steps_or_none, tally_of, IsFirst, AreGathered}
+use Rattle.memento_index.specs.Lists.{steps_or_none, tally_of, FitsList, AreGathered}
 use Rattle.memento_index.proofs.Gathering.{none_gathered, one_more_gathered, row_is_news, rows_turn}
 use Rattle.memento_index.proofs.gather.gather_steps.Goals as goal
 
@@ -16,7 +16,7 @@ loop-row-init c =
     let none : (o : List ℕ) → tree.get text_cmp c.new-all.result o ≡ None = λ o. ap (λ (es : List (List ℕ × Steps)). lookup (is_at (text_cmp o)) es) c.new-all.ensures.empty in
     record {
       gathered = none_gathered c.args.state.now c.new-all.result (λ o. ap (λ (s : Option Steps). steps_or_none s) (none o));
-      first = λ o. subst (λ (s : Option Steps). IfSome s (IsFirst (tally_of c.args.lists.now o))) (sym (none o)) tt;
+      fit = λ o. subst (λ (s : Option Steps). IfSome s (FitsList (tally_of c.args.lists.now o))) (sym (none o)) tt;
     }
 
 pub gather_row-requires-clause-news : goal.gather_row-requires-clause-news
@@ -30,7 +30,7 @@ loop-row-preserved c =
     record {
       gathered = subst (λ (es : List (Key × Kept)). AreGathered x es c.gather_row.new.all) (sym (rows_turn rows c.loop-row.row-index item c.loop-row-test.true c.row-item.is))
           (one_more_gathered x (map row_entry (take c.loop-row.row-index rows)) (row_entry item) c.loop-row.all c.gather_row.new.all c.loop-row.invariant.gathered c.in_ok-gather_row.ensures.shifted c.in_ok-gather_row.ensures.others);
-      first = c.in_ok-gather_row.ensures.first;
+      fit = c.in_ok-gather_row.ensures.fit;
     }
 
 pub returns-clause-gathered : goal.returns-clause-gathered

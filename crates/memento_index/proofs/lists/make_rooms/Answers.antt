@@ -4,7 +4,7 @@ use Rattle.std.specs.BTreeMap.{is_at}
 use Rattle.std.specs.Map.{lookup}
 use Rattle.memento_time.specs.Mementos.{text_cmp}
 use Rattle.memento_index.specs.declared.counted.Steps.{Steps}
-use Rattle.memento_index.proofs.ListLemmas.{grows_same, grows_on, still_first, one_more_room, all_roomy, none_to_come}
+use Rattle.memento_index.proofs.ListLemmas.{grows_same, grows_on, still_fit, one_more_room, all_roomy, none_to_come}
 use Rattle.memento_index.proofs.lists.make_rooms.Goals as goal
 
 pub loop-original-init : goal.loop-original-init
@@ -32,7 +32,7 @@ loop-original-preserved c =
       others = λ o none. c.make_room.ensures.others o (none_to_come o c.loop-original.original-iterator c.next.new.self e c.in-Some.ensures.steps (c.loop-original.invariant.come o none)).0 ∙ c.loop-original.invariant.others o none;
       lifted = c.make_room.ensures.lifted ∙ c.loop-original.invariant.lifted;
       room = λ o. one_more_room c.args.keys c.args.all.now c.loop-original.original-iterator c.next.new.self e was now c.loop-original.lifted.room c.make_room.new.lifted.room c.in-Some.ensures.steps c.make_room.ensures.grow c.make_room.ensures.lifted_room
-          (still_first c.args.lists.now was c.args.all.now c.loop-original.invariant.grow c.requires.first) c.in_ok-make_room.ensures.made o (c.loop-original.invariant.room o);
+          (still_fit c.args.lists.now was c.args.all.now c.loop-original.invariant.grow c.requires.fit) c.in_ok-make_room.ensures.made o (c.loop-original.invariant.room o);
     }
 
 pub returns-clause-made : goal.returns-clause-made

@@ -12,7 +12,10 @@ abbrev pub invariant-loop-memento : goal.invariant-loop-memento
 invariant-loop-memento l = record {
   in_order : IsStrictlySortedBy memento_cmp (l.list.items ++ reverse l.lifted.items);
   rest : IsStrictlySortedBy memento_cmp (l.list.items ++ into_iter_items l.memento-iterator);
-  members : (m : Memento) → (list_any (eq_by_cmp memento_cmp m) (l.list.items ++ reverse l.lifted.items) || list_any (eq_by_cmp memento_cmp m) (into_iter_items l.memento-iterator)) ≡ (list_any (eq_by_cmp memento_cmp m) (l.initial.list.items ++ reverse l.initial.lifted.items) || list_any (eq_by_cmp memento_cmp m) l.fn.added.items);
+  members : (m : Memento) → (list_any (eq_by_cmp memento_cmp m) (l.list.items ++ reverse l.lifted.items)
+      || list_any (eq_by_cmp memento_cmp m) (into_iter_items l.memento-iterator))
+      ≡ (list_any (eq_by_cmp memento_cmp m) (l.initial.list.items ++ reverse l.initial.lifted.items)
+      || list_any (eq_by_cmp memento_cmp m) l.fn.added.items);
   count : into_iter_len l.memento-iterator ≡ length (into_iter_items l.memento-iterator);
   room : vec_len l.list + vec_len l.lifted + into_iter_len l.memento-iterator ≤ vec_capacity l.list;
 }

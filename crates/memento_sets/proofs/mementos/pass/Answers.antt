@@ -65,5 +65,6 @@ returns-in-Greater-clause-in_order c =
     let is : list ++ next ∷ reverse rest ≡ all = whole list c.loop-next.lifted.items rest all next c.in-Some.ensures.items c.loop-next.invariant.whole in
     let in_order : IsStrictlySortedBy memento_cmp (list ++ next ∷ reverse rest) = subst (λ (xs : List Memento). IsStrictlySortedBy memento_cmp xs) (sym is) c.requires.in_order in
     let lt : memento_cmp m next ≡ Less = less next m (sym c.cmp.ensures ∙ c.in-Greater.is) in
-    let both : IsStrictlySortedBy memento_cmp (list ++ m ∷ next ∷ reverse rest) = chained list m (next ∷ reverse rest) c.loop-next.invariant.below (lesser_first m next (reverse rest) lt (back_in_order list (next ∷ reverse rest) in_order)) in
+    let both : IsStrictlySortedBy memento_cmp (list ++ m ∷ next ∷ reverse rest) = chained list m (next ∷ reverse rest) c.loop-next.invariant.below
+    (lesser_first m next (reverse rest) lt (back_in_order list (next ∷ reverse rest) in_order)) in
     subst (λ (xs : List Memento). IsStrictlySortedBy memento_cmp (list ++ m ∷ xs)) (sym (next_first rest next c.push_reserved-in-Greater.new.self.items c.push_reserved-in-Greater.ensures.items)) both

@@ -16,7 +16,8 @@ nothing_first (x ∷ xs) none = absurd (none-some x none)
 pub returns-in-None-clause-members : goal.returns-in-None-clause-members
 returns-in-None-clause-members c =
     let none : c.args.added.items ≡ [] = nothing_first c.args.added.items (c.in-None.ensures.value ∙ ap (λ (xs : List Memento). slice_get xs 0) c.deref.ensures.value) in
-    united_is c.args.list.now.items c.args.list.now.items c.args.added.items (λ m. sym (any_none (eq_by_cmp memento_cmp m) (list_any (eq_by_cmp memento_cmp m) c.args.list.now.items) c.args.added.items none))
+    united_is c.args.list.now.items c.args.list.now.items c.args.added.items
+    (λ m. sym (any_none (eq_by_cmp memento_cmp m) (list_any (eq_by_cmp memento_cmp m) c.args.list.now.items) c.args.added.items none))
 
 pub merge-requires-clause-added_in_order : goal.merge-requires-clause-added_in_order
 merge-requires-clause-added_in_order c =

@@ -9,7 +9,8 @@ use Rattle.memento_time.proofs.moments.date_under_any_name.Goals as goal
 pub returns-in-Some-clause-read : goal.returns-in-Some-clause-read
 returns-in-Some-clause-read c =
     rw c.unix_secs.ensures.value
-    (Reads_shown _ c.args.bytes.now c.in-Some.date (length-day_names c.loop-name.name-index c.loop-name-test.true) c.told-bytes c.requires c.in-Some.ensures.shown (rw (← c.unix_secs.ensures.value) c.unix_secs.ensures.bound))
+    (Reads_shown _ c.args.bytes.now c.in-Some.date (length-day_names c.loop-name.name-index c.loop-name-test.true) c.told-bytes c.requires
+    c.in-Some.ensures.shown (rw (← c.unix_secs.ensures.value) c.unix_secs.ensures.bound))
 
 pub returns-in-Some-clause-exact : goal.returns-in-Some-clause-exact
 returns-in-Some-clause-exact c s h = ap Some (Reads_unique c.args.bytes.now c.unix_secs.result s (returns-in-Some-clause-read c) h)

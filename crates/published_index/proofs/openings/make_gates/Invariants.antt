@@ -5,5 +5,6 @@ use Rattle.published_index.proofs.openings.make_gates.Given as goal
 
 abbrev pub invariant-loop-done : goal.invariant-loop-done
 invariant-loop-done l =
-    (l.writer.desk.shown ≡ l.initial.writer.desk.shown) × (view_of l.writer.desk.place ≡ view_of l.initial.writer.desk.place) × (drop l.writer.behind l.writer.log.items ≡ drop l.initial.writer.behind l.initial.writer.log.items)
+    (l.writer.desk.shown ≡ l.initial.writer.desk.shown) × (view_of l.writer.desk.place ≡ view_of l.initial.writer.desk.place)
+    × (drop l.writer.behind l.writer.log.items ≡ drop l.initial.writer.behind l.initial.writer.log.items)
     × (l.made.items ≡ replicate l._done (new_gate (view_of l.initial.writer.desk.place).opening (view_of l.initial.writer.desk.place).incarnation l.service))

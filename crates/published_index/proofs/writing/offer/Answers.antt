@@ -19,5 +19,6 @@ returns-clause-ready g c =
     let w = c.args.writer.now in
     let w' = c.reach.new.writer in
     let is = new.1 ∙ ap (λ (e : LogEntry). c.args.mark.now.seen.log ++ e ∷ []) c.requires.entry in
-    let done = offers c.reach.result w.desk.shown.value c.args.mark.now.seen.log (drop w.behind w.log.items) (drop w'.behind w'.log.items) c.in-Some.attempted (new.0 ∙ sym c.requires.shown.0) c.requires.shown.1 is (rw (← c.copy.ensures) c.reach.ensures.log) in
+    let done = offers c.reach.result w.desk.shown.value c.args.mark.now.seen.log (drop w.behind w.log.items) (drop w'.behind w'.log.items)
+    c.in-Some.attempted (new.0 ∙ sym c.requires.shown.0) c.requires.shown.1 is (rw (← c.copy.ensures) c.reach.ensures.log) in
     rw c.reach.ensures.desk done

@@ -11,19 +11,21 @@ returns-in_err-head-clause-refused c =
     passed_on new_entry text c.from_residual.result c.in_err-head.field-0.0 c.from_residual.ensures.1
     (refused_with head new_entry text text (new_leaves_head text) c.in_err-head.field-0.0 c.in_err-head.ensures.refused)
 
-pub read_parts-requires : goal.read_parts-requires
-read_parts-requires c = end_after head _ _ _ _ c.requires c.in_ok-head.ensures.found
+pub read_kept-requires : goal.read_kept-requires
+read_kept-requires c = end_after head _ _ _ _ c.requires c.in_ok-head.ensures.found
 
-pub returns-in_err-parts-clause-refused : goal.returns-in_err-parts-clause-refused
-returns-in_err-parts-clause-refused c =
+pub returns-in_err-entry-clause-refused : goal.returns-in_err-entry-clause-refused
+returns-in_err-entry-clause-refused c =
     let text = c.args.text.now in
-    passed_on new_entry text c.from_residual-in_err-parts.result c.in_err-parts.field-0.0 c.from_residual-in_err-parts.ensures.1
-    (refused_with (many c.in_ok-head.head.revisions part) new_entry text _ (new_leaves_parts text _ _ c.in_ok-head.ensures.found) c.in_err-parts.field-0.0 c.in_err-parts.ensures.refused)
+    passed_on new_entry text c.from_residual-in_err-entry.result c.in_err-entry.field-0.0 c.from_residual-in_err-entry.ensures.1
+    (refused_with (many c.in_ok-head.head.revisions part) new_entry text _ (new_leaves_parts text _ _ c.in_ok-head.ensures.found) c.in_err-entry.field-0.0 c.in_err-entry.ensures.refused)
 
 pub returns-in_default-clause-refused : goal.returns-in_default-clause-refused
 returns-in_default-clause-refused c =
-    new_unordered c.args.text.now _ _ c.in_ok-head.ensures.found c.in_ok-parts.parts.items _ c.in_ok-parts.ensures.found (sym c.in_ok-entry.ensures ∙ c.in_default.is)
+    let kept = c.in_ok-entry.ensures.found in
+    new_unordered c.args.text.now _ _ c.in_ok-head.ensures.found kept.parts _ kept.begins (sym kept.makes ∙ c.in_default.is)
 
 pub returns-clause-found : goal.returns-clause-found
 returns-clause-found c =
-    new_found c.args.text.now _ _ c.in_ok-head.ensures.found c.in_ok-parts.parts.items _ c.in_ok-parts.ensures.found c.in-Some.entry (sym c.in_ok-entry.ensures ∙ c.in-Some.is)
+    let kept = c.in_ok-entry.ensures.found in
+    new_found c.args.text.now _ _ c.in_ok-head.ensures.found kept.parts _ kept.begins c.in-Some.entry (sym kept.makes ∙ c.in-Some.is)

@@ -1,5 +1,4 @@
 use Rattle.std.proofs.Common.{ℕ, ◌<◌, ◌^◌, sym, subst, arith}
-use Rattle.std.specs.Prelude.{codes}
 use Rattle.std.specs.Fmt.{decimal}
 use Rattle.memento_time.specs.Text.{IsArchiveName, IsOriginal}
 use Rattle.replica_exchange.specs.Spelling.{ended, field, number}
@@ -7,7 +6,6 @@ use Rattle.replica_exchange.specs.Parts.{old_head}
 use Rattle.replica_exchange.proofs.SpellingLemmas.{ended_found, ended_none, field_refused, name_lacks, number_once}
 use Rattle.replica_exchange.proofs.Sequences.{passed_on, refused_with, malformed}
 use Rattle.replica_exchange.proofs.PartLemmas.{line_has_front, line_without_archive, line_leaves_field, line_leaves_number, line_leaves_original, line_found}
-use Rattle.replica_exchange.proofs.EndLemmas.{end_after, end_behind}
 use Rattle.replica_exchange.proofs.entries.read_old_head.Goals as goal
 
 pub returns-in_err-rest-clause-refused : goal.returns-in_err-rest-clause-refused
@@ -53,10 +51,3 @@ pub returns-clause-found : goal.returns-clause-found
 returns-clause-found c =
     let archive = ended_found IsArchiveName (λ text. text) 32 c.in_ok-rest.rest.now c.in_ok-name.name.now c.in_ok-name.rest.now c.in-Some.archive c.in_ok-name.ensures.found (sym c.in-Some.ensures.1) (subst IsArchiveName (sym c.in-Some.ensures.1) c.in-Some.ensures.0) in
     line_found (λ (n : ℕ). n < 2 ^ 64) decimal c.args.text.now _ c.in_ok-rest.ensures.found _ _ archive (number_once 32 (omega arith)) _ _ c.in_ok-revision.ensures.found _ _ c.in_ok-count.ensures.found _ _ c.in_ok-original.ensures.found
-
-pub read_original-requires : goal.read_original-requires
-read_original-requires c =
-    let archive = ended_found IsArchiveName (λ text. text) 32 c.in_ok-rest.rest.now c.in_ok-name.name.now c.in_ok-name.rest.now c.in-Some.archive c.in_ok-name.ensures.found (sym c.in-Some.ensures.1) (subst IsArchiveName (sym c.in-Some.ensures.1) c.in-Some.ensures.0) in
-    let behind_word = end_behind _ _ (codes "entry ") _ c.requires c.in_ok-rest.ensures.found in
-    let behind_archive = end_after (ended IsArchiveName (λ text. text) 32) _ _ _ _ behind_word archive in
-    end_after (number 32) _ _ _ _ (end_after (ended (λ (n : ℕ). n < 2 ^ 64) decimal 32) _ _ _ _ behind_archive c.in_ok-revision.ensures.found) c.in_ok-count.ensures.found

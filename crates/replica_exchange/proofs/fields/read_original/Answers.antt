@@ -10,6 +10,3 @@ returns-in_err-original-clause-refused c =
     let line = c.in_ok-line.ensures in
     let not_clean = c.in_err-original.ensures.not_clean.0 in
     rw (out.1, out.2) (clean_refused IsOriginal 10 original_lacks _ _ _ line.found line.first c.in_err-original.field-0.0 (λ is. not_clean (ap Err is)))
-
-pub shared_original-requires-clause-line : goal.shared_original-requires-clause-line
-shared_original-requires-clause-line c = (_, c.in_ok-line.ensures.found)

@@ -1,49 +1,47 @@
-use Rattle.std.proofs.Common.{◌≡◌, ℕ, ◌+◌, ◌++◌, ◌∷◌, [], Option, List, take, take_all, get_or, refl, cond, Some, IsSome, sym, ap, subst, ◌∙◌}
+use Rattle.std.proofs.Common.{◌≡◌, ℕ, ◌+◌, ◌++◌, ◌∷◌, [], Option, List, map, take, take_all, get_or, refl, cond, Some, IsSome, sym, ap, subst, ◌∙◌}
 use Rattle.std.specs.Ordering.{eq_by_cmp}
-use Rattle.std.proofs.lemmas.List.{take_more}
+use Rattle.std.proofs.lemmas.List.{take_more, map_push}
 use Rattle.std.proofs.lemmas.List.Elements.{All-weaker, All-get_or}
-use Rattle.harvest_lattice.specs.declared.row.Row.{Row}
 use Rattle.harvest_lattice.specs.Lattice.{Key, key_cmp}
-use Rattle.harvest_lattice.specs.Rows.{row_key}
-use Rattle.replica_exchange.specs.StampShelves.{Shelves, filled, slot, restamped}
+use Rattle.replica_exchange.specs.declared.stamps.ChangedKey.{ChangedKey}
+use Rattle.replica_exchange.specs.StampShelves.{Shelves, filled, slot, key_of, restamped}
 use Rattle.replica_exchange.proofs.ShelfLemmas.{slot_stays_filled}
 use Rattle.replica_exchange.proofs.AbsorbLemmas.{filled_cond, restamped_push}
 use Rattle.replica_exchange.proofs.stamps.fill_all.Goals as goal
 
-one_more : (rows : List Row) (i : ℕ) (row : Row) (stamp : ℕ) (first now next : Shelves) → take (i + 1) rows ≡ take i rows ++ row ∷ []
-    → ((k : Key) → filled (slot now k) ≡ restamped (take i rows) stamp k (filled (slot first k))) → ((k : Key) → slot next k ≡ cond (eq_by_cmp key_cmp k (row_key row)) (Some (Some stamp)) (slot now k))
-    → (k : Key) → filled (slot next k) ≡ restamped (take (i + 1) rows) stamp k (filled (slot first k))
-one_more rows i row stamp first now next more before after k =
+one_more : (keys next_keys : List Key) (key : Key) (stamp : ℕ) (first now next : Shelves) → next_keys ≡ keys ++ key ∷ []
+    → ((k : Key) → filled (slot now k) ≡ restamped keys stamp k (filled (slot first k))) → ((k : Key) → slot next k ≡ cond (eq_by_cmp key_cmp k key) (Some (Some stamp)) (slot now k))
+    → (k : Key) → filled (slot next k) ≡ restamped next_keys stamp k (filled (slot first k))
+one_more keys next_keys key stamp first now next more before after k =
     ap filled (after k)
-    ∙ (filled_cond (eq_by_cmp key_cmp k (row_key row)) stamp (slot now k)
-    ∙ (ap (λ (o : Option ℕ). cond (eq_by_cmp key_cmp k (row_key row)) (Some stamp) o) (before k)
-    ∙ (sym (restamped_push (take i rows) row stamp k (filled (slot first k))) ∙ ap (λ (rs : List Row). restamped rs stamp k (filled (slot first k))) (sym more))))
+    ∙ (filled_cond (eq_by_cmp key_cmp k key) stamp (slot now k)
+    ∙ (ap (λ (o : Option ℕ). cond (eq_by_cmp key_cmp k key) (Some stamp) o) (before k)
+    ∙ (sym (restamped_push keys key stamp k (filled (slot first k))) ∙ ap (λ (ks : List Key). restamped ks stamp k (filled (slot first k))) (sym more))))
 
-pub loop-row-init : goal.loop-row-init
-loop-row-init c = record { stamps = λ k. refl; room = c.requires.room; ordered = c.requires.ordered }
+pub loop-key-init : goal.loop-key-init
+loop-key-init c = record { stamps = λ k. refl; room = c.requires.room; ordered = c.requires.ordered }
 
-pub loop-row-preserved : goal.loop-row-preserved
-loop-row-preserved c =
-    let rows = c.args.rows.now in
-    let i = c.loop-row.row-index in
-    let row : Row = c.row-item.result in
-    let more : take (i + 1) rows ≡ take i rows ++ row ∷ [] = take_more rows i row c.loop-row-test.true ∙ ap (λ (r : Row). take i rows ++ r ∷ []) (sym c.row-item.is) in
-    let key : (let k : Key = (c.archive.result, c.original.result.now) in k) ≡ row_key row = λ i. (c.archive.ensures i, c.original.ensures i) in
-    let after : (k : Key) → slot c.fill.new.shelves k ≡ cond (eq_by_cmp key_cmp k (row_key row)) (Some (Some c.args.stamp)) (slot c.loop-row.shelves k) =
-    λ k. c.fill.ensures.after k ∙ ap (λ (q : Key). cond (eq_by_cmp key_cmp k q) (Some (Some c.args.stamp)) (slot c.loop-row.shelves k)) key in
+pub loop-key-preserved : goal.loop-key-preserved
+loop-key-preserved c =
+    let keys = c.args.keys.now in
+    let i = c.loop-key.key-index in
+    let key : ChangedKey = c.key-item.result in
+    let more : map key_of (take (i + 1) keys) ≡ map key_of (take i keys) ++ key_of key ∷ [] =
+    ap (map key_of) (take_more keys i key c.loop-key-test.true ∙ ap (λ (q : ChangedKey). take i keys ++ q ∷ []) (sym c.key-item.is)) ∙ map_push key_of (take i keys) key in
+    let after : (k : Key) → slot c.fill.new.shelves k ≡ cond (eq_by_cmp key_cmp k (key_of key)) (Some (Some c.args.stamp)) (slot c.loop-key.shelves k) = c.fill.ensures.after in
     record {
-      stamps = one_more rows i row c.args.stamp c.args.shelves.now c.loop-row.shelves c.fill.new.shelves more c.loop-row.invariant.stamps after;
-      room = All-weaker (λ (r : Row). IsSome (slot c.loop-row.shelves (row_key r))) (λ (r : Row). IsSome (slot c.fill.new.shelves (row_key r))) (λ r. slot_stays_filled c.loop-row.shelves c.fill.new.shelves (row_key row) c.args.stamp after (row_key r)) rows c.loop-row.invariant.room;
+      stamps = one_more (map key_of (take i keys)) (map key_of (take (i + 1) keys)) (key_of key) c.args.stamp c.args.shelves.now c.loop-key.shelves c.fill.new.shelves more c.loop-key.invariant.stamps after;
+      room = All-weaker (λ (q : ChangedKey). IsSome (slot c.loop-key.shelves (key_of q))) (λ (q : ChangedKey). IsSome (slot c.fill.new.shelves (key_of q))) (λ q. slot_stays_filled c.loop-key.shelves c.fill.new.shelves (key_of key) c.args.stamp after (key_of q)) keys c.loop-key.invariant.room;
       ordered = c.fill.ensures.ordered;
     }
 
 pub fill-requires-clause-room : goal.fill-requires-clause-room
 fill-requires-clause-room c =
-    let row : Row = c.row-item.result in
-    let here : IsSome (slot c.loop-row.shelves (row_key (get_or c.args.rows.now c.loop-row.row-index row))) = All-get_or (λ (r : Row). IsSome (slot c.loop-row.shelves (row_key r))) c.args.rows.now c.loop-row.row-index row c.loop-row-test.true c.loop-row.invariant.room in
-    subst (λ (k : Key). IsSome (slot c.loop-row.shelves k)) (sym (λ i. (c.archive.ensures i, c.original.ensures i))) (subst (λ (r : Row). IsSome (slot c.loop-row.shelves (row_key r))) (sym c.row-item.is) here)
+    let key : ChangedKey = c.key-item.result in
+    let here : IsSome (slot c.loop-key.shelves (key_of (get_or c.args.keys.now c.loop-key.key-index key))) = All-get_or (λ (q : ChangedKey). IsSome (slot c.loop-key.shelves (key_of q))) c.args.keys.now c.loop-key.key-index key c.loop-key-test.true c.loop-key.invariant.room in
+    subst (λ (q : ChangedKey). IsSome (slot c.loop-key.shelves (key_of q))) (sym c.key-item.is) here
 
 pub returns-clause-stamps : goal.returns-clause-stamps
 returns-clause-stamps c k =
-    let whole : take c.loop-row.row-index c.args.rows.now ≡ c.args.rows.now = take_all c.loop-row.row-index c.args.rows.now c.loop-row-test.false in
-    c.loop-row.invariant.stamps k ∙ ap (λ (rows : List Row). restamped rows c.args.stamp k (filled (slot c.args.shelves.now k))) whole
+    let whole : take c.loop-key.key-index c.args.keys.now ≡ c.args.keys.now = take_all c.loop-key.key-index c.args.keys.now c.loop-key-test.false in
+    c.loop-key.invariant.stamps k ∙ ap (λ (keys : List ChangedKey). restamped (map key_of keys) c.args.stamp k (filled (slot c.args.shelves.now k))) whole

@@ -5,7 +5,8 @@ use Rattle.std.proofs.lemmas.Bool.{cases_Bool}
 use Rattle.std.proofs.lemmas.Str.{IsUtf8-from_is_utf8, is_utf8-from_IsUtf8}
 use Rattle.memento_time.proofs.CleanLemmas.{clean_utf8}
 use Rattle.timemap_reader.specs.Original.{original_reading}
-use Rattle.timegate.specs.Route.{NamesItself, original_at}
+use Rattle.url_texts.specs.Followed.{IsFollowed}
+use Rattle.timegate.specs.Route.{IsAsked, original_at}
 use Rattle.timegate.proofs.route.original_at.Goals as goal
 
 not_text : (bytes : List ℕ) → ¬ IsUtf8 bytes → None ≡ original_at bytes
@@ -27,8 +28,10 @@ pub returns-in-Ok-read_original-clause-read : goal.returns-in-Ok-read_original-c
 returns-in-Ok-read_original-clause-read c = named c.args.bytes.now c.in-Ok.text.now c.in-Ok-read_original.original c.in-Ok.ensures.cases.0 c.in-Ok.ensures.cases.1 c.in-Ok-read_original.ensures.read
 
 -- an original is text
-itself : (original : List ℕ) → IsUtf8 original → original_reading original ≡ Ok original → NamesItself original
-itself original utf8 reading = rw (is_utf8-from_IsUtf8 original utf8, reading) refl
+itself : (original : List ℕ) → IsUtf8 original → original_reading original ≡ Ok original → IsFollowed original → IsAsked original
+itself original utf8 reading followed = record { itself = rw (is_utf8-from_IsUtf8 original utf8, reading) refl; followed = followed }
 
 pub returns-in-Ok-read_original-clause-kept : goal.returns-in-Ok-read_original-clause-kept
-returns-in-Ok-read_original-clause-kept c = itself c.in-Ok-read_original.original (clean_utf8 c.in-Ok-read_original.original c.in-Ok-read_original.ensures.valid.0) c.in-Ok-read_original.ensures.kept
+returns-in-Ok-read_original-clause-kept c =
+    let read = c.in-Ok-read_original.ensures in
+    itself c.in-Ok-read_original.original (clean_utf8 c.in-Ok-read_original.original read.valid.0) read.kept read.followed

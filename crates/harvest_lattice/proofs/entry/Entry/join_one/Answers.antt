@@ -1,88 +1,10 @@
-use Rattle.std.proofs.Common.{◌≡◌, ℕ, ◌<◌, ◌∷◌, ◌||◌, [], List, Bool, OnOk, Result, Ok, Err, sym, ap, subst, ◌∙◌}
-use Rattle.std.specs.Cmp.{ranked}
-use Rattle.std.specs.FinMap as map
-use Rattle.std.specs.declared.cmp.Ordering.TheVariants.{Less, Equal, Greater}
-use Rattle.memento_sets.specs.MementoSets.{Mementos}
-use Rattle.harvest_lattice.specs.Lattice.{Kept, not_before}
-use Rattle.harvest_lattice.specs.Parts.{PartsRise, kept_in, put_part}
-use Rattle.harvest_lattice.proofs.Entries.{unite}
-use Rattle.harvest_lattice.proofs.PartLists.{alone_of_it, older_joined, comes_first, comes_to_first, comes_behind, join_from_later, after_either}
+use Rattle.std.proofs.Common.{[], refl, sym, ◌∙◌}
+use Rattle.harvest_lattice.specs.Lattice.{not_before}
+use Rattle.harvest_lattice.specs.Parts.{kept_in}
+use Rattle.harvest_lattice.proofs.PartLists.{older_joined}
 use Rattle.harvest_lattice.proofs.entry.Entry.join_one.Goals as goal
-
-on_ok : {T E P Q : Type 0} (r : Result T E) → (P → Q) → OnOk r P → OnOk r Q
-on_ok (Ok x) f h = f h
-on_ok (Err e) f h = tt
-
--- an entry of one revision, by its first part
-one_is : (v : Bool) (p : ℕ × Mementos) (es : List (ℕ × Mementos)) (b : Kept) → kept_in v p es ≡ b → PartsRise (p ∷ es) → map.len b.revisions ≡ 1 → kept_in v p [] ≡ b
-one_is v p es b is rise one = ap (kept_in v p) (sym (alone_of_it v p es b is rise one)) ∙ is
 
 pub returns-then-not-is_not_before-clause-ok : goal.returns-then-not-is_not_before-clause-ok
 returns-then-not-is_not_before-clause-ok c =
-    let o = c.other.inside in
-    let one = one_is o.is_whole o.first o.later c.args.other c.other.view_is c.other.invariant c.requires in
-    older_joined o.is_whole o.first c.args.self.now c.args.other one
+    older_joined c.args.is_whole c.args.part c.args.self.now (kept_in c.args.is_whole c.args.part []) refl
     (sym (c.is_not_before.ensures ∙ (λ i. not_before (c.whole.ensures i) (c.revision.ensures i))) ∙ c.if-not-is_not_before.true)
-
-pub invariant_of-self-in-Less : goal.invariant_of-self-in-Less
-invariant_of-self-in-Less c =
-    let e = c.self.inside in
-    let o = c.other.inside in
-    let one = one_is o.is_whole o.first o.later c.args.other c.other.view_is c.other.invariant c.requires in
-    let late = sym (c.is_not_before.ensures ∙ (λ i. not_before (c.whole.ensures i) (c.revision.ensures i))) ∙ c.if-not-is_not_before.false in
-    let lt : o.first.0 < e.first.0 = subst (λ n. n < e.first.0) c.revision-2.ensures (subst (λ n. c.revision-2.result < n) c.revision-3.ensures (ranked c.revision-2.result c.revision-3.result Less (sym (sym c.cmp.ensures ∙ c.in-Less.is)))) in
-    subst (λ (xs : List (ℕ × Mementos)). PartsRise (o.first ∷ xs)) (sym (c.in_ok-insert-in-Less.ensures.ok ∙ ap (λ (q : ℕ × Mementos). q ∷ e.later) c.in_ok-next-in-Less.ensures))
-    (comes_first e.is_whole o.is_whole e.first o.first e.later c.args.self.now c.args.other c.self.view_is one c.self.invariant late lt).0
-
-pub returns-in-Less-clause-ok : goal.returns-in-Less-clause-ok
-returns-in-Less-clause-ok c =
-    let e = c.self.inside in
-    let o = c.other.inside in
-    let one = one_is o.is_whole o.first o.later c.args.other c.other.view_is c.other.invariant c.requires in
-    let late = sym (c.is_not_before.ensures ∙ (λ i. not_before (c.whole.ensures i) (c.revision.ensures i))) ∙ c.if-not-is_not_before.false in
-    let lt : o.first.0 < e.first.0 = subst (λ n. n < e.first.0) c.revision-2.ensures (subst (λ n. c.revision-2.result < n) c.revision-3.ensures (ranked c.revision-2.result c.revision-3.result Less (sym (sym c.cmp.ensures ∙ c.in-Less.is)))) in
-    ap (kept_in o.is_whole o.first) (c.in_ok-insert-in-Less.ensures.ok ∙ ap (λ (q : ℕ × Mementos). q ∷ e.later) c.in_ok-next-in-Less.ensures)
-    ∙ (comes_first e.is_whole o.is_whole e.first o.first e.later c.args.self.now c.args.other c.self.view_is one c.self.invariant late lt).1
-
-pub returns-in-Equal-clause-ok : goal.returns-in-Equal-clause-ok
-returns-in-Equal-clause-ok c =
-    let e = c.self.inside in
-    let o = c.other.inside in
-    let one = one_is o.is_whole o.first o.later c.args.other c.other.view_is c.other.invariant c.requires in
-    let same : o.first.0 ≡ e.first.0 = sym c.revision-2.ensures ∙ (ranked c.revision-2.result c.revision-3.result Equal (sym (sym c.cmp.ensures ∙ c.in-Equal.is)) ∙ c.revision-3.ensures) in
-    ap (λ (q : ℕ × Mementos). kept_in (e.is_whole || o.is_whole) q e.later) (c.in_ok-absorb-in-Equal.ensures.ok ∙ (λ i. (e.first.0, unite e.first.1 (c.into_set.ensures i))))
-    ∙ (comes_to_first e.is_whole o.is_whole e.first o.first e.later c.args.self.now c.args.other c.self.view_is one c.self.invariant same).1
-
-pub invariant_of-self-in-Greater : goal.invariant_of-self-in-Greater
-invariant_of-self-in-Greater c =
-    let e = c.self.inside in
-    let o = c.other.inside in
-    let one = one_is o.is_whole o.first o.later c.args.other c.other.view_is c.other.invariant c.requires in
-    let lt : e.first.0 < o.first.0 = subst (λ n. e.first.0 < n) c.revision-2.ensures (subst (λ n. n < c.revision-2.result) c.revision-3.ensures (ranked c.revision-2.result c.revision-3.result Greater (sym (sym c.cmp.ensures ∙ c.in-Greater.is)))) in
-    (join_from_later e.is_whole o.is_whole e.first o.first e.later c.args.self.now c.args.other c.self.view_is one c.self.invariant c.in_ok-latest-in-Greater.latest c.replace_older.new.self c.if-is_whole.true lt c.in_ok-latest-in-Greater.ensures.ok).0
-
-pub returns-in-Greater-clause-ok : goal.returns-in-Greater-clause-ok
-returns-in-Greater-clause-ok c =
-    let e = c.self.inside in
-    let o = c.other.inside in
-    let one = one_is o.is_whole o.first o.later c.args.other c.other.view_is c.other.invariant c.requires in
-    let lt : e.first.0 < o.first.0 = subst (λ n. e.first.0 < n) c.revision-2.ensures (subst (λ n. n < c.revision-2.result) c.revision-3.ensures (ranked c.revision-2.result c.revision-3.result Greater (sym (sym c.cmp.ensures ∙ c.in-Greater.is)))) in
-    (join_from_later e.is_whole o.is_whole e.first o.first e.later c.args.self.now c.args.other c.self.view_is one c.self.invariant c.in_ok-latest-in-Greater.latest c.replace_older.new.self c.if-is_whole.true lt c.in_ok-latest-in-Greater.ensures.ok).1
-
-pub invariant_of-self-in-Greater-2 : goal.invariant_of-self-in-Greater-2
-invariant_of-self-in-Greater-2 c =
-    let e = c.self.inside in
-    let o = c.other.inside in
-    let one = one_is o.is_whole o.first o.later c.args.other c.other.view_is c.other.invariant c.requires in
-    let lt : e.first.0 < o.first.0 = subst (λ n. e.first.0 < n) c.revision-2.ensures (subst (λ n. n < c.revision-2.result) c.revision-3.ensures (ranked c.revision-2.result c.revision-3.result Greater (sym (sym c.cmp.ensures ∙ c.in-Greater-2.is)))) in
-    after_either c.put.result (λ xs. PartsRise (e.first ∷ xs)) e.later (put_part e.later o.first) c.put.new.self c.put.ensures.ok c.put.ensures.err
-    (comes_behind e.is_whole o.is_whole e.first o.first e.later c.args.self.now c.args.other c.self.view_is one c.self.invariant c.if-is_whole.false lt).0 c.self.invariant
-
-pub returns-clause-ok : goal.returns-clause-ok
-returns-clause-ok c =
-    let e = c.self.inside in
-    let o = c.other.inside in
-    let one = one_is o.is_whole o.first o.later c.args.other c.other.view_is c.other.invariant c.requires in
-    let lt : e.first.0 < o.first.0 = subst (λ n. e.first.0 < n) c.revision-2.ensures (subst (λ n. n < c.revision-2.result) c.revision-3.ensures (ranked c.revision-2.result c.revision-3.result Greater (sym (sym c.cmp.ensures ∙ c.in-Greater-2.is)))) in
-    on_ok c.put.result (λ is. ap (kept_in e.is_whole e.first) is
-    ∙ (comes_behind e.is_whole o.is_whole e.first o.first e.later c.args.self.now c.args.other c.self.view_is one c.self.invariant c.if-is_whole.false lt).1) c.put.ensures.ok

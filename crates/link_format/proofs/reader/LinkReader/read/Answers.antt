@@ -51,7 +51,9 @@ pub returns-in-Err-clause-fault : goal.returns-in-Err-clause-fault
 returns-in-Err-clause-fault c =
     let reader = c.self.inside in
     let is : IsReadTo reader.text.now (Some c.in-Some.rest.now) reader.count = subst (λ (r : Option (Bor (List ℕ))). FieldsReadTo reader.text.now r reader.count) c.in-Some.is c.self.invariant in
-    subst (λ (p : Progress). IsAnswer p.text (Err (NotLinkFormat c.saturating_sub.result))) c.self.view_is (at_fault reader.text.now c.in-Some.rest.now reader.count c.in-Err.left c.saturating_sub.result is c.in-Err.ensures.fault.0 c.in-Err.ensures.fault.1 c.saturating_sub.ensures)
+    subst (λ (p : Progress). IsAnswer p.text (Err (NotLinkFormat c.saturating_sub.result))) c.self.view_is
+    (at_fault reader.text.now c.in-Some.rest.now reader.count c.in-Err.left c.saturating_sub.result is c.in-Err.ensures.fault.0
+    c.in-Err.ensures.fault.1 c.saturating_sub.ensures)
 
 pub returns-else-not-is_within-clause-link : goal.returns-else-not-is_within-clause-link
 returns-else-not-is_within-clause-link c =
@@ -68,7 +70,8 @@ returns-else-not-is_within-clause-begins c =
     let is : IsReadTo reader.text.now (Some c.in-Some.rest.now) reader.count = subst (λ (r : Option (Bor (List ℕ))). FieldsReadTo reader.text.now r reader.count) c.in-Some.is c.self.invariant in
     let after : Option (List ℕ) = option_map (λ (r : Bor (List ℕ)). r.now) c.in-Ok-Some.after in
     let begins : BeginsWith c.in-Some.rest.now after (link_of c.in-Ok-Some.span ∷ []) = rw c.in-Ok-Some.field-0-is at c.in-Ok-Some.ensures.begins in
-    subst (λ (p : Progress). StandsBehind p.count p.text (link_of c.in-Ok-Some.span)) c.self.view_is (stands_behind reader.text.now c.in-Some.rest.now after reader.count (link_of c.in-Ok-Some.span) is begins)
+    subst (λ (p : Progress). StandsBehind p.count p.text (link_of c.in-Ok-Some.span)) c.self.view_is
+    (stands_behind reader.text.now c.in-Some.rest.now after reader.count (link_of c.in-Ok-Some.span) is begins)
 
 pub invariant_of-self-in-Ok-None : goal.invariant_of-self-in-Ok-None
 invariant_of-self-in-Ok-None c =

@@ -37,8 +37,8 @@ returns c =
     let row = c.args.row.now in
     let a = c.in-Some.standing.now in
     let before = c.in_ok-shown-3.field-0 in
-    let after = c.in_ok-shown_together.field-0 in
+    let after = c.in_ok-shown_with.field-0 in
     let there : fmap.get x (row_key row) ≡ Some a = (λ i. fmap.get x (sym c.archive.ensures i, sym c.original.ensures i)) ∙ (sym c.entry.ensures ∙ ap option_copied c.in-Some.is) in
     takes_place x (row_entry row) a (set.items (arc_value before)) (set.items (arc_value after)) there
     (ap (λ (s : Mementos). set.items s) c.in_ok-shown-3.ensures)
-    (ap (λ (s : Mementos). set.items s) (c.in_ok-shown_together.ensures ∙ ap (λ (k : Kept). mementos_of (join_kept a k)) c.entry-entry.ensures))
+    (ap (λ (s : Mementos). set.items s) (c.in_ok-shown_with.ensures ∙ ap (λ (k : Kept). mementos_of (join_kept a k)) c.entry-entry.ensures))

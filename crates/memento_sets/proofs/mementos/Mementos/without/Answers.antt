@@ -15,4 +15,5 @@ invariant_of-result c =
     (subst (λ (xs : List Memento). IsStrictlySortedBy memento_cmp xs) (sym c.as_slice.ensures) (items_sorted memento_cmp c.args.self.now)))
 
 pub returns : goal.returns
-returns c = ap (λ (xs : List Memento). set.from_list {R = memento_cmp} xs) (c.in_ok-list.ensures ∙ ap (λ (xs : List Memento). filter (λ m. not (set.contains c.args.other.now m)) xs) c.as_slice.ensures)
+returns c = ap (λ (xs : List Memento). set.from_list {R = memento_cmp} xs)
+    (c.in_ok-list.ensures ∙ ap (λ (xs : List Memento). filter (λ m. not (set.contains c.args.other.now m)) xs) c.as_slice.ensures)

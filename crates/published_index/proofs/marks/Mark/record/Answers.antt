@@ -12,5 +12,6 @@ compare_exchange-found-requires g c =
       ap (λ s. s.book) seen ∙ sym (ap (λ w. w.book) h),
       pen.0 ∙ (ap (λ s. s.book) seen ∙ sym (ap (λ w. w.book) h)),
       offer.0,
-      rw (ap (λ w. w.key) h, pen.1, offer.1, offer.3) (adds_moves c.again-seen.result.log _ c.args.self.now.entries c.in_ok-next.next (ap (λ s. length s.log) seen ∙ sym c.args.self.now.counted) (omega (arith, c.in_ok-next.ensures.1))),
+      rw (ap (λ w. w.key) h, pen.1, offer.1, offer.3) (adds_moves c.again-seen.result.log _ c.args.self.now.entries c.in_ok-next.next
+          (ap (λ s. length s.log) seen ∙ sym c.args.self.now.counted) (omega (arith, c.in_ok-next.ensures.1))),
     )

@@ -9,10 +9,14 @@ pub returns-clause-ok : goal.returns-clause-ok
 returns-clause-ok c =
     let w = c.add.new.writer in
     let pending = merges_in (drop w.behind w.log.items) in
-    on_ok c.add.result _ _ (appended c.add.result c.args.self.now _ _ _ c.in_ok-copy.copy c.args.merge.now (ap (λ (v : MergerView). record v { pending = pending }) c.self.view_is) (ap (λ (v : MergerView). v.pending) c.self.view_is) c.in_ok-copy.ensures c.add.ensures.log)
+    on_ok c.add.result _ _ (appended c.add.result c.args.self.now _ _ _ c.in_ok-copy.copy c.args.merge.now
+    (ap (λ (v : MergerView). record v { pending = pending }) c.self.view_is) (ap (λ (v : MergerView). v.pending) c.self.view_is)
+    c.in_ok-copy.ensures c.add.ensures.log)
 
 pub returns-clause-err : goal.returns-clause-err
 returns-clause-err c =
     let w = c.add.new.writer in
     let pending = merges_in (drop w.behind w.log.items) in
-    on_err c.add.result _ _ (appended c.add.result c.args.self.now _ _ _ c.in_ok-copy.copy c.args.merge.now (ap (λ (v : MergerView). record v { pending = pending }) c.self.view_is) (ap (λ (v : MergerView). v.pending) c.self.view_is) c.in_ok-copy.ensures c.add.ensures.log)
+    on_err c.add.result _ _ (appended c.add.result c.args.self.now _ _ _ c.in_ok-copy.copy c.args.merge.now
+    (ap (λ (v : MergerView). record v { pending = pending }) c.self.view_is) (ap (λ (v : MergerView). v.pending) c.self.view_is)
+    c.in_ok-copy.ensures c.add.ensures.log)

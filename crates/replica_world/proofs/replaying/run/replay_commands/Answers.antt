@@ -21,7 +21,8 @@ returns-in_err-said-clause-replays g c = λ w stands.
 
 pub returns-in_default-clause-replays : goal.returns-in_default-clause-replays
 returns-in_default-clause-replays g c = λ w stands.
-    progress_bad _ _ _ _ _ _ _ _ _ (c.commands.invariant.progress w stands) (some_left _ _ c.is_empty.ensures c.commands-test.true) (rw c.in_default.is at c.in_ok-said.ensures) c.number_of_line.ensures
+    progress_bad _ _ _ _ _ _ _ _ _ (c.commands.invariant.progress w stands) (some_left _ _ c.is_empty.ensures c.commands-test.true)
+    (rw c.in_default.is at c.in_ok-said.ensures) c.number_of_line.ensures
 
 pub returns-in_err-write-clause-replays : goal.returns-in_err-write-clause-replays
 returns-in_err-write-clause-replays g c = λ w stands.
@@ -36,7 +37,8 @@ commands-preserved g c =
     record {
       within = omega (arith, shorter, c.commands.invariant.within);
       progress = λ w stands.
-          progress_next _ _ _ _ _ _ _ _ _ _ _ _ (c.commands.invariant.progress w stands) (some_left _ _ c.is_empty.ensures c.commands-test.true) (rw c.in-Some.is at c.in_ok-said.ensures) shorter refl c.in_ok-write.ensures.ok;
+          progress_next _ _ _ _ _ _ _ _ _ _ _ _ (c.commands.invariant.progress w stands) (some_left _ _ c.is_empty.ensures c.commands-test.true)
+          (rw c.in-Some.is at c.in_ok-said.ensures) shorter refl c.in_ok-write.ensures.ok;
       failures = c.in_ok-write.ensures.not_failed ∙ c.commands.invariant.failures;
     }
 

@@ -9,7 +9,8 @@ returns-then-is_empty-clause-replays g c = replays_nothing _ _ _ tt c.after_empt
 
 pub returns-in_default-clause-replays : goal.returns-in_default-clause-replays
 returns-in_default-clause-replays g c =
-    replays_bad_start _ _ _ _ c.after_empty_lines-text.ensures.text (some_left _ _ c.is_empty.ensures c.if-is_empty.false) (sym (rw c.in_default.is at c.in_ok-start.ensures.found)) c.number_of_line.ensures
+    replays_bad_start _ _ _ _ c.after_empty_lines-text.ensures.text (some_left _ _ c.is_empty.ensures c.if-is_empty.false)
+    (sym (rw c.in_default.is at c.in_ok-start.ensures.found)) c.number_of_line.ensures
 
 pub returns-clause-replays : goal.returns-clause-replays
 returns-clause-replays g c =

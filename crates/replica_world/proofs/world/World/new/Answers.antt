@@ -7,7 +7,8 @@ use Rattle.replica_world.proofs.world.World.new.Goals as goal
 
 pub loop-place-preserved : goal.loop-place-preserved
 loop-place-preserved c = record {
-  keeps = fresh_kept c.loop-place.all.items c.push.new.self.items c.loop-place.place c.new.result c.loop-place.invariant.keeps c.new.ensures.stamped c.new.ensures.incarnation c.new.ensures.cursors (search rules);
+  keeps = fresh_kept c.loop-place.all.items c.push.new.self.items c.loop-place.place c.new.result c.loop-place.invariant.keeps c.new.ensures.stamped
+      c.new.ensures.incarnation c.new.ensures.cursors (search rules);
 }
 
 pub returns-clause-stands : goal.returns-clause-stands

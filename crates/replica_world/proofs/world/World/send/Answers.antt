@@ -21,4 +21,10 @@ returns-clause-steps c =
     sent_whole c.args.self.now _ c.args.number c.in_ok-place.place c.in_ok-count.count c.in_ok-text.text.items c.in_ok-place.ensures.found
     (c.in_ok-text.ensures.written ∙ ap (λ (k : KeptReplica). delta_text (delta_from k.stamped None)) same)
     (subst (λ (k : KeptReplica). IsDelta (delta_from k.stamped None)) same c.in_ok-text.ensures.fits)
-    (record { base = c.push_message.ensures.base; replicas = c.push_message.ensures.replicas; last = c.push_message.ensures.last; messages = c.in_ok-count.ensures.messages; counted = c.in_ok-count.ensures.count })
+    (record {
+      base = c.push_message.ensures.base;
+      replicas = c.push_message.ensures.replicas;
+      last = c.push_message.ensures.last;
+      messages = c.in_ok-count.ensures.messages;
+      counted = c.in_ok-count.ensures.count;
+    })
