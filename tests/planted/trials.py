@@ -40,6 +40,12 @@ def tried():
     return {(name, checksum): commit for commit, name, checksum in rows}
 
 
+def untried(list_name):
+    """The titles of a list's blocks that weren't tried as they stand."""
+    known = tried()
+    return {title for title, checksum in checksums(list_name).items() if (list_name, checksum) not in known}
+
+
 def keep_tried(list_name, titles):
     """Writes down that these blocks of a list were tried on this commit, and drops those that no longer stand there."""
     found = subprocess.run(["git", "rev-parse", "--short=7", "HEAD"], cwd=HERE, capture_output=True, text=True)
