@@ -24,6 +24,16 @@ def crate_of_tests(crate):
     return next((trials for trials, tested in TRIALS.items() if crate in tested), crate)
 
 
+def failed_test(said):
+    """The line of the first test that failed in what `rt try --test` said, or None. One that didn't end within the limit of time says
+    nothing: there are tests of long texts that don't, without a proof."""
+    lines = said.split("\n")
+    for line, after in zip(lines, lines[1:] + [""]):
+        if "panicked" in line or line.endswith("FAILED") and "did not end within the time limit" not in after:
+            return line
+    return None
+
+
 def checksums(list_name):
     """The blocks of a list by their titles, each as its checksum, which another text of the block would change."""
     lines = (HERE / list_name).read_text(encoding="utf-8").split("\n")
