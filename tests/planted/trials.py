@@ -16,6 +16,9 @@ TRIALS = {
     "service_trials": ("published_index", "harvester", "hyper_edge"),
 }
 
+# Tests that take longer without a proof than `rt try` waits: they say nothing of a bug.
+SLOW_TESTS = (("knowledge_trials/src/exchange.rt", "texts_have_at_most_268_435_456_bytes"),)
+
 # The planted bugs that were tried and refused by what their blocks name, a line each: COMMIT LIST CHECKSUM.
 TRIED = HERE / "tried"
 
@@ -24,14 +27,14 @@ def crate_of_tests(crate):
     return next((trials for trials, tested in TRIALS.items() if crate in tested), crate)
 
 
-def failed_test(said):
-    """The line of the first test that failed in what `rt try --test` said, or None. One that didn't end within the limit of time says
-    nothing: there are tests of long texts that don't, without a proof."""
-    lines = said.split("\n")
-    for line, after in zip(lines, lines[1:] + [""]):
-        if "panicked" in line or line.endswith("FAILED") and "did not end within the time limit" not in after:
-            return line
-    return None
+def leave_out_slow_tests(crates):
+    """Takes the slow tests out of a copy of the crates."""
+    for file, test in SLOW_TESTS:
+        path = pathlib.Path(crates) / file
+        text = path.read_text(encoding="utf-8")
+        if text.count(f"#[test]\nfn {test}(") != 1:
+            raise ValueError(f"{file} has no test {test}")
+        path.write_text(text.replace(f"#[test]\nfn {test}(", f"fn {test}("), encoding="utf-8")
 
 
 def checksums(list_name):
