@@ -130,7 +130,7 @@ class Service:
     """A service by these settings, what it writes, and what its gates answer. Its gates listen at `ports`, or at free ones."""
 
     def __init__(self, stack, *, archives=(), originals=(), peers=(), ports=(0,), base="http://agg.example", rounds=1, pause=0,
-                 workers=1, patience=None, words=(), **more):
+                 workers=1, patience=None, hosts=None, words=(), **more):
         named = ", ".join(f'{{ name = "{name}", timemap = "{address}{BASE}" }}' for name, address in archives)
         folder = pathlib.Path(stack.enter_context(tempfile.TemporaryDirectory()))
         (folder / "settings.toml").write_text(f'''
@@ -144,6 +144,7 @@ originals = [{quoted(originals)}]
 peers = [{quoted(peers)}]
 archives = [{named}]
 {"" if patience is None else f"patience = {patience}"}
+{"" if hosts is None else f"hosts = [{quoted(hosts)}]"}
 ''')
         self.words = [*words, PROGRAM, "serve", str(folder / "settings.toml")]
         self.more, self.count = {"env": ENVIRONMENT, **more}, len(ports)

@@ -15,6 +15,7 @@ limits key.Originals = (0, 100000)
 limits key.Peers = (0, 15)
 limits key.Archives = (0, 1000)
 limits key.Patience = (1, 86400)
+limits key.Hosts = (0, 1000)
 
 -- the number is neither below the least of a key nor above the greatest
 abbrev pub IsWithin : Key → ℕ → Type 0
@@ -50,3 +51,5 @@ pub record AreLimits : Type 0 where
   pub no_patience : ¬ IsWithin key.Patience 0
   pub a_patience : IsWithin key.Patience 1
   pub patience : TakesUpTo key.Patience (24 * 60 * 60)
+  pub no_host : IsWithin key.Hosts 0
+  pub hosts : TakesUpTo key.Hosts (10 ^ 3)

@@ -8,7 +8,7 @@ use crate::clocks::revision_now;
 use crate::runtimes::SocketRuntime;
 use crate::settings::Settings;
 use harvester::{Job, Outcome, have_first_urls, run_round};
-use hyper_edge::{Patience, PatientFetch, pull_within};
+use hyper_edge::{CarefulFetch, Patience, pull_within};
 use memento_index::Merge;
 use memento_time::{ArchiveName, Clean, Original};
 use published_index::Merger;
@@ -91,8 +91,11 @@ impl Round {
         R: SocketRuntime + Threads + Sync,
         requires first_urls { All HasFirstUrl jobs.now }
     {
-        let patience = Patience::of_seconds(settings.patience);
-        let Ok(outcomes) = run_round(rt, &PatientFetch { patience }, jobs, settings.workers) else {
+        let fetch = CarefulFetch {
+            patience: Patience::of_seconds(settings.patience),
+            hosts: settings.hosts.as_deref(),
+        };
+        let Ok(outcomes) = run_round(rt, &fetch, jobs, settings.workers) else {
             return;
         };
         for outcome in outcomes {

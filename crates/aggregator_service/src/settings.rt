@@ -2,19 +2,23 @@
 //!
 //! Keys are looked for in the order of `Key`, and the first that is missing or holds what it may not is the fault. An
 //! optional key may be missing. Other keys aren't looked at.
-ghost use Rattle.std.specs.Prelude.{◌≡◌, ◌<◌, length};
+ghost use Rattle.std.specs.Prelude.{◌≡◌, ◌<◌, IfSome, length};
+ghost use Rattle.std.proofs.Props.{props};
 ghost use Rattle.aggregator_service.specs.Limits.{IsWithin};
 ghost use Rattle.aggregator_service.specs.declared.settings.fault.Key.TheVariants.{Gates, Connections, Rounds, Pause};
 ghost use Rattle.aggregator_service.specs.declared.settings.fault.Key.TheVariants.{Workers, Originals, Peers, Archives, Patience};
+ghost use Rattle.aggregator_service.specs.declared.settings.fault.Key.TheVariants.{Hosts};
 
 mod archives;
 mod fault;
+mod hosts;
 mod values;
 
 use crate::settings::archives::archives_at;
+use crate::settings::hosts::hosts_at;
 use crate::settings::values::{gates_at, number_at, number_or, originals_at, peers_at, service_at};
 pub use fault::{Key, SettingsFault};
-use hyper_edge::DEFAULT_PATIENCE;
+use hyper_edge::{AllowedHost, DEFAULT_PATIENCE};
 use memento_time::{ArchiveName, Clean, Original};
 use std::alloc::Global;
 use timemap_writer::Service;
@@ -47,6 +51,8 @@ pub struct Settings {
     /// Seconds that an archive or a peer may take over a connection and the head of its answer; ten times as many for
     /// the whole answer.
     pub patience: u64,
+    /// The hosts that archives' pages are fetched from; all where it is None.
+    pub hosts: Option<Vec<AllowedHost>>,
 
     ghost few_gates: { IsWithin Gates (length gates.items) },
     ghost few_connections: { IsWithin Connections connections },
@@ -57,6 +63,7 @@ pub struct Settings {
     ghost few_peers: { IsWithin Peers (length peers.items) },
     ghost few_archives: { IsWithin Archives (length archives.items) },
     ghost fair_patience: { IsWithin Patience patience },
+    ghost few_hosts: { IfSome hosts (λ listed. IsWithin Hosts (length listed.items)) } by { Prim.hlevel props },
 }
 
 /// Reads settings: `Text` where the text is no TOML or has over 1,048,576 bytes.
@@ -84,6 +91,7 @@ fn settings_of(alloc: Global, table: &Table) -> Result<Settings, SettingsFault> 
     let peers = peers_at(alloc, table)?;
     let archives = archives_at(alloc, table)?;
     let patience = number_or(table, Key::Patience, DEFAULT_PATIENCE)?;
+    let hosts = hosts_at(alloc, table)?;
     Ok(Settings {
         base,
         gates,
@@ -95,5 +103,6 @@ fn settings_of(alloc: Global, table: &Table) -> Result<Settings, SettingsFault> 
         peers,
         archives,
         patience,
+        hosts,
     })
 }

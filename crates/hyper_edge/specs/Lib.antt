@@ -5,3 +5,5 @@ pub mod Gates
 pub mod Targets
 pub mod Exchanges
 pub mod Pulls
+pub mod Addresses
+pub mod Hosts

@@ -4,7 +4,9 @@ ghost use Rattle.http_body_util.specs.Collected.{collected_bytes};
 ghost use Rattle.hyper.specs.Error.{kind_of};
 ghost use Rattle.hyper.specs.declared.error.Kind.TheVariants.{OutOfMemory as HyperOutOfMemory};
 ghost use Rattle.hyper_edge.specs.Exchanges.{IsAnswerOf, IsRequestFor};
+ghost use Rattle.hyper_edge.specs.Hosts.{AreAllowed, IsListedText};
 
+use crate::hosts::{AllowedHost, allowed_addresses, is_listed};
 use crate::patience::Patience;
 use crate::targets::target_of;
 use bytes::Bytes;
@@ -52,23 +54,29 @@ impl Deadlines {
 
 /// What is fetched by GET over a fresh connection; a body over `most` bytes is TooLong. An https URL is Failed, and so
 /// is one whose answer doesn't come within the patience. The name is looked up by std, for which there is no limit.
+/// Where there are hosts, a URL of another host is Failed before its name is looked up, and one whose name leads to no
+/// allowed address before a connection is made.
 pub(crate) fn get<R>(
     rt: &R,
     patience: Patience,
+    hosts: Option<&[AllowedHost]>,
     url: &str,
     most: usize,
 ) -> Result<Answer, FetchFault>
 where
     R: Wait + Clock + Net<Listener = TcpListener, Stream = TcpStream> + RandomSource + AllocGlobal,
-    ensures { IfOk result (λ answer. length answer.body ≤ most) }
+    ensures within { IfOk result (λ answer. length answer.body ≤ most) }
+    ensures listed { IfOk result (λ _. IfSome hosts.entry (λ listed. IsListedText listed.now url.now)) }
 {
     let alloc = rt.alloc();
-    let Some(address) = read_url(alloc, url).map_err(|_| FetchFault::NoMemory)? else {
-        return Err(FetchFault::Failed);
+    let address = match read_url(alloc, url) {
+        Ok(Some(address)) => address,
+        Ok(None) => return Err(FetchFault::Failed),
+        Err(_) => return Err(FetchFault::NoMemory),
     };
     let request = request_for(alloc, url, &address)?;
     let mut runtime = LocalRuntime::new(rt).map_err(|error| fault_of(&error))?;
-    let addresses = addresses_of(rt, &address)?;
+    let addresses = addresses_of(rt, hosts, &address)?;
     let deadlines = Deadlines::of(rt, patience)?;
     let stream = connect(rt, &mut runtime, addresses, deadlines)?;
     exchange(rt, &mut runtime, stream, request, most, deadlines)
@@ -114,8 +122,33 @@ fn request_for(alloc: Global, url: &str, address: &Url) -> Result<Request<Empty<
     }
 }
 
+/// The addresses that may be connected to for a URL: those of its host, with its port, and where there are hosts, those
+/// of a listed one that it leads to.
+fn addresses_of(
+    rt: &(impl Net + AllocGlobal),
+    hosts: Option<&[AllowedHost]>,
+    url: &Url,
+) -> Result<Vec<SocketAddr>, FetchFault>
+    ensures { IfOk result (λ addresses. IfSome hosts.entry (λ listed. AreAllowed listed.now url.now addresses.items)) }
+{
+    let Some(hosts) = hosts else {
+        return look_up(rt, url);
+    };
+    if !is_listed(hosts, url) {
+        return Err(FetchFault::Failed);
+    }
+    let Some(host) = url.host() else {
+        return Err(FetchFault::Failed);
+    };
+    let found = look_up(rt, url)?;
+    match allowed_addresses(rt.alloc(), &host, &found) {
+        Ok(addresses) => Ok(addresses),
+        Err(_) => Err(FetchFault::NoMemory),
+    }
+}
+
 /// The addresses of a URL's host, with its port.
-fn addresses_of(rt: &(impl Net + AllocGlobal), url: &Url) -> Result<Vec<SocketAddr>, FetchFault> {
+fn look_up(rt: &(impl Net + AllocGlobal), url: &Url) -> Result<Vec<SocketAddr>, FetchFault> {
     let (Some(host), Some(port)) = (url.host_str(), url.port_or_known_default()) else {
         return Err(FetchFault::Failed);
     };

@@ -1,8 +1,10 @@
 //! Fetches from archives.
-ghost use Rattle.std.specs.Prelude.{◌≡◌, IfOk};
+ghost use Rattle.std.specs.Prelude.{◌≡◌, IfOk, IfSome};
 ghost use Rattle.timemap_reader.specs.Answer.{IsShort};
+ghost use Rattle.hyper_edge.specs.Hosts.{IsListedText};
 
 use crate::exchanges::get;
+use crate::hosts::AllowedHost;
 use crate::patience::Patience;
 use harvester::{Answer, Fetch, FetchFault};
 use memento_time::Clean;
@@ -20,10 +22,12 @@ const MAX_BODY: usize = 8_388_608;
 #[derive(Clone, Copy, Debug)]
 pub struct HyperFetch;
 
-/// Fetches as `HyperFetch` does, and waits by a patience of its own.
+/// Fetches as `HyperFetch` does, and waits by a patience of its own. Where it has hosts, what isn't of one of them is
+/// Failed before a connection is made, and so is what a listed name leads to an internal address for (`is_allowed`).
 #[derive(Clone, Copy, Debug)]
-pub struct PatientFetch {
+pub struct CarefulFetch<'a> {
     pub patience: Patience,
+    pub hosts: Option<&'a [AllowedHost]>,
 }
 
 impl Fetch for HyperFetch {
@@ -42,11 +46,11 @@ impl Fetch for HyperFetch {
             + RandomSource
             + AllocGlobal,
     {
-        fetch_within(rt, Patience::default(), url)
+        fetch_within(rt, Patience::default(), None, url)
     }
 }
 
-impl Fetch for PatientFetch {
+impl Fetch for CarefulFetch<'_> {
     ghost use Rattle.std.specs.Prelude.{⊤};
     ghost use Rattle.timemap_reader.specs.Answer.{IsShort};
 
@@ -62,17 +66,23 @@ impl Fetch for PatientFetch {
             + RandomSource
             + AllocGlobal,
     {
-        fetch_within(rt, self.patience, url)
+        fetch_within(rt, self.patience, self.hosts, url)
     }
 }
 
-fn fetch_within<R>(rt: &R, patience: Patience, url: &Clean) -> Result<Answer, FetchFault>
+fn fetch_within<R>(
+    rt: &R,
+    patience: Patience,
+    hosts: Option<&[AllowedHost]>,
+    url: &Clean,
+) -> Result<Answer, FetchFault>
 where
     R: Wait + Clock + Net<Listener = TcpListener, Stream = TcpStream> + RandomSource + AllocGlobal,
-    ensures { IfOk result (λ answer. IsShort answer.body) }
+    ensures short { IfOk result (λ answer. IsShort answer.body) }
+    ensures listed { IfOk result (λ _. IfSome hosts.entry (λ listed. IsListedText listed.now url.now)) }
 {
     match str::from_utf8(url.as_bytes()) {
-        Ok(text) => get(rt, patience, text, MAX_BODY),
+        Ok(text) => get(rt, patience, hosts, text, MAX_BODY),
         Err(_) => Err(FetchFault::Failed),
     }
 }

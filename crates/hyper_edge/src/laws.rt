@@ -7,12 +7,18 @@ ghost use Rattle.timegate.specs.declared.request.Request.{Request};
 ghost use Rattle.timegate.specs.declared.reply.Reply.{Reply};
 ghost use Rattle.timegate.specs.Reply.{reply, reply_of};
 ghost use Rattle.timegate.specs.Route.{IsOfTaken};
+ghost use Rattle.hyper_edge.specs.Addresses.{AreAddresses};
 ghost use Rattle.hyper_edge.specs.Gates.{IsSomeReply};
 ghost use Rattle.hyper_edge.specs.Targets.{AreTargets};
 
 /// What the requests for some URLs name.
 pub fn targets_by_example()
     ensures { AreTargets }
+{}
+
+/// Which addresses a listed host leads to, on both sides of each border.
+pub fn addresses_by_example()
+    ensures { AreAddresses }
 {}
 
 /// What a gate may answer, whichever it is, to a request that asks for no delta: the reply of a replica that has taken

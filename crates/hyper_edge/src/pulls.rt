@@ -44,7 +44,7 @@ where
 {
     let alloc = rt.alloc();
     let url = delta_url(alloc, peer, cursor)?;
-    let answer = get(rt, patience, url.as_str(), MAX_DELTA)?;
+    let answer = get(rt, patience, None, url.as_str(), MAX_DELTA)?;
     delta_in(alloc, &answer)
 }
 

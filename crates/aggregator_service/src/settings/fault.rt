@@ -22,6 +22,8 @@ pub enum Key {
     Archives,
     /// Optional.
     Patience,
+    /// Optional.
+    Hosts,
 }
 
 impl Key {
@@ -40,6 +42,7 @@ impl Key {
             Key::Peers => "peers",
             Key::Archives => "archives",
             Key::Patience => "patience",
+            Key::Hosts => "hosts",
         }
     }
 
@@ -57,6 +60,7 @@ impl Key {
             Key::Peers => (0, 15),
             Key::Archives => (0, 1_000),
             Key::Patience => (1, 86_400),
+            Key::Hosts => (0, 1_000),
         }
     }
 }

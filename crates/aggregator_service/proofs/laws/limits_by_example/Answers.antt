@@ -26,4 +26,6 @@ returns c = record {
   no_patience = λ within. omega (arith, within.0);
   a_patience = (omega arith, omega arith);
   patience = ((omega arith, omega arith), λ within. omega (arith, within.1));
+  no_host = (omega arith, omega arith);
+  hosts = ((omega arith, omega arith), λ within. omega (arith, within.1));
 }
