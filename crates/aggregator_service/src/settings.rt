@@ -12,7 +12,7 @@ mod fault;
 mod values;
 
 use crate::settings::archives::archives_at;
-use crate::settings::values::{gates_at, number_at, number_or, originals_at, peers_at, service_at};
+use crate::settings::values::{gates_at, number_at, number_or, originals_at, peers_at, service_at, wants};
 pub use fault::{Key, SettingsFault};
 use hyper_edge::DEFAULT_PATIENCE;
 use memento_time::{ArchiveName, Clean, Original};
@@ -47,6 +47,8 @@ pub struct Settings {
     /// Seconds that an archive or a peer may take over a connection and the head of its answer; ten times as many for
     /// the whole answer.
     pub patience: u64,
+    /// Whether what went wrong is told in a log.
+    pub log: bool,
 
     ghost few_gates: { IsWithin Gates (length gates.items) },
     ghost few_connections: { IsWithin Connections connections },
@@ -84,6 +86,7 @@ fn settings_of(alloc: Global, table: &Table) -> Result<Settings, SettingsFault> 
     let peers = peers_at(alloc, table)?;
     let archives = archives_at(alloc, table)?;
     let patience = number_or(table, Key::Patience, DEFAULT_PATIENCE)?;
+    let log = wants(table, Key::Log)?;
     Ok(Settings {
         base,
         gates,
@@ -95,5 +98,6 @@ fn settings_of(alloc: Global, table: &Table) -> Result<Settings, SettingsFault> 
         peers,
         archives,
         patience,
+        log,
     })
 }

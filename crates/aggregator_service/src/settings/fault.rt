@@ -22,6 +22,8 @@ pub enum Key {
     Archives,
     /// Optional.
     Patience,
+    /// Optional.
+    Log,
 }
 
 impl Key {
@@ -40,10 +42,12 @@ impl Key {
             Key::Peers => "peers",
             Key::Archives => "archives",
             Key::Patience => "patience",
+            Key::Log => "log",
         }
     }
 
-    /// The least and the greatest number at the key; for a list, of its elements. The base is one text.
+    /// The least and the greatest number at the key; for a list, of its elements. The base is one text. The
+    /// log is wanted (1) or not.
     pub fn limits(self) -> (u64, u64)
         ensures { result ≡ limits self }
     {
@@ -57,6 +61,7 @@ impl Key {
             Key::Peers => (0, 15),
             Key::Archives => (0, 1_000),
             Key::Patience => (1, 86_400),
+            Key::Log => (0, 1),
         }
     }
 }
