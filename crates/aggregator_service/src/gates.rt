@@ -151,7 +151,15 @@ where
         port,
         start,
     } = post;
-    let kept = keep_gate(rt, alloc, gate, address.as_str(), connections, &port, &start);
+    let kept = keep_gate(
+        rt,
+        alloc,
+        gate,
+        address.as_str(),
+        connections,
+        &port,
+        &start,
+    );
     let address = address.as_str();
     let end = match kept {
         Ok(true) => GateEnd::Served,

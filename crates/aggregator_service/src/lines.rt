@@ -119,7 +119,11 @@ pub(crate) enum Line<'a> {
         matter: Matter<'a>,
     },
     /// Memory was refused so often.
-    Wanting { round: u64, count: u64, want: Want },
+    Wanting {
+        round: u64,
+        count: u64,
+        want: Want,
+    },
     /// The peer with this base brought nothing.
     Peer {
         round: u64,
@@ -127,7 +131,10 @@ pub(crate) enum Line<'a> {
         fault: PeerFault,
     },
     /// What was appended isn't published.
-    Unpublished { round: u64, fault: PublishRefused },
+    Unpublished {
+        round: u64,
+        fault: PublishRefused,
+    },
     /// Standard output can't be written.
     Output,
     /// The gate of this number ended.

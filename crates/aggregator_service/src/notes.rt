@@ -153,7 +153,11 @@ impl Notes {
     /// Of a round that has walked nothing yet. Without a log nothing is noted of archives.
     pub(crate) fn new(alloc: Global, settings: &Settings) -> Notes {
         let mut archives = Vec::new(alloc);
-        let count = if settings.log { settings.archives.len() } else { 0 };
+        let count = if settings.log {
+            settings.archives.len()
+        } else {
+            0
+        };
         for _ in 0..count {
             let noted = Noted {
                 counts: Counts::NONE,

@@ -12,7 +12,9 @@ mod fault;
 mod values;
 
 use crate::settings::archives::archives_at;
-use crate::settings::values::{gates_at, number_at, number_or, originals_at, peers_at, service_at, wants};
+use crate::settings::values::{
+    gates_at, number_at, number_or, originals_at, peers_at, service_at, wants,
+};
 pub use fault::{Key, SettingsFault};
 use hyper_edge::DEFAULT_PATIENCE;
 use memento_time::{ArchiveName, Clean, Original};
