@@ -1,6 +1,7 @@
 //! The program: what its words ask for, and what it says and answers when it ends.
 //!
-//! Standard output has what the command writes and nothing else. A failure is one line on standard error.
+//! Standard output has what the command writes and nothing else. A failure is one line on standard error, behind the log
+//! where the settings ask for one.
 #![tactic(auto)]
 
 mod check;
@@ -44,7 +45,7 @@ fn main(rt: HostRuntime) -> ExitCode {
     let ended = match command_of(&rt) {
         Ok(Command::Replay) => replay_input(&rt),
         Ok(Command::Check(file)) => check(&rt, file.as_str(), &mut rt.stdout()),
-        Ok(Command::Serve(file)) => serve_file(&rt, file.as_str(), rt.stdout()),
+        Ok(Command::Serve(file)) => serve_file(&rt, file.as_str(), rt.stdout(), rt.stderr()),
         Err(failure) => Err(failure),
     };
     match ended {

@@ -12,8 +12,8 @@ use std::thread::Threads;
 use std::time::Clock;
 
 /// Serves by the settings of a file until the last round and the last connection, and writes what it does, line by
-/// line.
-pub(crate) fn serve_file<R, W>(rt: &R, file: &str, out: W) -> Result<(), Failure>
+/// line. The log, where the settings ask for one, goes to `log`.
+pub(crate) fn serve_file<R, W, L>(rt: &R, file: &str, out: W, log: L) -> Result<(), Failure>
 where
     R: Threads
         + Wait
@@ -28,8 +28,9 @@ where
         + Drop
         + 'static,
     W: Write + Drop,
+    L: Write + Copy + Send + 'static,
 {
     let settings = settings_in(rt, file)?;
-    serve_settings(rt, &settings, out)?;
+    serve_settings(rt, &settings, out, log)?;
     Ok(())
 }

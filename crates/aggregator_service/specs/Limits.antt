@@ -3,7 +3,8 @@ use Rattle.std.specs.Prelude.{ℕ, ◌≤◌, ◌+◌, ◌*◌, ◌^◌}
 use Rattle.aggregator_service.specs.declared.settings.fault.Key.{Key}
 use Rattle.aggregator_service.specs.declared.settings.fault.Key.TheVariants as key
 
--- the least and the greatest number at a key; for a list, of its elements. The base is one text.
+-- the least and the greatest number at a key; for a list, of its elements. The base is one text. The log is
+-- wanted (1) or not.
 abbrev pub limits : Key → ℕ × ℕ
 limits key.Base = (1, 1)
 limits key.Gates = (1, 64)
@@ -16,6 +17,7 @@ limits key.Peers = (0, 15)
 limits key.Archives = (0, 1000)
 limits key.Patience = (1, 86400)
 limits key.Hosts = (0, 1000)
+limits key.Log = (0, 1)
 
 -- the number is neither below the least of a key nor above the greatest
 abbrev pub IsWithin : Key → ℕ → Type 0

@@ -1,11 +1,14 @@
 //! The gates of a service, each in a thread that binds and serves it.
+use crate::lines::{GateEnd, Line};
+use crate::logs::Log;
 use crate::runtimes::SocketRuntime;
 use crate::serving::ServeFault;
 use crate::settings::Settings;
 use crossbeam_channel::{Receiver, Sender, bounded};
-use hyper_edge::{GateService, bind, serve_gate};
+use hyper_edge::{EdgeFault, GateService, bind, serve_gate};
 use published_index::Gate;
 use std::alloc::{AllocGlobal, Global};
+use std::io::Write;
 use std::sync::Wait;
 use std::thread::{self, JoinHandle, Threads};
 
@@ -22,11 +25,19 @@ struct Door {
     start: Sender<()>,
 }
 
+/// Which gate it is: its number in the settings, from 1 on, and where it listens.
+#[derive(Clone, Copy)]
+struct Place<'a> {
+    number: u64,
+    address: &'a str,
+}
+
 /// What a gate's thread is given.
 #[derive(Drop)]
 struct Post {
     alloc: Global,
     gate: Gate,
+    number: u64,
     address: String,
     connections: u64,
     port: Sender<u16>,
@@ -64,19 +75,25 @@ fn wait_for(rt: &(impl Threads + Wait), threads: Vec<JoinHandle<Ending>>) -> End
 }
 
 /// Binds each gate in a thread of its own, and lets all of them serve once all are bound.
-pub(crate) fn open_doors<R>(
+pub(crate) fn open_doors<R, L>(
     rt: &R,
     settings: &Settings,
     gates: Vec<Gate>,
+    log: Log<L>,
 ) -> Result<Doors, ServeFault>
 where
     R: SocketRuntime + Threads + Sync + Send + Clone + Drop + 'static,
+    L: Write + Copy + Send + 'static,
 {
     let alloc = rt.alloc();
     let mut doors = Vec::with_capacity(alloc, gates.len())?;
     let mut fault = None;
-    for (gate, address) in gates.into_iter().zip(&settings.gates) {
-        match open_door(rt, gate, address.as_str(), settings.connections) {
+    for (number, (gate, address)) in (1..).zip(gates.into_iter().zip(&settings.gates)) {
+        let place = Place {
+            number,
+            address: address.as_str(),
+        };
+        match open_door(rt, gate, place, settings.connections, log) {
             Ok(door) => doors.push(door)?,
             Err(refused) => fault = Some(refused),
         }
@@ -85,9 +102,16 @@ where
 }
 
 /// Starts a gate's thread.
-fn open_door<R>(rt: &R, gate: Gate, address: &str, connections: u64) -> Result<Door, ServeFault>
+fn open_door<R, L>(
+    rt: &R,
+    gate: Gate,
+    place: Place<'_>,
+    connections: u64,
+    log: Log<L>,
+) -> Result<Door, ServeFault>
 where
     R: SocketRuntime + Threads + Sync + Send + Clone + Drop + 'static,
+    L: Write + Copy + Send + 'static,
 {
     let alloc = rt.alloc();
     let own = rt.clone()?;
@@ -96,12 +120,13 @@ where
     let post = Post {
         alloc,
         gate,
-        address: String::from_str(alloc, address)?,
+        number: place.number,
+        address: String::from_str(alloc, place.address)?,
         connections,
         port: port_in,
         start: start_out,
     };
-    match thread::spawn(rt, move || keep(&own, post)) {
+    match thread::spawn(rt, move || keep(&own, post, log)) {
         Ok(thread) => Ok(Door {
             thread,
             port: port_out,
@@ -111,29 +136,69 @@ where
     }
 }
 
-/// What a gate's thread does: it binds, says so, and serves once it is told to.
-fn keep<R>(rt: &R, post: Post) -> Ending
+/// What a gate's thread does: it keeps the gate, and tells the log how that ended.
+fn keep<R, L>(rt: &R, post: Post, log: Log<L>) -> Ending
 where
     R: SocketRuntime + Clone + Drop,
+    L: Write + Copy,
 {
     let Post {
         alloc,
         gate,
+        number,
         address,
         connections,
         port,
         start,
     } = post;
+    let kept = keep_gate(
+        rt,
+        alloc,
+        gate,
+        address.as_str(),
+        connections,
+        &port,
+        &start,
+    );
+    let address = address.as_str();
+    let end = match kept {
+        Ok(true) => GateEnd::Served,
+        Ok(false) => return Ok(()),
+        Err(fault) => GateEnd::Failed(fault),
+    };
+    let line = Line::Gate {
+        number,
+        address,
+        end,
+    };
+    log.tell(alloc, line);
+    kept?;
+    Ok(())
+}
+
+/// Binds a gate, says so, and serves it once that is asked for. Answers whether it was.
+fn keep_gate<R>(
+    rt: &R,
+    alloc: Global,
+    gate: Gate,
+    address: &str,
+    connections: u64,
+    port: &Sender<u16>,
+    start: &Receiver<()>,
+) -> Result<bool, EdgeFault>
+where
+    R: SocketRuntime + Clone + Drop,
+{
     let own = rt.clone()?;
-    let mut bound = bind(rt, address.as_str())?;
+    let mut bound = bind(rt, address)?;
     let Ok(service) = GateService::new(alloc, own, gate) else {
-        return Err(ServeFault::NoMemory);
+        return Err(EdgeFault::NoMemory);
     };
     if port.send(rt, bound.port()).is_err() || start.recv(rt).is_err() {
-        return Ok(());
+        return Ok(false);
     }
     serve_gate(rt, &mut bound, &service, connections)?;
-    Ok(())
+    Ok(true)
 }
 
 /// Lets the gates serve, where all of them are bound and nothing went wrong before. Else none does, and all threads

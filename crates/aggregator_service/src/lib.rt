@@ -8,6 +8,9 @@
 mod clocks;
 mod gates;
 mod laws;
+mod lines;
+mod logs;
+mod notes;
 mod rounds;
 mod runtimes;
 mod serving;

@@ -1,10 +1,13 @@
 //! One round: each archive is walked for each original, each peer is pulled, and what came is published.
-ghost use Rattle.std.specs.Prelude.{◌≡◌, ◌+◌, ◌*◌, ◌<◌, ◌⊎◌, ◌++◌, All, IfSome, Some};
+ghost use Rattle.std.specs.Prelude.{◌≡◌, ◌+◌, ◌*◌, ◌<◌, ◌++◌, All, IfSome, OnErr, OnOk, Some};
 ghost use Rattle.harvester.specs.Answers.{HasFirstUrl};
 ghost use Rattle.aggregator_service.specs.Lines.{round_words};
 ghost use Rattle.aggregator_service.specs.Pulls.{Pulls, PullsNothing};
 
 use crate::clocks::revision_now;
+use crate::lines::{Line, PeerFault};
+use crate::logs::Log;
+use crate::notes::Notes;
 use crate::runtimes::SocketRuntime;
 use crate::settings::Settings;
 use harvester::{Job, Outcome, have_first_urls, run_round};
@@ -14,6 +17,7 @@ use memento_time::{ArchiveName, Clean, Original};
 use published_index::Merger;
 use std::alloc::Global;
 use std::fmt;
+use std::io::Write;
 use std::ops::Range;
 use std::thread::{self, Threads};
 use std::time::{Clock, Duration};
@@ -44,10 +48,18 @@ impl fmt::Display for Round {
 }
 
 impl Round {
-    /// Makes a round. What is refused for memory isn't appended and isn't counted.
-    pub(crate) fn make<R>(rt: &R, settings: &Settings, merger: &mut Merger) -> Round
+    /// Makes the round of this number, and tells the log what went wrong. What is refused for memory isn't appended and
+    /// isn't counted.
+    pub(crate) fn make<R, L>(
+        rt: &R,
+        number: u64,
+        settings: &Settings,
+        merger: &mut Merger,
+        log: Log<L>,
+    ) -> Round
     where
         R: SocketRuntime + Threads + Sync,
+        L: Write + Copy,
     {
         let mut round = Round {
             jobs: 0,
@@ -55,21 +67,29 @@ impl Round {
             pulls: 0,
             published: false,
         };
-        round.harvest(rt, settings, merger);
-        let patience = Patience::of_seconds(settings.patience);
-        for (number, peer) in (1..).zip(&settings.peers) {
-            round.pull(rt, merger, number, peer, patience);
+        let notes = round.harvest(rt, settings, merger);
+        notes.tell(rt.alloc(), number, settings, round.jobs, log);
+        round.pull_all(rt, number, settings, merger, log);
+        match merger.publish(rt) {
+            Ok(_) => round.published = true,
+            Err(fault) => {
+                let line = Line::Unpublished {
+                    round: number,
+                    fault,
+                };
+                log.tell(rt.alloc(), line);
+            }
         }
-        round.published = merger.publish(rt).is_ok();
         round
     }
 
     /// Walks each archive for each original, a batch at a time. A batch has one job for each worker, since the answers
     /// of its walks stand in memory together.
-    fn harvest<R>(&mut self, rt: &R, settings: &Settings, merger: &mut Merger)
+    fn harvest<R>(&mut self, rt: &R, settings: &Settings, merger: &mut Merger) -> Notes
     where
         R: SocketRuntime + Threads + Sync,
     {
+        let mut notes = Notes::new(rt.alloc(), settings);
         let revision = revision_now(rt);
         let jobs = settings
             .originals
@@ -80,13 +100,21 @@ impl Round {
             let batch = jobs_of(rt.alloc(), settings, revision, start..end);
             self.jobs = self.jobs.saturating_add(end.saturating_sub(start) as u64);
             if have_first_urls(&batch) {
-                self.append_harvests(rt, settings, merger, &batch);
+                self.append_harvests(rt, settings, merger, &batch, &mut notes);
             }
         }
+        notes
     }
 
     /// Walks the jobs, and appends their harvests.
-    fn append_harvests<R>(&mut self, rt: &R, settings: &Settings, merger: &mut Merger, jobs: &[Job])
+    fn append_harvests<R>(
+        &mut self,
+        rt: &R,
+        settings: &Settings,
+        merger: &mut Merger,
+        jobs: &[Job],
+        notes: &mut Notes,
+    )
     where
         R: SocketRuntime + Threads + Sync,
         requires first_urls { All HasFirstUrl jobs.now }
@@ -101,16 +129,41 @@ impl Round {
         for outcome in outcomes {
             let Outcome {
                 number: _,
-                job: _,
+                job,
                 fetched: _,
                 lost: _,
                 result,
             } = outcome;
+            notes.add(settings, job, &result);
             let Ok(harvest) = result else {
                 continue;
             };
             if merger.append(&Merge::Harvest(harvest)).is_ok() {
                 self.harvests = self.harvests.saturating_add(1);
+            } else {
+                notes.add_unkept();
+            }
+        }
+    }
+
+    /// Pulls each peer in the round of this number, and tells the log of those that bring nothing.
+    fn pull_all<R, L>(
+        &mut self,
+        rt: &R,
+        round: u64,
+        settings: &Settings,
+        merger: &mut Merger,
+        log: Log<L>,
+    )
+    where
+        R: SocketRuntime,
+        L: Write + Copy,
+    {
+        let patience = Patience::of_seconds(settings.patience);
+        for (number, peer) in (1..).zip(&settings.peers) {
+            if let Err(fault) = self.pull(rt, merger, number, peer, patience) {
+                let base = peer.as_str();
+                log.tell(rt.alloc(), Line::Peer { round, base, fault });
             }
         }
     }
@@ -124,17 +177,22 @@ impl Round {
         number: u64,
         peer: &Clean,
         patience: Patience,
-    )
+    ) -> Result<(), PeerFault>
     where
         R: SocketRuntime,
-        ensures { Pulls number self.old merger.old self.new merger.new
-            ⊎ PullsNothing self.old merger.old self.new merger.new }
+        ensures ok { OnOk result (Pulls number self.old merger.old self.new merger.new) }
+        ensures err { OnErr result (PullsNothing self.old merger.old self.new merger.new) }
     {
-        let Ok(delta) = pull_within(rt, patience, peer, merger.cursor(number)) else {
-            return;
+        let delta = match pull_within(rt, patience, peer, merger.cursor(number)) {
+            Ok(delta) => delta,
+            Err(fault) => return Err(PeerFault::Pull(fault)),
         };
-        if merger.append_delta(number, &delta).is_ok() {
-            self.pulls = self.pulls.saturating_add(1);
+        match merger.append_delta(number, &delta) {
+            Ok(()) => {
+                self.pulls = self.pulls.saturating_add(1);
+                Ok(())
+            }
+            Err(fault) => Err(PeerFault::Take(fault)),
         }
     }
 }

@@ -5,6 +5,8 @@ ghost use Rattle.aggregator_service.specs.Lines.{round_line};
 
 use crate::clocks::incarnation_now;
 use crate::gates::{Doors, open_doors};
+use crate::lines::Line;
+use crate::logs::Log;
 use crate::rounds::{Round, sleep_between};
 use crate::runtimes::SocketRuntime;
 use crate::settings::Settings;
@@ -67,11 +69,17 @@ impl From<OpenFault> for ServeFault {
     }
 }
 
-/// Serves by these settings until the last round and the last connection, and writes what it does, line by line.
+/// Serves by these settings until the last round and the last connection, and writes what it does, line by line. Where
+/// the settings ask for a log, what went wrong is written to `log`, a line by a call; each gate's thread has a copy of it.
 ///
 /// `NoMemory` only before the first round, or where a gate that has ended ran out of it. After a failed write no
 /// further round is made, and Device is answered once the gates have ended.
-pub fn serve_settings<R, W>(rt: &R, settings: &Settings, mut out: W) -> Result<(), ServeFault>
+pub fn serve_settings<R, W, L>(
+    rt: &R,
+    settings: &Settings,
+    mut out: W,
+    log: L,
+) -> Result<(), ServeFault>
 where
     R: Threads
         + Wait
@@ -85,14 +93,16 @@ where
         + Drop
         + 'static,
     W: Write + Drop,
+    L: Write + Copy + Send + 'static,
 {
+    let log = Log::new(log, settings.log);
     let service = match settings.base.try_clone() {
         Ok(service) => service,
         Err(_) => return Err(ServeFault::NoMemory),
     };
     let incarnation = incarnation_now(rt);
     let (mut merger, gates) = open(rt, rt.alloc(), service, settings.gates.len(), incarnation)?;
-    let served = serve_gates(rt, settings, gates, &mut merger, &mut out);
+    let served = serve_gates(rt, settings, gates, &mut merger, &mut out, log);
     merger.close(rt);
     served?;
     writeln!(out, "done")?;
@@ -101,23 +111,29 @@ where
 }
 
 /// Opens the gates' doors, makes the rounds, and waits for the gates to end.
-fn serve_gates<R, W>(
+fn serve_gates<R, W, L>(
     rt: &R,
     settings: &Settings,
     gates: Vec<Gate>,
     merger: &mut Merger,
     out: &mut W,
+    log: Log<L>,
 ) -> Result<(), ServeFault>
 where
     R: SocketRuntime + Threads + Sync + Send + Clone + Drop + 'static,
     W: Write,
+    L: Write + Copy + Send + 'static,
 {
-    let doors = open_doors(rt, settings, gates)?;
+    let doors = open_doors(rt, settings, gates, log)?;
     let said = say_ports(&doors, settings, out);
     let made = match said {
-        Ok(()) => make_rounds(rt, settings, merger, out),
+        Ok(()) => make_rounds(rt, settings, merger, out, log),
         Err(fault) => Err(fault),
     };
+    // Gates may serve for long after the last round, so it is told now.
+    if made.is_err() {
+        log.tell(rt.alloc(), Line::Output);
+    }
     let ended = doors.wait(rt);
     made?;
     ended
@@ -136,21 +152,23 @@ fn say_ports<W: Write>(doors: &Doors, settings: &Settings, out: &mut W) -> Resul
 }
 
 /// The rounds, each with a line of its own.
-fn make_rounds<R, W>(
+fn make_rounds<R, W, L>(
     rt: &R,
     settings: &Settings,
     merger: &mut Merger,
     out: &mut W,
+    log: Log<L>,
 ) -> Result<(), ServeFault>
 where
     R: SocketRuntime + Threads + Sync,
     W: Write,
+    L: Write + Copy,
 {
     for number in 1..=settings.rounds {
         if number > 1 {
             sleep_between(rt, settings);
         }
-        let round = Round::make(rt, settings, merger);
+        let round = Round::make(rt, number, settings, merger, log);
         say_round(number, round, out)?;
     }
     Ok(())

@@ -16,7 +16,9 @@ mod values;
 
 use crate::settings::archives::archives_at;
 use crate::settings::hosts::hosts_at;
-use crate::settings::values::{gates_at, number_at, number_or, originals_at, peers_at, service_at};
+use crate::settings::values::{
+    gates_at, number_at, number_or, originals_at, peers_at, service_at, wants,
+};
 pub use fault::{Key, SettingsFault};
 use hyper_edge::{AllowedHost, DEFAULT_PATIENCE};
 use memento_time::{ArchiveName, Clean, Original};
@@ -53,6 +55,8 @@ pub struct Settings {
     pub patience: u64,
     /// The hosts that archives' pages are fetched from; all where it is None.
     pub hosts: Option<Vec<AllowedHost>>,
+    /// Whether what went wrong is told in a log.
+    pub log: bool,
 
     ghost few_gates: { IsWithin Gates (length gates.items) },
     ghost few_connections: { IsWithin Connections connections },
@@ -92,6 +96,7 @@ fn settings_of(alloc: Global, table: &Table) -> Result<Settings, SettingsFault> 
     let archives = archives_at(alloc, table)?;
     let patience = number_or(table, Key::Patience, DEFAULT_PATIENCE)?;
     let hosts = hosts_at(alloc, table)?;
+    let log = wants(table, Key::Log)?;
     Ok(Settings {
         base,
         gates,
@@ -104,5 +109,6 @@ fn settings_of(alloc: Global, table: &Table) -> Result<Settings, SettingsFault> 
         archives,
         patience,
         hosts,
+        log,
     })
 }

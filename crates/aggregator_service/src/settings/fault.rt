@@ -24,6 +24,7 @@ pub enum Key {
     Patience,
     /// Optional.
     Hosts,
+    Log,
 }
 
 impl Key {
@@ -43,10 +44,12 @@ impl Key {
             Key::Archives => "archives",
             Key::Patience => "patience",
             Key::Hosts => "hosts",
+            Key::Log => "log",
         }
     }
 
-    /// The least and the greatest number at the key; for a list, of its elements. The base is one text.
+    /// The least and the greatest number at the key; for a list, of its elements. The base is one text. The
+    /// log is wanted (1) or not.
     pub fn limits(self) -> (u64, u64)
         ensures { result ≡ limits self }
     {
@@ -61,6 +64,7 @@ impl Key {
             Key::Archives => (0, 1_000),
             Key::Patience => (1, 86_400),
             Key::Hosts => (0, 1_000),
+            Key::Log => (0, 1),
         }
     }
 }

@@ -1,5 +1,5 @@
 //! What stands at the keys of settings: numbers, and lists of texts.
-ghost use Rattle.std.specs.Prelude.{IfOk, length};
+ghost use Rattle.std.specs.Prelude.{◌≡◌, IfErr, IfOk, length};
 ghost use Rattle.aggregator_service.specs.Limits.{IsWithin};
 
 use crate::settings::fault::{Key, SettingsFault};
@@ -33,6 +33,16 @@ pub(crate) fn number_or(table: &Table, key: Key, missing: u64) -> Result<u64, Se
         return Ok(missing);
     }
     number_at(table, key)
+}
+
+/// Whether a key holds `true`. A key that is missing doesn't.
+pub(crate) fn wants(table: &Table, key: Key) -> Result<bool, SettingsFault>
+    ensures { IfErr result (λ fault. fault ≡ SettingsFault.Key key) }
+{
+    let Some(value) = table.get(key.name()) else {
+        return Ok(false);
+    };
+    value.as_bool().ok_or(SettingsFault::Key(key))
 }
 
 /// The list at a key, where the number of its elements is within the limits of that key.

@@ -1,0 +1,62 @@
+-- The lines of the log.
+use Rattle.std.specs.Prelude.{ℕ, List, ◌++◌, codes}
+use Rattle.std.specs.Fmt.{decimal}
+use Rattle.harvester.specs.Faults.{walk_words}
+use Rattle.hyper_edge.specs.Faults.{edge_words, pull_words}
+use Rattle.published_index.specs.Faults.{refused_words}
+use Rattle.replica_exchange.specs.CursorRule as rule
+use Rattle.aggregator_service.specs.Notes.{counts_words}
+use Rattle.aggregator_service.specs.declared.lines.PeerFault.{PeerFault}
+use Rattle.aggregator_service.specs.declared.lines.PeerFault.TheVariants.{Pull, Take}
+use Rattle.aggregator_service.specs.declared.lines.Cause.{Cause}
+use Rattle.aggregator_service.specs.declared.lines.Cause.TheVariants.{Known, Unknown}
+use Rattle.aggregator_service.specs.declared.lines.Matter.{Matter}
+use Rattle.aggregator_service.specs.declared.lines.Matter.TheVariants.{Failed, Parts}
+use Rattle.aggregator_service.specs.declared.lines.Want.{Want}
+use Rattle.aggregator_service.specs.declared.lines.Want.TheVariants as want
+use Rattle.aggregator_service.specs.declared.lines.GateEnd.{GateEnd}
+use Rattle.aggregator_service.specs.declared.lines.GateEnd.TheVariants as end
+use Rattle.aggregator_service.specs.declared.lines.Line.{Line}
+use Rattle.aggregator_service.specs.declared.lines.Line.TheVariants.{Archive, Wanting, Peer, Unpublished, Output, Gate}
+
+-- why a peer brought nothing
+abbrev pub peer_words : PeerFault → List ℕ
+peer_words (Pull fault) = pull_words fault
+peer_words (Take fault) = rule.words_of fault
+
+-- why the first walk failed, behind how many did
+abbrev pub cause_words : Cause → List ℕ
+cause_words (Known fault url) = codes ", the first: " ++ walk_words fault ++ codes " from " ++ url.now
+cause_words Unknown = codes ""
+
+-- what is told of an archive
+abbrev pub matter_words : Matter → List ℕ
+matter_words (Failed counts cause) = counts_words counts ++ cause_words cause
+matter_words (Parts parts) = decimal parts ++ codes " harvests in part"
+
+-- what memory was refused for
+abbrev pub want_words : Want → List ℕ
+want_words want.Walks = codes "walks not begun: no memory"
+want_words want.Harvests = codes "harvests not kept: no memory"
+
+-- how a gate ended
+abbrev pub end_words : GateEnd → List ℕ
+end_words end.Served = codes "its last connection is served"
+end_words (end.Failed fault) = edge_words fault
+
+-- a line of the log behind `log: `
+abbrev pub line_words : Line → List ℕ
+line_words (Archive round name matter) =
+    codes "round " ++ decimal round ++ codes ": archive " ++ name.now ++ codes ": " ++ matter_words matter
+line_words (Wanting round count want) =
+    codes "round " ++ decimal round ++ codes ": " ++ decimal count ++ codes " " ++ want_words want
+line_words (Peer round base fault) =
+    codes "round " ++ decimal round ++ codes ": peer " ++ base.now ++ codes ": " ++ peer_words fault
+line_words (Unpublished round fault) = codes "round " ++ decimal round ++ codes ": " ++ refused_words
+line_words Output = codes "standard output fails: no further round is made"
+line_words (Gate number address end) =
+    codes "gate " ++ decimal number ++ codes " (" ++ address.now ++ codes ") ended: " ++ end_words end
+
+-- a whole line of the log
+abbrev pub log_line : Line → List ℕ
+log_line line = codes "log: " ++ line_words line ++ codes "\n"
