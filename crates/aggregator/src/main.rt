@@ -1,7 +1,7 @@
 //! The program: what its words ask for, and what it says and answers when it ends.
 //!
-//! Standard output has what the command writes and nothing else. A failure is one line on standard error, behind the log
-//! where the settings ask for one.
+//! Standard output has what the command writes and nothing else. A failure is one line on standard error, behind the
+//! log where the settings ask for one.
 #![tactic(auto)]
 
 mod check;

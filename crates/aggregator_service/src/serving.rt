@@ -70,7 +70,8 @@ impl From<OpenFault> for ServeFault {
 }
 
 /// Serves by these settings until the last round and the last connection, and writes what it does, line by line. Where
-/// the settings ask for a log, what went wrong is written to `log`, a line by a call; each gate's thread has a copy of it.
+/// the settings ask for a log, what went wrong is written to `log`, a line by a call; each gate's thread has a copy of
+/// it.
 ///
 /// `NoMemory` only before the first round, or where a gate that has ended ran out of it. After a failed write no
 /// further round is made, and Device is answered once the gates have ended.
