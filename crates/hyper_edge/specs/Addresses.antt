@@ -24,8 +24,8 @@ holds_v4 segments =
     list_all (λ segment. segment == 0) (take 5 segments)
     && (slice_index segments 5 == 0 || slice_index segments 5 == 0xffff)
 
--- An IPv6 address is internal from fc00:: on (unique-local, link-local, site-local and multicast), and where it stands for
--- an internal IPv4 address. So are `::` and `::1`, which are written for 0.0.0.0 and 0.0.0.1.
+-- An IPv6 address is internal from fc00:: on (unique-local, link-local, site-local and multicast), and where it stands
+-- for an internal IPv4 address. So are `::` and `::1`, which are written for 0.0.0.0 and 0.0.0.1.
 abbrev pub is_internal_v6 : List ℕ → Bool
 is_internal_v6 segments =
     nat_le 0xfc00 (slice_index segments 0)
