@@ -1,12 +1,10 @@
 -- Entries of hosts, and what is fetched where they are listed.
-use Rattle.std.proofs.Common.{◌≡◌, ◌≢◌, ℕ, List, codes, Option, Some, None, Result, Ok, Err, IfOk, true, Bor, refl, sym, ap, subst, ◌∙◌}
+use Rattle.std.proofs.Common.{◌≡◌, ℕ, List, Option, Some, None, Result, Ok, Err, IfOk, true, Bor, sym, subst}
 use Rattle.std.specs.Prelude.{IfSome, All, MatchOption, filter}
 use Rattle.std.proofs.lemmas.List.Elements.{filter_passes}
 use Rattle.std.specs.declared.net.socket_addr.SocketAddr.{SocketAddr}
 use Rattle.std.specs.Net.Socket.{socket_ip}
-use Rattle.url.specs.declared.error.ParseError.{ParseError}
 use Rattle.url.specs.declared.host.Host.{Host}
-use Rattle.url.specs.Host.{borrowed_host}
 use Rattle.url.specs.Parts.{Parts, nonempty_host, text_between}
 use Rattle.url.specs.Parser.{Parsed, parse_url}
 use Rattle.url_texts.specs.Reading.{IsReading}

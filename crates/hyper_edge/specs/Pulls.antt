@@ -1,5 +1,5 @@
 -- What a pull takes of a peer's answer.
-use Rattle.std.specs.Prelude.{◌≡◌, ◌≢◌, ◌≤◌, ℕ, List, length}
+use Rattle.std.specs.Prelude.{◌≡◌, ◌≢◌, ◌≤◌, length}
 use Rattle.replica_exchange.specs.declared.delta.Delta.{Delta}
 use Rattle.replica_exchange.specs.DeltaText.{IsDeltaText}
 use Rattle.replica_exchange.specs.Faults.{longest_text}

@@ -1,4 +1,4 @@
-use Rattle.std.proofs.Common.{ap, sym, ◌∙◌, rules}
+use Rattle.std.proofs.Common.{sym, rules}
 use Rattle.url.specs.Host.{borrowed_host}
 use Rattle.hyper_edge.proofs.Listed.{left_allowed}
 use Rattle.hyper_edge.proofs.exchanges.addresses_of.Goals as goal
