@@ -17,7 +17,10 @@ TRIALS = {
 }
 
 # Tests that take longer without a proof than `rt try` waits: they say nothing of a bug.
-SLOW_TESTS = (("knowledge_trials/src/exchange.rt", "texts_have_at_most_268_435_456_bytes"),)
+SLOW_TESTS = (
+    ("knowledge_trials/src/exchange.rt", "texts_have_at_most_268_435_456_bytes"),
+    ("text_trials/src/pages.rt", "limits_of_pages"),
+)
 
 # The planted bugs that were tried and refused by what their blocks name, a line each: COMMIT LIST CHECKSUM.
 TRIED = HERE / "tried"
