@@ -55,3 +55,5 @@ pub record AreLimits : Type 0 where
   pub patience : TakesUpTo key.Patience (24 * 60 * 60)
   pub no_host : IsWithin key.Hosts 0
   pub hosts : TakesUpTo key.Hosts (10 ^ 3)
+  pub no_log : IsWithin key.Log 0
+  pub log : TakesUpTo key.Log 1

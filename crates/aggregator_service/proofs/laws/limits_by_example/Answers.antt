@@ -28,4 +28,6 @@ returns c = record {
   patience = ((omega arith, omega arith), λ within. omega (arith, within.1));
   no_host = (omega arith, omega arith);
   hosts = ((omega arith, omega arith), λ within. omega (arith, within.1));
+  no_log = (omega arith, omega arith);
+  log = ((omega arith, omega arith), λ within. omega (arith, within.1));
 }
