@@ -51,10 +51,12 @@ impl Fetch for HyperFetch {
 }
 
 impl Fetch for CarefulFetch<'_> {
-    ghost use Rattle.std.specs.Prelude.{⊤};
+    ghost use Rattle.std.specs.Prelude.{⊤, IfSome};
     ghost use Rattle.timemap_reader.specs.Answer.{IsShort};
+    ghost use Rattle.hyper_edge.specs.Hosts.{IsListedText};
 
-    ghost answers = { λ _ _ answer. IsShort answer.body };
+    ghost answers = { λ fetcher url answer.
+        IsShort answer.body × IfSome fetcher.hosts (λ listed. IsListedText listed.now url) };
 
     ghost faults = { λ _ _ _. ⊤ };
 
