@@ -32,7 +32,12 @@ returns-clause-tally c =
       found = c.take_out.ensures.found;
       tally = c.requires.tally;
     } in
-    let count : c.match-take_out.count ≡ taken c.take_out.result + 1 = elim c.match-take_out.branch [ in-Some w ↦ omega (arith, ap taken w.in-Some.is) | in-None w ↦ omega (arith, ap taken w.in-None.is) ] in
+    let count : c.match-take_out.count ≡ taken c.take_out.result + 1 =
+    elim c.match-take_out.branch [
+      | in-Some w ↦ omega (arith, ap taken w.in-Some.is)
+      | in-None w ↦
+          omega (arith, ap taken w.in-None.is)
+    ] in
     let put : c.push.new.self.entries ≡ list ++ record { memento = c.args.memento; count = c.match-take_out.count } ∷ [] = grind (arith, common_steps) in
     subst (λ (xs : List Counted). IsTally (whole xs lifted)) (sym put) (tally_with _ _ _ _ _ c.match-take_out.count parted (omega (arith, count)))
 
@@ -48,6 +53,11 @@ returns-clause-counts c m =
       found = c.take_out.ensures.found;
       tally = c.requires.tally;
     } in
-    let count : c.match-take_out.count ≡ taken c.take_out.result + 1 = elim c.match-take_out.branch [ in-Some w ↦ omega (arith, ap taken w.in-Some.is) | in-None w ↦ omega (arith, ap taken w.in-None.is) ] in
+    let count : c.match-take_out.count ≡ taken c.take_out.result + 1 =
+    elim c.match-take_out.branch [
+      | in-Some w ↦ omega (arith, ap taken w.in-Some.is)
+      | in-None w ↦
+          omega (arith, ap taken w.in-None.is)
+    ] in
     let put : c.push.new.self.entries ≡ list ++ record { memento = c.args.memento; count = c.match-take_out.count } ∷ [] = grind (arith, common_steps) in
     ap (λ (xs : List Counted). count_of (whole xs lifted) m) put ∙ counts_more _ _ _ _ _ c.match-take_out.count parted count m

@@ -21,7 +21,8 @@ returns-then-counted-gt1-clause-tally c =
     let is = count_itself _ _ _ _ _ parted in
     let left = c.in-Some.counted.count - 1 in
     let put : c.push.new.self.entries ≡ list ++ record { memento = c.in-Some.counted.memento; count = left } ∷ [] = grind (arith, common_steps) in
-    let same : c.push.new.self.entries ≡ list ++ record { memento = c.args.memento.now; count = left } ∷ [] = put ∙ ap (λ (m : Memento). list ++ record { memento = m; count = left } ∷ []) c.in-Some.ensures.found in
+    let same : c.push.new.self.entries ≡ list ++ record { memento = c.args.memento.now; count = left } ∷ [] =
+    put ∙ ap (λ (m : Memento). list ++ record { memento = m; count = left } ∷ []) c.in-Some.ensures.found in
     subst (λ (xs : List Counted). IsTally (whole xs lifted)) (sym same) (tally_with _ _ _ _ _ left parted (omega arith))
 
 pub returns-then-counted-gt1-clause-counts : goal.returns-then-counted-gt1-clause-counts
@@ -39,8 +40,10 @@ returns-then-counted-gt1-clause-counts c m =
     let is = count_itself _ _ _ _ _ parted in
     let left = c.in-Some.counted.count - 1 in
     let put : c.push.new.self.entries ≡ list ++ record { memento = c.in-Some.counted.memento; count = left } ∷ [] = grind (arith, common_steps) in
-    let same : c.push.new.self.entries ≡ list ++ record { memento = c.args.memento.now; count = left } ∷ [] = put ∙ ap (λ (m : Memento). list ++ record { memento = m; count = left } ∷ []) c.in-Some.ensures.found in
-    ap (λ (xs : List Counted). count_of (whole xs lifted) m + once m c.args.memento.now) same ∙ counts_less _ _ _ _ _ left parted (omega (arith, ap taken c.in-Some.is)) m
+    let same : c.push.new.self.entries ≡ list ++ record { memento = c.args.memento.now; count = left } ∷ [] =
+    put ∙ ap (λ (m : Memento). list ++ record { memento = m; count = left } ∷ []) c.in-Some.ensures.found in
+    ap (λ (xs : List Counted). count_of (whole xs lifted) m + once m c.args.memento.now) same
+    ∙ counts_less _ _ _ _ _ left parted (omega (arith, ap taken c.in-Some.is)) m
 
 pub returns-else-counted-gt1-clause-tally : goal.returns-else-counted-gt1-clause-tally
 returns-else-counted-gt1-clause-tally c =

@@ -18,7 +18,9 @@ returns-then-not-is_not_before-clause-ok c =
     let p = c.args.part in
     let b = kept_in w p [] in
     older_joined w p c.args.self.now b refl
-    (sym (c.is_not_before.ensures ∙ (λ i. not_before ((c.whole.ensures ∙ ap (λ (k : Kept). whole k) c.reading.ensures) i) (c.revision.ensures i))) ∙ c.if-not-is_not_before.true)
+    (sym (c.is_not_before.ensures ∙ (λ i. not_before
+    ((c.whole.ensures ∙ ap (λ (k : Kept). whole k) c.reading.ensures) i) (c.revision.ensures i)))
+    ∙ c.if-not-is_not_before.true)
 
 pub invariant_of-self-in-Less : goal.invariant_of-self-in-Less
 invariant_of-self-in-Less c =
@@ -26,9 +28,14 @@ invariant_of-self-in-Less c =
     let w = c.args.is_whole in
     let p = c.args.part in
     let b = kept_in w p [] in
-    let late = sym (c.is_not_before.ensures ∙ (λ i. not_before ((c.whole.ensures ∙ ap (λ (k : Kept). whole k) c.reading.ensures) i) (c.revision.ensures i))) ∙ c.if-not-is_not_before.false in
-    let lt : p.0 < e.first.0 = subst (λ n. n < e.first.0) c.revision-2.ensures (subst (λ n. c.revision-2.result < n) c.revision-3.ensures (ranked c.revision-2.result c.revision-3.result Less (sym (sym c.cmp.ensures ∙ c.in-Less.is)))) in
-    subst (λ (xs : List (ℕ × Mementos)). PartsRise (p ∷ xs)) (sym (c.in_ok-insert-in-Less.ensures.ok ∙ ap (λ (q : ℕ × Mementos). q ∷ e.later) c.in_ok-next-in-Less.ensures))
+    let late = sym (c.is_not_before.ensures
+    ∙ (λ i. not_before ((c.whole.ensures ∙ ap (λ (k : Kept). whole k) c.reading.ensures) i) (c.revision.ensures i)))
+    ∙ c.if-not-is_not_before.false in
+    let lt : p.0 < e.first.0 = subst (λ n. n < e.first.0) c.revision-2.ensures
+    (subst (λ n. c.revision-2.result < n) c.revision-3.ensures
+    (ranked c.revision-2.result c.revision-3.result Less (sym (sym c.cmp.ensures ∙ c.in-Less.is)))) in
+    subst (λ (xs : List (ℕ × Mementos)). PartsRise (p ∷ xs))
+    (sym (c.in_ok-insert-in-Less.ensures.ok ∙ ap (λ (q : ℕ × Mementos). q ∷ e.later) c.in_ok-next-in-Less.ensures))
     (comes_first e.is_whole w e.first p e.later c.args.self.now b c.self.view_is refl c.self.invariant late lt).0
 
 pub returns-in_ok-insert-in-Less-clause-ok : goal.returns-in_ok-insert-in-Less-clause-ok
@@ -37,8 +44,12 @@ returns-in_ok-insert-in-Less-clause-ok c =
     let w = c.args.is_whole in
     let p = c.args.part in
     let b = kept_in w p [] in
-    let late = sym (c.is_not_before.ensures ∙ (λ i. not_before ((c.whole.ensures ∙ ap (λ (k : Kept). whole k) c.reading.ensures) i) (c.revision.ensures i))) ∙ c.if-not-is_not_before.false in
-    let lt : p.0 < e.first.0 = subst (λ n. n < e.first.0) c.revision-2.ensures (subst (λ n. c.revision-2.result < n) c.revision-3.ensures (ranked c.revision-2.result c.revision-3.result Less (sym (sym c.cmp.ensures ∙ c.in-Less.is)))) in
+    let late = sym (c.is_not_before.ensures
+    ∙ (λ i. not_before ((c.whole.ensures ∙ ap (λ (k : Kept). whole k) c.reading.ensures) i) (c.revision.ensures i)))
+    ∙ c.if-not-is_not_before.false in
+    let lt : p.0 < e.first.0 = subst (λ n. n < e.first.0) c.revision-2.ensures
+    (subst (λ n. c.revision-2.result < n) c.revision-3.ensures
+    (ranked c.revision-2.result c.revision-3.result Less (sym (sym c.cmp.ensures ∙ c.in-Less.is)))) in
     ap (kept_in w p) (c.in_ok-insert-in-Less.ensures.ok ∙ ap (λ (q : ℕ × Mementos). q ∷ e.later) c.in_ok-next-in-Less.ensures)
     ∙ (comes_first e.is_whole w e.first p e.later c.args.self.now b c.self.view_is refl c.self.invariant late lt).1
 
@@ -48,8 +59,11 @@ returns-in_ok-absorb-in-Equal-clause-ok c =
     let w = c.args.is_whole in
     let p = c.args.part in
     let b = kept_in w p [] in
-    let same : p.0 ≡ e.first.0 = sym c.revision-2.ensures ∙ (ranked c.revision-2.result c.revision-3.result Equal (sym (sym c.cmp.ensures ∙ c.in-Equal.is)) ∙ c.revision-3.ensures) in
-    ap (λ (q : ℕ × Mementos). kept_in (e.is_whole || w) q e.later) (c.in_ok-absorb-in-Equal.ensures.ok ∙ (λ i. (e.first.0, unite e.first.1 (c.into_set.ensures i))))
+    let same : p.0 ≡ e.first.0 = sym c.revision-2.ensures
+    ∙ (ranked c.revision-2.result c.revision-3.result Equal (sym (sym c.cmp.ensures ∙ c.in-Equal.is))
+    ∙ c.revision-3.ensures) in
+    ap (λ (q : ℕ × Mementos). kept_in (e.is_whole || w) q e.later) (c.in_ok-absorb-in-Equal.ensures.ok
+    ∙ (λ i. (e.first.0, unite e.first.1 (c.into_set.ensures i))))
     ∙ (comes_to_first e.is_whole w e.first p e.later c.args.self.now b c.self.view_is refl c.self.invariant same).1
 
 pub invariant_of-self-then-is_whole : goal.invariant_of-self-then-is_whole
@@ -58,8 +72,12 @@ invariant_of-self-then-is_whole c =
     let w = c.args.is_whole in
     let p = c.args.part in
     let b = kept_in w p [] in
-    let lt : e.first.0 < p.0 = subst (λ n. e.first.0 < n) c.revision-2.ensures (subst (λ n. n < c.revision-2.result) c.revision-3.ensures (ranked c.revision-2.result c.revision-3.result Greater (sym (sym c.cmp.ensures ∙ c.in-Greater.is)))) in
-    (join_from_later e.is_whole w e.first p e.later c.args.self.now b c.self.view_is refl c.self.invariant c.in_ok-latest-in-Greater.latest c.replace_older.new.self c.if-is_whole.true lt c.in_ok-latest-in-Greater.ensures.ok).0
+    let lt : e.first.0 < p.0 = subst (λ n. e.first.0 < n) c.revision-2.ensures
+    (subst (λ n. n < c.revision-2.result) c.revision-3.ensures
+    (ranked c.revision-2.result c.revision-3.result Greater (sym (sym c.cmp.ensures ∙ c.in-Greater.is)))) in
+    (join_from_later e.is_whole w e.first p e.later c.args.self.now b c.self.view_is refl c.self.invariant
+    c.in_ok-latest-in-Greater.latest c.replace_older.new.self c.if-is_whole.true lt
+    c.in_ok-latest-in-Greater.ensures.ok).0
 
 pub returns-in_ok-latest-in-Greater-clause-ok : goal.returns-in_ok-latest-in-Greater-clause-ok
 returns-in_ok-latest-in-Greater-clause-ok c =
@@ -67,8 +85,12 @@ returns-in_ok-latest-in-Greater-clause-ok c =
     let w = c.args.is_whole in
     let p = c.args.part in
     let b = kept_in w p [] in
-    let lt : e.first.0 < p.0 = subst (λ n. e.first.0 < n) c.revision-2.ensures (subst (λ n. n < c.revision-2.result) c.revision-3.ensures (ranked c.revision-2.result c.revision-3.result Greater (sym (sym c.cmp.ensures ∙ c.in-Greater.is)))) in
-    (join_from_later e.is_whole w e.first p e.later c.args.self.now b c.self.view_is refl c.self.invariant c.in_ok-latest-in-Greater.latest c.replace_older.new.self c.if-is_whole.true lt c.in_ok-latest-in-Greater.ensures.ok).1
+    let lt : e.first.0 < p.0 = subst (λ n. e.first.0 < n) c.revision-2.ensures
+    (subst (λ n. n < c.revision-2.result) c.revision-3.ensures
+    (ranked c.revision-2.result c.revision-3.result Greater (sym (sym c.cmp.ensures ∙ c.in-Greater.is)))) in
+    (join_from_later e.is_whole w e.first p e.later c.args.self.now b c.self.view_is refl c.self.invariant
+    c.in_ok-latest-in-Greater.latest c.replace_older.new.self c.if-is_whole.true lt
+    c.in_ok-latest-in-Greater.ensures.ok).1
 
 pub invariant_of-self-in-Greater-2 : goal.invariant_of-self-in-Greater-2
 invariant_of-self-in-Greater-2 c =
@@ -76,7 +98,9 @@ invariant_of-self-in-Greater-2 c =
     let w = c.args.is_whole in
     let p = c.args.part in
     let b = kept_in w p [] in
-    let lt : e.first.0 < p.0 = subst (λ n. e.first.0 < n) c.revision-2.ensures (subst (λ n. n < c.revision-2.result) c.revision-3.ensures (ranked c.revision-2.result c.revision-3.result Greater (sym (sym c.cmp.ensures ∙ c.in-Greater-2.is)))) in
+    let lt : e.first.0 < p.0 = subst (λ n. e.first.0 < n) c.revision-2.ensures
+    (subst (λ n. n < c.revision-2.result) c.revision-3.ensures
+    (ranked c.revision-2.result c.revision-3.result Greater (sym (sym c.cmp.ensures ∙ c.in-Greater-2.is)))) in
     after_either c.put.result (λ xs. PartsRise (e.first ∷ xs)) e.later (put_part e.later p) c.put.new.self c.put.ensures.ok c.put.ensures.err
     (comes_behind e.is_whole w e.first p e.later c.args.self.now b c.self.view_is refl c.self.invariant c.if-is_whole.false lt).0 c.self.invariant
 
@@ -86,6 +110,8 @@ returns-in-Greater-2-clause-ok c =
     let w = c.args.is_whole in
     let p = c.args.part in
     let b = kept_in w p [] in
-    let lt : e.first.0 < p.0 = subst (λ n. e.first.0 < n) c.revision-2.ensures (subst (λ n. n < c.revision-2.result) c.revision-3.ensures (ranked c.revision-2.result c.revision-3.result Greater (sym (sym c.cmp.ensures ∙ c.in-Greater-2.is)))) in
+    let lt : e.first.0 < p.0 = subst (λ n. e.first.0 < n) c.revision-2.ensures
+    (subst (λ n. n < c.revision-2.result) c.revision-3.ensures
+    (ranked c.revision-2.result c.revision-3.result Greater (sym (sym c.cmp.ensures ∙ c.in-Greater-2.is)))) in
     on_ok c.put.result (λ is. ap (kept_in e.is_whole e.first) is
     ∙ (comes_behind e.is_whole w e.first p e.later c.args.self.now b c.self.view_is refl c.self.invariant c.if-is_whole.false lt).1) c.put.ensures.ok

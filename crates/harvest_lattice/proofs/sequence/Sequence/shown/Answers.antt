@@ -16,7 +16,9 @@ returns-in-Some c =
     let e = c.self.inside in
     on_ok (λ x. arc_value x) c.share.result
     (c.in-Some.ensures ∙ (ap (λ (es : List (ℕ × Mementos)). union_all (map_list (λ (p : ℕ × Mementos). p.1) (e.first ∷ es))) c.as_slice.ensures
-    ∙ ap (λ (es : List (ℕ × Mementos)). union_all (map_list (λ (p : ℕ × Mementos). p.1) es)) (sym (entries_of_it e.is_whole e.first e.later c.args.self.now c.self.view_is c.self.invariant)))) c.share.ensures
+    ∙ ap (λ (es : List (ℕ × Mementos)). union_all (map_list (λ (p : ℕ × Mementos). p.1) es))
+    (sym (entries_of_it e.is_whole e.first e.later c.args.self.now c.self.view_is c.self.invariant))))
+    c.share.ensures
 
 pub returns : goal.returns
 returns c =
