@@ -22,5 +22,5 @@ returns-in-Some c =
 
 pub returns : goal.returns
 returns c =
-    c.in_ok-list.ensures.ok ∙ (c.of.ensures ∙ shown_of_all c.args.self.now c.append_all.new.list.items
-    (c.in_ok-append_all.ensures ∙ (λ i. (c.new-all.ensures.items i) ++ items_of (map.entries (c.reading.ensures i).revisions))))
+    c.in_ok-list.ensures.ok ∙ (c.in_ok-union.ensures ∙ (c.of.ensures ∙ shown_of_all c.args.self.now c.append_all.new.list.items
+    (c.in_ok-append_all.ensures ∙ (λ i. (c.new-all.ensures.items i) ++ items_of (map.entries (c.reading.ensures i).revisions)))))
