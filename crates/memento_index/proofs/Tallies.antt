@@ -162,6 +162,17 @@ pub record IsParted (m : Memento) (a b old : List Counted) (r : Option Counted) 
   pub found : IfSome r (λ e. e.memento ≡ m)
   pub tally : IsTally old
 
+-- what a list and what is lifted come to, once a memento is taken out
+pub parted_at : (m : Memento) (a b made old : List Counted) (r : Option Counted) → a ++ (option_to_list r ++ b) ≡ made
+    → AreBelow m a → AreAbove m b → IfSome r (λ e. e.memento ≡ m) → made ≡ old → IsTally old → IsParted m a b old r
+parted_at m a b made old r parts below above found is tally = record {
+  parts = parts ∙ is;
+  below = below;
+  above = above;
+  found = found;
+  tally = tally;
+}
+
 -- with this count in the middle
 pub tally_with : (m : Memento) (a b old : List Counted) (r : Option Counted) (n : ℕ) → IsParted m a b old r → 0 < n
     → IsTally ((a ++ record { memento = m; count = n } ∷ []) ++ b)
