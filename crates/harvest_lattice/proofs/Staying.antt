@@ -1,5 +1,7 @@
 -- What revisions show together, and two entries of which each revision stays.
-use Rattle.std.proofs.Common.{◌≡◌, ℕ, zero, suc, ◌+◌, ◌<◌, ◌≤◌, Bool, true, false, cond, ◌||◌, max, map, List, [], ◌∷◌, ◌++◌, length, take, get_or, Option, Some, None, IfSome, is_some, refl, sym, ap, subst, ◌∙◌, arith}
+use Rattle.std.proofs.Common.{◌≡◌, ℕ, zero, suc, ◌+◌, ◌<◌, ◌≤◌, Bool, true, false, cond, ◌||◌, max, map, List, [], ◌∷◌}
+use Rattle.std.proofs.Common.{◌++◌, length, take, get_or, Option, Some, None, IfSome, is_some, refl, sym, ap, subst}
+use Rattle.std.proofs.Common.{◌∙◌, arith}
 use Rattle.std.specs.Prelude.{T, IsTrue}
 use Rattle.std.specs.Cmp.{both_ways}
 use Rattle.std.proofs.lemmas.Bool.{true≢false, and_from, or_left, or_right, or_cases, leb-true, le-leb}
@@ -13,7 +15,8 @@ use Rattle.memento_sets.specs.MementoSets.{Mementos}
 use Rattle.harvest_lattice.specs.Lattice.{Kept, least, whole, held, not_before, join_kept}
 use Rattle.harvest_lattice.specs.Knowledge.{mementos_of, union_all}
 use Rattle.harvest_lattice.specs.Parts.{AllStay}
-use Rattle.harvest_lattice.proofs.Entries.{unite, union_semilattice, union_taken, both_held, same_mementos, contains-union, least_below, whole_below, nb-max, held-join_kept}
+use Rattle.harvest_lattice.proofs.Entries.{unite, union_semilattice, union_taken, both_held, same_mementos}
+use Rattle.harvest_lattice.proofs.Entries.{contains-union, least_below, whole_below, nb-max, held-join_kept}
 use Rattle.harvest_lattice.proofs.Knowledge.{has_at, in_entry, out_entry}
 
 -- ---- revisions one after the other
@@ -33,10 +36,13 @@ take_more [] k p lt is = absurd (omega arith)
 take_more (e ∷ es) zero p lt is = ap (λ (q : ℕ × Mementos). q ∷ []) (sym is)
 take_more (e ∷ es) (suc k) p lt is = ap (λ ys. e ∷ ys) (take_more es k p (omega arith) is)
 
-pub shows_more : (e : ℕ × Mementos) (es : List (ℕ × Mementos)) (k : ℕ) (p : ℕ × Mementos) (s : Mementos) → k < length es → p ≡ get_or es k p → s ≡ union_all (map set_of (e ∷ take k es)) → set.union s p.1 ≡ union_all (map set_of (e ∷ take (k + 1) es))
+pub shows_more : (e : ℕ × Mementos) (es : List (ℕ × Mementos)) (k : ℕ) (p : ℕ × Mementos) (s : Mementos) → k < length es
+    → p ≡ get_or es k p → s ≡ union_all (map set_of (e ∷ take k es)) → set.union s p.1
+    ≡ union_all (map set_of (e ∷ take (k + 1) es))
 shows_more e es k p s lt is all =
     ap (λ t. set.union t p.1) all
-    ∙ (sym (one_more (e ∷ take k es) p) ∙ ap (λ (ys : List (ℕ × Mementos)). union_all (map set_of (e ∷ ys))) (sym (take_more es k p lt is) ∙ ap (λ n. take n es) (next k)))
+    ∙ (sym (one_more (e ∷ take k es) p) ∙ ap (λ (ys : List (ℕ × Mementos)). union_all (map set_of (e ∷ ys)))
+    (sym (take_more es k p lt is) ∙ ap (λ n. take n es) (next k)))
   where
     next : (k : ℕ) → suc k ≡ k + 1
     next k = omega arith
@@ -73,7 +79,8 @@ own_stays a q s found =
     ] refl
 
 -- nor than another that its first revision isn't older than
-also_stays : (a : Kept) (w : Option ℕ) → IfSome (least a.revisions) (λ r. IsTrue (not_before w r)) → (q : ℕ) (s : Mementos) → held a q ≡ Some s → not_before w q ≡ true
+also_stays : (a : Kept) (w : Option ℕ) → IfSome (least a.revisions) (λ r. IsTrue (not_before w r))
+    → (q : ℕ) (s : Mementos) → held a q ≡ Some s → not_before w q ≡ true
 also_stays a w h q s found =
     elim (least a.revisions) as (λ l. least a.revisions ≡ l → IfSome l (λ r. IsTrue (not_before w r)) → not_before w q ≡ true) [
       | None ↦ λ is _. absurd (subst (λ l. T (is_some l)) is a.some)
@@ -84,7 +91,8 @@ module _ (a b : Kept) (all : AllStay a b) (m : Memento) where
   late : (q : ℕ) → not_before (whole a) q ≡ true → not_before (whole b) q ≡ true → not_before (join_values max (whole a) (whole b)) q ≡ true
   late q left right = nb-max (whole a) (whole b) q ∙ and_from (not_before (whole a) q) (not_before (whole b) q) left right
 
-  joined_has : (q : ℕ) → not_before (whole a) q ≡ true → not_before (whole b) q ≡ true → (has_at (held a q) m || has_at (held b q) m) ≡ true → set.contains (mementos_of (join_kept a b)) m ≡ true
+  joined_has : (q : ℕ) → not_before (whole a) q ≡ true → not_before (whole b) q ≡ true
+      → (has_at (held a q) m || has_at (held b q) m) ≡ true → set.contains (mementos_of (join_kept a b)) m ≡ true
   joined_has q left right has = in_entry (join_kept a b) m q
       (ap (λ v. has_at v m) (held-join_kept a b q ∙ ap (λ t. cond t (both_held (held a q) (held b q)) None) (late q left right))
       ∙ (has_either (held a q) (held b q) m ∙ has))
@@ -94,7 +102,8 @@ module _ (a b : Kept) (all : AllStay a b) (m : Memento) where
       let w = out_entry (join_kept a b) m h in
       let u = held a w.0 in
       let v = held b w.0 in
-      let has : has_at (both_held u v) m ≡ true = tested (not_before (join_values max (whole a) (whole b)) w.0) (both_held u v) m (ap (λ o. has_at o m) (sym (held-join_kept a b w.0)) ∙ w.1) in
+      let has : has_at (both_held u v) m ≡ true = tested (not_before (join_values max (whole a) (whole b)) w.0)
+      (both_held u v) m (ap (λ o. has_at o m) (sym (held-join_kept a b w.0)) ∙ w.1) in
       elim (or_cases (has_at u m) (has_at v m) (sym (has_either u v m) ∙ has)) [
         | inl left ↦ or_left (set.contains (mementos_of a) m) (set.contains (mementos_of b) m) (in_entry a m w.0 left)
         | inr right ↦ or_right (set.contains (mementos_of a) m) (set.contains (mementos_of b) m) (in_entry b m w.0 right)

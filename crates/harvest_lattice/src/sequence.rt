@@ -92,7 +92,8 @@ impl Sequence {
         (self.is_whole, self.first)
     }
 
-    // The mementos of all revisions, each once. Those of a revision that has all of them are shared and not copied.
+    // The mementos of all revisions, each once. Those of a revision that has all of them are shared and not copied; else
+    // they are packed, so that none keeps a revision's buffer.
     pub fn shown(&self) -> Result<Arc<Mementos>, NoMemory>
         ensures { IfOk result (λ list. arc_value list ≡ mementos_of self.now) }
     {
@@ -102,7 +103,8 @@ impl Sequence {
         let alloc = self.first.set().allocator();
         let mut all = Vec::new(alloc);
         self.reading().append_all(&mut all)?;
-        let list = Arc::new(alloc, Mementos::of(all))?;
+        let union = Mementos::of(all).packed()?;
+        let list = Arc::new(alloc, union)?;
         Ok(list)
     }
 

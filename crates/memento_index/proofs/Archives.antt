@@ -1,5 +1,6 @@
 -- The count of a memento is the number of archives that show it.
-use Rattle.std.proofs.Common.{◌≡◌, ℕ, ◌+◌, Bool, true, false, cond, ◌&&◌, ◌||◌, map, length, get_or, List, [], ◌∷◌, Option, Some, None, refl, sym, ap, subst, ◌∙◌, arith}
+use Rattle.std.proofs.Common.{◌≡◌, ℕ, ◌+◌, Bool, true, false, cond, ◌&&◌, ◌||◌, map, length, get_or, List, [], ◌∷◌}
+use Rattle.std.proofs.Common.{Option, Some, None, refl, sym, ap, subst, ◌∙◌, arith}
 use Rattle.std.specs.Prelude.{T, IsTrue, ◌↔◌}
 use Rattle.std.specs.List.{list_any, filter, AllByRecursion, Contains}
 use Rattle.std.specs.List.Sorted.{IsStrictlySortedBy}
@@ -60,12 +61,14 @@ archive_less k q lt same =
       | Greater ↦ λ wrong. wrong
     ] lt
 
-all_above : (k : Key) (es : List (Key × Kept)) (o : List ℕ) (m : Memento) → T (below_all key_cmp k es) → k.1 ≡ o → AllByRecursion (λ a. text_cmp k.0 a ≡ Less) (archives_in es o m)
+all_above : (k : Key) (es : List (Key × Kept)) (o : List ℕ) (m : Memento) → T (below_all key_cmp k es) → k.1 ≡ o
+    → AllByRecursion (λ a. text_cmp k.0 a ≡ Less) (archives_in es o m)
 all_above k [] o m h of_it = tt
 all_above k (e ∷ es) o m h of_it =
     let p = two_parts (is_lt (key_cmp k e.0)) (below_all key_cmp k es) h in
     let rest = all_above k es o m p.1 of_it in
-    elim (eq_by_cmp text_cmp o e.0.1) as (λ a. eq_by_cmp text_cmp o e.0.1 ≡ a → AllByRecursion (λ a. text_cmp k.0 a ≡ Less) (archives_if (a && set.contains (mementos_of e.1) m) e es o m)) [
+    elim (eq_by_cmp text_cmp o e.0.1) as (λ a. eq_by_cmp text_cmp o e.0.1 ≡ a
+    → AllByRecursion (λ a. text_cmp k.0 a ≡ Less) (archives_if (a && set.contains (mementos_of e.1) m) e es o m)) [
       | true ↦ λ t.
           elim (set.contains (mementos_of e.1) m) as (λ b. AllByRecursion (λ a. text_cmp k.0 a ≡ Less) (archives_if b e es o m)) [
             | true ↦ (archive_less k e.0 (less_from (key_cmp k e.0) p.0) (of_it ∙ same_text o e.0.1 t), rest)
@@ -80,7 +83,8 @@ each_once [] o m h = tt
 each_once (e ∷ es) o m h =
     let p = two_parts (below_all key_cmp e.0 es) (fmap.is_sorted key_cmp es) h in
     let rest = each_once es o m p.1 in
-    elim (eq_by_cmp text_cmp o e.0.1) as (λ a. eq_by_cmp text_cmp o e.0.1 ≡ a → IsStrictlySortedBy text_cmp (archives_if (a && set.contains (mementos_of e.1) m) e es o m)) [
+    elim (eq_by_cmp text_cmp o e.0.1) as (λ a. eq_by_cmp text_cmp o e.0.1 ≡ a
+    → IsStrictlySortedBy text_cmp (archives_if (a && set.contains (mementos_of e.1) m) e es o m)) [
       | true ↦ λ t.
           elim (set.contains (mementos_of e.1) m) as (λ b. IsStrictlySortedBy text_cmp (archives_if b e es o m)) [
             | true ↦ (all_above e.0 es o m p.0 (sym (same_text o e.0.1 t)), rest)
@@ -95,7 +99,8 @@ there_at : (v : Option Mementos) (m : Memento) → has_at v m ≡ true → (s : 
 there_at None m h = absurd (true≢false (sym h))
 there_at (Some s) m h = (s, refl, h)
 
-one_shows : (x : Entries) (o : List ℕ) (m : Memento) (e : Key × Kept) → fmap.get x e.0 ≡ Some e.1 → eq_by_cmp text_cmp o e.0.1 ≡ true → set.contains (mementos_of e.1) m ≡ true → IsShowing x o m e.0.0
+one_shows : (x : Entries) (o : List ℕ) (m : Memento) (e : Key × Kept) → fmap.get x e.0 ≡ Some e.1
+    → eq_by_cmp text_cmp o e.0.1 ≡ true → set.contains (mementos_of e.1) m ≡ true → IsShowing x o m e.0.0
 one_shows x o m e stands t has =
     let at = out_entry e.1 m has in
     let w = there_at (held e.1 at.0) m at.1 in
@@ -116,11 +121,13 @@ all_stand x = recursion_from_All (λ e. fmap.get x e.0 ≡ Some e.1) (fmap.entri
     let es = fmap.entries x in
     value_at x k (get_or es k d) (slice_get_read es (length es) k (get_or es k d) refl lt (get_or_default es k d (get_or es k d) lt)))
 
-all_show : (x : Entries) (es : List (Key × Kept)) (o : List ℕ) (m : Memento) → AllByRecursion (λ e. fmap.get x e.0 ≡ Some e.1) es → AllByRecursion (IsShowing x o m) (archives_in es o m)
+all_show : (x : Entries) (es : List (Key × Kept)) (o : List ℕ) (m : Memento)
+    → AllByRecursion (λ e. fmap.get x e.0 ≡ Some e.1) es → AllByRecursion (IsShowing x o m) (archives_in es o m)
 all_show x [] o m all = tt
 all_show x (e ∷ es) o m all =
     let rest = all_show x es o m all.1 in
-    elim (eq_by_cmp text_cmp o e.0.1) as (λ a. eq_by_cmp text_cmp o e.0.1 ≡ a → AllByRecursion (IsShowing x o m) (archives_if (a && set.contains (mementos_of e.1) m) e es o m)) [
+    elim (eq_by_cmp text_cmp o e.0.1) as (λ a. eq_by_cmp text_cmp o e.0.1 ≡ a
+    → AllByRecursion (IsShowing x o m) (archives_if (a && set.contains (mementos_of e.1) m) e es o m)) [
       | true ↦ λ t.
           elim (set.contains (mementos_of e.1) m) as (λ b. set.contains (mementos_of e.1) m ≡ b → AllByRecursion (IsShowing x o m) (archives_if b e es o m)) [
             | true ↦ λ has. (one_shows x o m e all.0 t has, rest)
@@ -141,11 +148,15 @@ found_passes p k v (e ∷ es) found pass =
 text_itself : (a : List ℕ) → eq_by_cmp text_cmp a a ≡ true
 text_itself a = ap is_eq (tied_itself nat_list_cmp_total a)
 
-any_archive : (a : List ℕ) (es : List (Key × Kept)) (o : List ℕ) (m : Memento) → list_any (λ e. shows o m e && eq_by_cmp text_cmp a e.0.0) es ≡ list_any (eq_by_cmp text_cmp a) (archives_in es o m)
+any_archive : (a : List ℕ) (es : List (Key × Kept)) (o : List ℕ) (m : Memento)
+    → list_any (λ e. shows o m e && eq_by_cmp text_cmp a e.0.0) es ≡ list_any (eq_by_cmp text_cmp a)
+    (archives_in es o m)
 any_archive a [] o m = refl
 any_archive a (e ∷ es) o m =
     let rest = any_archive a es o m in
-    elim (shows o m e) as (λ b. ((b && eq_by_cmp text_cmp a e.0.0) || list_any (λ e. shows o m e && eq_by_cmp text_cmp a e.0.0) es) ≡ list_any (eq_by_cmp text_cmp a) (archives_if b e es o m)) [
+    elim (shows o m e) as (λ b. ((b && eq_by_cmp text_cmp a e.0.0)
+    || list_any (λ e. shows o m e && eq_by_cmp text_cmp a e.0.0) es) ≡ list_any (eq_by_cmp text_cmp a)
+    (archives_if b e es o m)) [
       | true ↦ ap (λ r. eq_by_cmp text_cmp a e.0.0 || r) rest
       | false ↦ rest
     ]
@@ -165,7 +176,8 @@ archives_counted x o m =
       record {
         once = each_once es o m (fmap.entries_sorted x);
         each = λ archive. (
-          λ c. All-contains (IsShowing x o m) (archives_in es o m) archive (All-from_recursion (IsShowing x o m) (archives_in es o m) (all_show x es o m (all_stand x))) c,
+          λ c. All-contains (IsShowing x o m) (archives_in es o m) archive
+              (All-from_recursion (IsShowing x o m) (archives_in es o m) (all_show x es o m (all_stand x))) c,
           stands_there x o m archive,
         );
       },
@@ -188,4 +200,5 @@ listed_where_shown x o m = (there, back)
     back s =
         let w = s.1 in
         contains-shown_of x o m
-        ∙ found_passes (shows o m) (s.0, o) w.kept (fmap.entries x) (sym (fmap.get-entries x (s.0, o)) ∙ w.stands) (and_from _ _ (text_itself o) (entry_shows x o m s.0 w))
+        ∙ found_passes (shows o m) (s.0, o) w.kept (fmap.entries x) (sym (fmap.get-entries x (s.0, o)) ∙ w.stands)
+        (and_from _ _ (text_itself o) (entry_shows x o m s.0 w))

@@ -70,7 +70,9 @@ module _ (cmp : Memento → Memento → Ordering) (o : IsTotalOrder cmp) where
   least_is : (xs : List Memento) → MatchOption (least_by cmp xs) (xs ≡ []) (IsLeast cmp xs)
   least_is [] = refl
   least_is (x ∷ xs) =
-      elim (least_by cmp xs) as (λ r. MatchOption r (xs ≡ []) (IsLeast cmp xs) → MatchOption (join_values (λ a b. cond (is_gt (cmp a b)) b a) (Some x) r) (x ∷ xs ≡ []) (IsLeast cmp (x ∷ xs))) [
+      elim (least_by cmp xs) as (λ r. MatchOption r (xs ≡ []) (IsLeast cmp xs)
+      → MatchOption (join_values (λ a b. cond (is_gt (cmp a b)) b a) (Some x) r) (x ∷ xs ≡ [])
+      (IsLeast cmp (x ∷ xs))) [
         | None ↦ λ none. record {
           held = has_first x xs;
           least = λ n h. elim (has_cases x n xs h) [
@@ -110,22 +112,28 @@ contains_has ms m h = contains_key-keys ms m ∙ h
 pub nearest-is : (ms : Mementos) (t : ℕ) → MatchOption (nearest ms t) (set.items ms ≡ []) (IsNearest ms t)
 unfolding nearest
 nearest-is ms t =
-    elim (least_by (nearness_cmp t) (set.items ms)) as (λ r. MatchOption r (set.items ms ≡ []) (IsLeast (nearness_cmp t) (set.items ms)) → MatchOption r (set.items ms ≡ []) (IsNearest ms t)) [
+    elim (least_by (nearness_cmp t) (set.items ms)) as
+    (λ r. MatchOption r (set.items ms ≡ []) (IsLeast (nearness_cmp t) (set.items ms))
+    → MatchOption r (set.items ms ≡ []) (IsNearest ms t)) [
       | None ↦ λ none. none
       | Some m ↦ λ least. record {
         held = contains_has ms m least.held;
-        nearest = λ n h. not_greater (distance t m) (distance t n) (memento_cmp m n) (memento_cmp n m) (memento_cmp_total.antisymm n m) (least.least n (has_contains ms n h));
+        nearest = λ n h. not_greater (distance t m) (distance t n) (memento_cmp m n) (memento_cmp n m)
+            (memento_cmp_total.antisymm n m) (least.least n (has_contains ms n h));
       }
     ] (least_is (nearness_cmp t) (nearness_total t) (set.items ms))
 
 pub last-is : (ms : Mementos) → MatchOption (last ms) (set.items ms ≡ []) (IsLast ms)
 unfolding last
 last-is ms =
-    elim (least_by recency_cmp (set.items ms)) as (λ r. MatchOption r (set.items ms ≡ []) (IsLeast recency_cmp (set.items ms)) → MatchOption r (set.items ms ≡ []) (IsLast ms)) [
+    elim (least_by recency_cmp (set.items ms)) as
+    (λ r. MatchOption r (set.items ms ≡ []) (IsLeast recency_cmp (set.items ms))
+    → MatchOption r (set.items ms ≡ []) (IsLast ms)) [
       | None ↦ λ none. none
       | Some m ↦ λ least. record {
         held = contains_has ms m least.held;
-        last = λ n h. later n.at m.at (not_greater n.at m.at (text_cmp m.uri n.uri) (text_cmp n.uri m.uri) (nat_list_cmp_total.antisymm n.uri m.uri) (least.least n (has_contains ms n h)));
+        last = λ n h. later n.at m.at (not_greater n.at m.at (text_cmp m.uri n.uri) (text_cmp n.uri m.uri)
+            (nat_list_cmp_total.antisymm n.uri m.uri) (least.least n (has_contains ms n h)));
       }
     ] (least_is recency_cmp recency_total (set.items ms))
   where
@@ -155,7 +163,9 @@ last_once ms m n a b =
       | inr same ↦ elim (b.last m a.held) [
         | inl later ↦ absurd (omega (arith, same.0))
         | inr back ↦
-            let uris = slice_cmp-IsAntisymmetric nat_cmp-IsAntisymmetric m.uri n.uri (tied (text_cmp m.uri n.uri) back.1 (λ less. same.1 (nat_list_cmp_total.antisymm n.uri m.uri ∙ less))) in
+            let uris = slice_cmp-IsAntisymmetric nat_cmp-IsAntisymmetric m.uri n.uri
+            (tied (text_cmp m.uri n.uri) back.1 (λ less. same.1 (nat_list_cmp_total.antisymm n.uri m.uri ∙ less)))
+            in
             λ i. record { at = sym same.0 i; uri = uris i }
       ]
     ]

@@ -4,7 +4,8 @@ use Rattle.memento_time.specs.declared.mementos.Memento.{Memento}
 use Rattle.memento_index.specs.Counts.{mementos_of}
 use Rattle.memento_index.specs.Tallies.{beside}
 
-pub beside-append : (ms : List Memento) (ns : List ℕ) (m : Memento) (n : ℕ) → length ms ≡ length ns → beside (ms ++ m ∷ []) (ns ++ n ∷ []) ≡ beside ms ns ++ record { memento = m; count = n } ∷ []
+pub beside-append : (ms : List Memento) (ns : List ℕ) (m : Memento) (n : ℕ) → length ms ≡ length ns
+    → beside (ms ++ m ∷ []) (ns ++ n ∷ []) ≡ beside ms ns ++ record { memento = m; count = n } ∷ []
 beside-append [] [] m n h = refl
 beside-append [] (k ∷ ns) m n h = absurd (omega arith)
 beside-append (x ∷ ms) [] m n h = absurd (omega arith)

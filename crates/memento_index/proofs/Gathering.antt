@@ -1,5 +1,6 @@
 -- The steps of a state's changes.
-use Rattle.std.proofs.Common.{◌≡◌, ℕ, zero, suc, ◌+◌, ◌<◌, ◌≤◌, Bool, true, false, cond, ◌||◌, map, take, length, get_or, List, [], ◌∷◌, ◌++◌, Option, Some, None, IfSome}
+use Rattle.std.proofs.Common.{◌≡◌, ℕ, zero, suc, ◌+◌, ◌<◌, ◌≤◌, Bool, true, false, cond, ◌||◌, map, take, length}
+use Rattle.std.proofs.Common.{get_or, List, [], ◌∷◌, ◌++◌, Option, Some, None, IfSome}
 use Rattle.std.proofs.Common.{refl, sym, ap, subst, ◌∙◌, arith}
 use Rattle.std.specs.List.{AllByRecursion}
 use Rattle.std.specs.List.Sorted.{IsStrictlySortedBy}
@@ -36,7 +37,9 @@ use Rattle.memento_index.specs.declared.counted.Step.{Step}
 use Rattle.memento_index.specs.declared.counted.Steps.{Steps}
 use Rattle.memento_index.specs.Counts.{once, occurrences, beginnings, endings}
 use Rattle.memento_index.specs.Showing.{shows_one, showing_by, shown_before, shown_after}
-use Rattle.memento_index.specs.Lists.{Lists, StepLists, each_step, steps_in, steps_or_none, steps_of, tally_of, FitsList, FitLists, AreNews, IsNewsAt, IsReplaced, AreStepped, IsShifted, AreGathered}
+use Rattle.memento_index.specs.Lists.{Lists, StepLists, each_step, steps_in, steps_or_none, steps_of, tally_of}
+use Rattle.memento_index.specs.Lists.{FitsList, FitLists, AreNews, IsNewsAt, IsReplaced, AreStepped, IsShifted}
+use Rattle.memento_index.specs.Lists.{AreGathered}
 use Rattle.memento_index.proofs.Shared.{replaced_begin, replaced_end}
 
 -- ---- a set's members in order stand once each
@@ -53,7 +56,8 @@ unfolding IsStrictlySortedBy
 held_any [] h m = refl
 held_any (n ∷ ms) h m =
     let rest = held_any ms h.1 m in
-    elim (eq_by_cmp memento_cmp m n) as (λ b. eq_by_cmp memento_cmp m n ≡ b → cond b 1 0 + occurrences ms m ≡ cond (b || list_any (eq_by_cmp memento_cmp m) ms) 1 0) [
+    elim (eq_by_cmp memento_cmp m n) as (λ b. eq_by_cmp memento_cmp m n ≡ b → cond b 1 0 + occurrences ms m
+    ≡ cond (b || list_any (eq_by_cmp memento_cmp m) ms) 1 0) [
       | true ↦ λ t.
           let same : m ≡ n = memento_cmp_exact m n ((Equal-is (memento_cmp m n)).0 t) in
           let none : occurrences ms m ≡ 0 = ap (occurrences ms) same ∙ none_held n ms h.0 in
@@ -142,7 +146,8 @@ takes_place x e a before after there old new = record {
     come m = ap (λ (ms : List Memento). occurrences ms m) new ∙ held_items (mementos_of (join_kept a e.1)) m
 
 -- or where nothing is held
-pub comes_alone : (x : Entries) (e : Key × Kept) (before after : List Memento) → fmap.get x e.0 ≡ None → before ≡ [] → after ≡ set.items (mementos_of e.1) → IsReplaced x e before after
+pub comes_alone : (x : Entries) (e : Key × Kept) (before after : List Memento) → fmap.get x e.0 ≡ None → before ≡ []
+    → after ≡ set.items (mementos_of e.1) → IsReplaced x e before after
 comes_alone x e before after none nil new = record {
   shows = λ m. omega (arith, now m, was m, come m, nothing m);
   shown = λ m. omega (arith, nothing m);
@@ -167,7 +172,8 @@ only_one (e ∷ []) r len first = (e.1, λ i. (same_Some e.0 r first i, e.1) ∷
 only_one (e ∷ f ∷ es) r len first = absurd (omega arith)
 
 pub are_of_one : (a b : Kept) (m n r q : ℕ) →
-    m ≡ fmap.len a.revisions → n ≡ fmap.len b.revisions → m ≡ 1 → n ≡ 1 → slice_get (fmap.keys a.revisions) 0 ≡ Some r → slice_get (fmap.keys b.revisions) 0 ≡ Some q → r ≡ q → AreOfOne a b
+    m ≡ fmap.len a.revisions → n ≡ fmap.len b.revisions → m ≡ 1 → n ≡ 1 → slice_get (fmap.keys a.revisions) 0 ≡ Some r
+    → slice_get (fmap.keys b.revisions) 0 ≡ Some q → r ≡ q → AreOfOne a b
 are_of_one a b m n r q ma nb one1 one2 fa fb same =
     let left = only_one (fmap.entries a.revisions) r (sym (fmap.len-entries a.revisions) ∙ (sym ma ∙ one1)) fa in
     let right = only_one (fmap.entries b.revisions) q (sym (fmap.len-entries b.revisions) ∙ (sym nb ∙ one2)) fb in
@@ -183,21 +189,33 @@ endings-append : (ss ts : List Step) (m : Memento) → endings (ss ++ ts) m ≡ 
 endings-append [] ts m = omega arith
 endings-append (s ∷ ss) ts m = let rest = endings-append ss ts m in omega (arith, rest)
 
-pub stepped : (before after : List Memento) (old more new : List Step) → new ≡ old ++ more → ((m : Memento) → beginnings more m + occurrences before m ≡ endings more m + occurrences after m) → ((m : Memento) → endings more m ≤ occurrences before m) → AreStepped before after old new
+pub stepped : (before after : List Memento) (old more new : List Step) → new ≡ old ++ more
+    → ((m : Memento) → beginnings more m + occurrences before m ≡ endings more m + occurrences after m)
+    → ((m : Memento) → endings more m ≤ occurrences before m) → AreStepped before after old new
 stepped before after old more new is counts shown = record {
-  counts = λ m. omega (arith, counts m, shown m, ap (λ (ss : List Step). beginnings ss m) is, ap (λ (ss : List Step). endings ss m) is, beginnings-append old more m, endings-append old more m);
+  counts = λ m. omega (
+    arith,
+    counts m,
+    shown m,
+    ap (λ (ss : List Step). beginnings ss m) is,
+    ap (λ (ss : List Step). endings ss m) is,
+    beginnings-append old more m,
+    endings-append old more m,
+  );
   shown = λ m. omega (arith, shown m, ap (λ (ss : List Step). endings ss m) is, endings-append old more m);
 }
 
 -- the steps from what goes to what comes are those of the archive
-pub shifted : (x : Entries) (e : Key × Kept) (before after : List Memento) (old new : List Step) → IsReplaced x e before after → AreStepped before after old new → IsShifted x e old new
+pub shifted : (x : Entries) (e : Key × Kept) (before after : List Memento) (old new : List Step)
+    → IsReplaced x e before after → AreStepped before after old new → IsShifted x e old new
 shifted x e before after old new replaced steps = record {
   counts = λ m. omega (arith, replaced.shows m, replaced.shown m, steps.counts m, steps.shown m);
   shown = λ m. omega (arith, replaced.shown m, steps.shown m);
 }
 
 -- all that goes ceases, and all that comes begins
-pub shifted_all : (x : Entries) (e : Key × Kept) (before after : List Memento) → IsReplaced x e before after → IsShifted x e [] (each_step false before ++ each_step true after)
+pub shifted_all : (x : Entries) (e : Key × Kept) (before after : List Memento) → IsReplaced x e before after
+    → IsShifted x e [] (each_step false before ++ each_step true after)
 shifted_all x e before after replaced = record {
   counts = λ m. omega (arith, replaced.shows m, replaced.shown m, replaced_begin before after m, replaced_end before after m);
   shown = λ m. omega (arith, replaced.shown m, replaced_end before after m);
@@ -205,19 +223,23 @@ shifted_all x e before after replaced = record {
 
 -- ---- steps taken out and put back
 
-pub none_gone : (m : StepLists) (a : List ℕ) → tree.get text_cmp m a ≡ None → (o : List ℕ) → tree.get text_cmp m o ≡ cond (eq_by_cmp text_cmp a o) None (tree.get text_cmp m o)
+pub none_gone : (m : StepLists) (a : List ℕ) → tree.get text_cmp m a ≡ None → (o : List ℕ) → tree.get text_cmp m o
+    ≡ cond (eq_by_cmp text_cmp a o) None (tree.get text_cmp m o)
 none_gone m a none o =
     elim (eq_by_cmp text_cmp a o) as (λ b. eq_by_cmp text_cmp a o ≡ b → tree.get text_cmp m o ≡ cond b None (tree.get text_cmp m o)) [
       | true ↦ λ t. ap (λ p. tree.get text_cmp m p) (sym (same_text a o t)) ∙ none
       | false ↦ λ _. refl
     ] refl
 
-module _ (m n w : StepLists) (a k : List ℕ) (v : Steps) (gone : (q : List ℕ) → tree.get text_cmp n q ≡ cond (eq_by_cmp text_cmp a q) None (tree.get text_cmp m q)) (put : (q : List ℕ) → tree.get text_cmp w q ≡ cond (is_at (text_cmp k) q) (Some v) (tree.get text_cmp n q)) (same : k ≡ a) where
+module _ (m n w : StepLists) (a k : List ℕ) (v : Steps) (gone : (q : List ℕ) → tree.get text_cmp n q
+    ≡ cond (eq_by_cmp text_cmp a q) None (tree.get text_cmp m q)) (put : (q : List ℕ) → tree.get text_cmp w q
+    ≡ cond (is_at (text_cmp k) q) (Some v) (tree.get text_cmp n q)) (same : k ≡ a) where
   here : tree.get text_cmp w a ≡ Some v
   here = put a ∙ ap (λ b. cond b (Some v) (tree.get text_cmp n a)) (ap (λ p. is_at (text_cmp p) a) same ∙ ap is_eq (tied_itself nat_list_cmp_total a))
 
   elsewhere : (o : List ℕ) → eq_by_cmp text_cmp a o ≡ false → tree.get text_cmp w o ≡ tree.get text_cmp m o
-  elsewhere o apart = put o ∙ (ap (λ b. cond b (Some v) (tree.get text_cmp n o)) (ap (λ p. is_at (text_cmp p) o) same ∙ apart) ∙ (gone o ∙ ap (λ b. cond b None (tree.get text_cmp m o)) apart))
+  elsewhere o apart = put o ∙ (ap (λ b. cond b (Some v) (tree.get text_cmp n o)) (ap (λ p. is_at (text_cmp p) o) same
+      ∙ apart) ∙ (gone o ∙ ap (λ b. cond b None (tree.get text_cmp m o)) apart))
 
   pub steps_put : steps_of w a ≡ steps_in v
   steps_put = ap (λ (s : Option Steps). steps_or_none s) here
@@ -228,13 +250,15 @@ module _ (m n w : StepLists) (a k : List ℕ) (v : Steps) (gone : (q : List ℕ)
   pub fit_put : (lists : Lists) → FitLists lists m → FitsList (tally_of lists a) v → FitLists lists w
   fit_put lists first comes o =
       elim (eq_by_cmp text_cmp a o) as (λ b. eq_by_cmp text_cmp a o ≡ b → IfSome (tree.get text_cmp w o) (FitsList (tally_of lists o))) [
-        | true ↦ λ t. subst (λ p. IfSome (tree.get text_cmp w p) (FitsList (tally_of lists p))) (same_text a o t) (subst (λ (s : Option Steps). IfSome s (FitsList (tally_of lists a))) (sym here) comes)
+        | true ↦ λ t. subst (λ p. IfSome (tree.get text_cmp w p) (FitsList (tally_of lists p))) (same_text a o t)
+            (subst (λ (s : Option Steps). IfSome s (FitsList (tally_of lists a))) (sym here) comes)
         | false ↦ λ apart. subst (λ (s : Option Steps). IfSome s (FitsList (tally_of lists o))) (sym (elsewhere o apart)) (first o)
       ] refl
 
 -- ---- row after row
 
-by-append : (kept : Key × Kept → Option Kept) (es fs : List (Key × Kept)) (o : List ℕ) (m : Memento) → showing_by kept (es ++ fs) o m ≡ showing_by kept es o m + showing_by kept fs o m
+by-append : (kept : Key × Kept → Option Kept) (es fs : List (Key × Kept)) (o : List ℕ) (m : Memento)
+    → showing_by kept (es ++ fs) o m ≡ showing_by kept es o m + showing_by kept fs o m
 by-append kept [] fs o m = omega arith
 by-append kept (e ∷ es) fs o m = let rest = by-append kept es fs o m in omega (arith, rest)
 
@@ -244,7 +268,10 @@ none_gathered x all none = record {
   shown = λ o m. omega (arith, ap (λ (ss : List Step). endings ss m) (none o));
 }
 
-pub one_more_gathered : (x : Entries) (es : List (Key × Kept)) (e : Key × Kept) (was now : StepLists) → AreGathered x es was → IsShifted x e (steps_of was e.0.1) (steps_of now e.0.1) → ((o : List ℕ) → eq_by_cmp text_cmp e.0.1 o ≡ false → steps_of now o ≡ steps_of was o) → AreGathered x (es ++ e ∷ []) now
+pub one_more_gathered : (x : Entries) (es : List (Key × Kept)) (e : Key × Kept) (was now : StepLists)
+    → AreGathered x es was → IsShifted x e (steps_of was e.0.1) (steps_of now e.0.1)
+    → ((o : List ℕ) → eq_by_cmp text_cmp e.0.1 o ≡ false → steps_of now o ≡ steps_of was o)
+    → AreGathered x (es ++ e ∷ []) now
 one_more_gathered x es e was now gathered here others = record {
   counts = λ o m. both o m (counts o m);
   shown = λ o m. less o m (shown o m);
@@ -253,38 +280,58 @@ one_more_gathered x es e was now gathered here others = record {
     alike : (o : List ℕ) → eq_by_cmp text_cmp o e.0.1 ≡ eq_by_cmp text_cmp e.0.1 o
     alike o = (eq_by_cmp_equiv nat_list_cmp_total).symm o e.0.1
 
-    before-append : (o : List ℕ) (m : Memento) → shown_before x (es ++ e ∷ []) o m ≡ shown_before x es o m + (cond (eq_by_cmp text_cmp e.0.1 o) (shows_one (fmap.get x e.0) m) 0 + 0)
-    before-append o m = by-append (λ f. fmap.get x f.0) es (e ∷ []) o m ∙ ap (λ b. shown_before x es o m + (cond b (shows_one (fmap.get x e.0) m) 0 + 0)) (alike o)
+    before-append : (o : List ℕ) (m : Memento) → shown_before x (es ++ e ∷ []) o m
+        ≡ shown_before x es o m + (cond (eq_by_cmp text_cmp e.0.1 o) (shows_one (fmap.get x e.0) m) 0 + 0)
+    before-append o m = by-append (λ f. fmap.get x f.0) es (e ∷ []) o m
+        ∙ ap (λ b. shown_before x es o m + (cond b (shows_one (fmap.get x e.0) m) 0 + 0)) (alike o)
 
-    after-append : (o : List ℕ) (m : Memento) → shown_after x (es ++ e ∷ []) o m ≡ shown_after x es o m + (cond (eq_by_cmp text_cmp e.0.1 o) (shows_one (Some (join_at x e)) m) 0 + 0)
-    after-append o m = by-append (λ f. Some (join_at x f)) es (e ∷ []) o m ∙ ap (λ b. shown_after x es o m + (cond b (shows_one (Some (join_at x e)) m) 0 + 0)) (alike o)
+    after-append : (o : List ℕ) (m : Memento) → shown_after x (es ++ e ∷ []) o m
+        ≡ shown_after x es o m + (cond (eq_by_cmp text_cmp e.0.1 o) (shows_one (Some (join_at x e)) m) 0 + 0)
+    after-append o m = by-append (λ f. Some (join_at x f)) es (e ∷ []) o m
+        ∙ ap (λ b. shown_after x es o m + (cond b (shows_one (Some (join_at x e)) m) 0 + 0)) (alike o)
 
-    counts : (o : List ℕ) (m : Memento) → beginnings (steps_of now o) m + (shown_before x es o m + (cond (eq_by_cmp text_cmp e.0.1 o) (shows_one (fmap.get x e.0) m) 0 + 0)) ≡ endings (steps_of now o) m + (shown_after x es o m + (cond (eq_by_cmp text_cmp e.0.1 o) (shows_one (Some (join_at x e)) m) 0 + 0))
+    counts : (o : List ℕ) (m : Memento)
+        → beginnings (steps_of now o) m + (shown_before x es o m +
+        (cond (eq_by_cmp text_cmp e.0.1 o) (shows_one (fmap.get x e.0) m) 0 + 0)) ≡ endings (steps_of now o) m +
+        (shown_after x es o m + (cond (eq_by_cmp text_cmp e.0.1 o) (shows_one (Some (join_at x e)) m) 0 + 0))
     counts o m =
-        elim (eq_by_cmp text_cmp e.0.1 o) as (λ b. eq_by_cmp text_cmp e.0.1 o ≡ b → beginnings (steps_of now o) m + (shown_before x es o m + (cond b (shows_one (fmap.get x e.0) m) 0 + 0)) ≡ endings (steps_of now o) m + (shown_after x es o m + (cond b (shows_one (Some (join_at x e)) m) 0 + 0))) [
+        elim (eq_by_cmp text_cmp e.0.1 o) as (λ b. eq_by_cmp text_cmp e.0.1 o ≡ b
+        → beginnings (steps_of now o) m + (shown_before x es o m + (cond b (shows_one (fmap.get x e.0) m) 0 + 0))
+        ≡ endings (steps_of now o) m + (shown_after x es o m + (cond b (shows_one (Some (join_at x e)) m) 0 + 0))) [
           | true ↦ λ t.
-              let at : IsShifted x e (steps_of was o) (steps_of now o) = subst (λ p. IsShifted x e (steps_of was p) (steps_of now p)) (same_text e.0.1 o t) here in
+              let at : IsShifted x e (steps_of was o) (steps_of now o) =
+              subst (λ p. IsShifted x e (steps_of was p) (steps_of now p)) (same_text e.0.1 o t) here in
               omega (arith, at.counts m, gathered.counts o m)
           | false ↦ λ f.
               let same = others o f in
               omega (arith, gathered.counts o m, ap (λ (ss : List Step). beginnings ss m) same, ap (λ (ss : List Step). endings ss m) same)
         ] refl
 
-    shown : (o : List ℕ) (m : Memento) → endings (steps_of now o) m ≤ shown_before x es o m + (cond (eq_by_cmp text_cmp e.0.1 o) (shows_one (fmap.get x e.0) m) 0 + 0)
+    shown : (o : List ℕ) (m : Memento) → endings (steps_of now o) m ≤ shown_before x es o m +
+        (cond (eq_by_cmp text_cmp e.0.1 o) (shows_one (fmap.get x e.0) m) 0 + 0)
     shown o m =
-        elim (eq_by_cmp text_cmp e.0.1 o) as (λ b. eq_by_cmp text_cmp e.0.1 o ≡ b → endings (steps_of now o) m ≤ shown_before x es o m + (cond b (shows_one (fmap.get x e.0) m) 0 + 0)) [
+        elim (eq_by_cmp text_cmp e.0.1 o) as (λ b. eq_by_cmp text_cmp e.0.1 o ≡ b
+        → endings (steps_of now o) m ≤ shown_before x es o m + (cond b (shows_one (fmap.get x e.0) m) 0 + 0)) [
           | true ↦ λ t.
-              let at : IsShifted x e (steps_of was o) (steps_of now o) = subst (λ p. IsShifted x e (steps_of was p) (steps_of now p)) (same_text e.0.1 o t) here in
+              let at : IsShifted x e (steps_of was o) (steps_of now o) =
+              subst (λ p. IsShifted x e (steps_of was p) (steps_of now p)) (same_text e.0.1 o t) here in
               omega (arith, at.shown m, gathered.shown o m)
           | false ↦ λ f.
               let same = others o f in
               omega (arith, gathered.shown o m, ap (λ (ss : List Step). endings ss m) same)
         ] refl
 
-    both : (o : List ℕ) (m : Memento) → beginnings (steps_of now o) m + (shown_before x es o m + (cond (eq_by_cmp text_cmp e.0.1 o) (shows_one (fmap.get x e.0) m) 0 + 0)) ≡ endings (steps_of now o) m + (shown_after x es o m + (cond (eq_by_cmp text_cmp e.0.1 o) (shows_one (Some (join_at x e)) m) 0 + 0)) → beginnings (steps_of now o) m + shown_before x (es ++ e ∷ []) o m ≡ endings (steps_of now o) m + shown_after x (es ++ e ∷ []) o m
+    both : (o : List ℕ) (m : Memento) → beginnings (steps_of now o) m +
+        (shown_before x es o m + (cond (eq_by_cmp text_cmp e.0.1 o) (shows_one (fmap.get x e.0) m) 0 + 0))
+        ≡ endings (steps_of now o) m + (shown_after x es o m +
+        (cond (eq_by_cmp text_cmp e.0.1 o) (shows_one (Some (join_at x e)) m) 0 + 0))
+        → beginnings (steps_of now o) m + shown_before x (es ++ e ∷ []) o m ≡ endings (steps_of now o) m + shown_after x
+        (es ++ e ∷ []) o m
     both o m h = omega (arith, h, before-append o m, after-append o m)
 
-    less : (o : List ℕ) (m : Memento) → endings (steps_of now o) m ≤ shown_before x es o m + (cond (eq_by_cmp text_cmp e.0.1 o) (shows_one (fmap.get x e.0) m) 0 + 0) → endings (steps_of now o) m ≤ shown_before x (es ++ e ∷ []) o m
+    less : (o : List ℕ) (m : Memento) → endings (steps_of now o) m ≤ shown_before x es o m +
+        (cond (eq_by_cmp text_cmp e.0.1 o) (shows_one (fmap.get x e.0) m) 0 + 0)
+        → endings (steps_of now o) m ≤ shown_before x (es ++ e ∷ []) o m
     less o m h = omega (arith, h, before-append o m)
 
 -- ---- each row is news
@@ -301,12 +348,14 @@ row_at [] i row lt is = absurd (omega arith)
 row_at (r ∷ rows) zero row lt is = ap (λ (q : Row). Some (row_entry q)) (sym is)
 row_at (r ∷ rows) (suc i) row lt is = row_at rows i row (omega arith) is
 
-pub row_is_news : (x news : Entries) (rows : List Row) (i : ℕ) (row : Row) → AreNews x news → map row_entry rows ≡ fmap.entries news → i < length rows → row ≡ get_or rows i row → IsNewsAt x (row_entry row)
+pub row_is_news : (x news : Entries) (rows : List Row) (i : ℕ) (row : Row) → AreNews x news → map row_entry rows
+    ≡ fmap.entries news → i < length rows → row ≡ get_or rows i row → IsNewsAt x (row_entry row)
 row_is_news x news rows i row are its lt is =
     let e = row_entry row in
     let here : slice_get (fmap.entries news) i ≡ Some e = ap (λ (es : List (Key × Kept)). slice_get es i) (sym its) ∙ row_at rows i row lt is in
     subst (λ (o : Option Kept). IfSome o (λ v. IsNewsAt x (e.0, v))) (value_at news i e here) (are e.0)
 
 -- the rows up to one more
-pub rows_turn : (rows : List Row) (i : ℕ) (row : Row) → i < length rows → row ≡ get_or rows i row → map row_entry (take (i + 1) rows) ≡ map row_entry (take i rows) ++ row_entry row ∷ []
+pub rows_turn : (rows : List Row) (i : ℕ) (row : Row) → i < length rows → row ≡ get_or rows i row
+    → map row_entry (take (i + 1) rows) ≡ map row_entry (take i rows) ++ row_entry row ∷ []
 rows_turn rows i row lt is = ap (map row_entry) (take_more rows i row lt ∙ ap (λ r. take i rows ++ r ∷ []) (sym is)) ∙ map_push row_entry (take i rows) row

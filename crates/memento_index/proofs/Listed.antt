@@ -28,7 +28,8 @@ tally_sorted (e ∷ es) up = (above_listed e.memento es up.1, tally_sorted es up
 counted_if_listed : (es : List Counted) (x : Memento) → IsTally es → list_any (eq_by_cmp memento_cmp x) (mementos_of es) ≡ true → 0 < count_of es x
 counted_if_listed [] x up h = absurd (true≢false (sym h))
 counted_if_listed (e ∷ es) x up h =
-    elim (eq_by_cmp memento_cmp x e.memento) as (λ b. (b || list_any (eq_by_cmp memento_cmp x) (mementos_of es)) ≡ true → 0 < cond b e.count 0 + count_of es x) [
+    elim (eq_by_cmp memento_cmp x e.memento) as (λ b. (b || list_any (eq_by_cmp memento_cmp x) (mementos_of es)) ≡ true
+    → 0 < cond b e.count 0 + count_of es x) [
       | true ↦ λ _. let some : 0 < e.count = up.0 in omega arith
       | false ↦ λ rest. let some = counted_if_listed es x up.2 rest in omega arith
     ] h
@@ -36,16 +37,24 @@ counted_if_listed (e ∷ es) x up h =
 none_if_not : (es : List Counted) (x : Memento) → list_any (eq_by_cmp memento_cmp x) (mementos_of es) ≡ false → count_of es x ≡ 0
 none_if_not [] x h = refl
 none_if_not (e ∷ es) x h =
-    elim (eq_by_cmp memento_cmp x e.memento) as (λ b. (b || list_any (eq_by_cmp memento_cmp x) (mementos_of es)) ≡ false → cond b e.count 0 + count_of es x ≡ 0) [
+    elim (eq_by_cmp memento_cmp x e.memento) as (λ b. (b || list_any (eq_by_cmp memento_cmp x) (mementos_of es)) ≡ false
+    → cond b e.count 0 + count_of es x ≡ 0) [
       | true ↦ λ bad. absurd (true≢false bad)
       | false ↦ λ rest. let none = none_if_not es x rest in omega arith
     ] h
 
 -- where the counts are above 0 just at the members of a set, the list is that of the set
-pub tally_lists : (es : List Counted) (s : Mementos) → IsTally es → ((x : Memento) → set.contains s x ≡ true → 0 < count_of es x) → ((x : Memento) → set.contains s x ≡ false → count_of es x ≡ 0) → mementos_of es ≡ set.items s
-tally_lists es s up held none = sym (items_in_order (mementos_of es) (tally_sorted es up)) ∙ ap (λ (t : Mementos). set.items t) (same_set memento_cmp_total memento_cmp_exact _ s (λ x. contains-from_list memento_cmp_total memento_cmp_exact (mementos_of es) x ∙ either x (list_any (eq_by_cmp memento_cmp x) (mementos_of es)) (set.contains s x) (counted_if_listed es x up) (none_if_not es x) (held x) (none x)))
+pub tally_lists : (es : List Counted) (s : Mementos) → IsTally es
+    → ((x : Memento) → set.contains s x ≡ true → 0 < count_of es x)
+    → ((x : Memento) → set.contains s x ≡ false → count_of es x ≡ 0) → mementos_of es ≡ set.items s
+tally_lists es s up held none = sym (items_in_order (mementos_of es) (tally_sorted es up))
+    ∙ ap (λ (t : Mementos). set.items t)
+    (same_set memento_cmp_total memento_cmp_exact _ s (λ x. contains-from_list memento_cmp_total memento_cmp_exact
+    (mementos_of es) x ∙ either x (list_any (eq_by_cmp memento_cmp x) (mementos_of es)) (set.contains s x)
+    (counted_if_listed es x up) (none_if_not es x) (held x) (none x)))
   where
-    either : (x : Memento) (a b : Bool) → (a ≡ true → 0 < count_of es x) → (a ≡ false → count_of es x ≡ 0) → (b ≡ true → 0 < count_of es x) → (b ≡ false → count_of es x ≡ 0) → a ≡ b
+    either : (x : Memento) (a b : Bool) → (a ≡ true → 0 < count_of es x) → (a ≡ false → count_of es x ≡ 0)
+        → (b ≡ true → 0 < count_of es x) → (b ≡ false → count_of es x ≡ 0) → a ≡ b
     either x true true p q r t = refl
     either x false false p q r t = refl
     either x true false p q r t = absurd (omega (arith, p refl, t refl))

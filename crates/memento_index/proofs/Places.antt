@@ -1,5 +1,6 @@
 -- The nearest memento of a list in order, by its place.
-use Rattle.std.proofs.Common.{◌≡◌, ◌≢◌, ℕ, zero, suc, ◌+◌, ◌-◌, ◌<◌, ◌≤◌, ◌⊎◌, inl, inr, true, List, [], ◌∷◌, length, get_or, slice_index, Some, None, refl, sym, ap, ◌∙◌, subst, arith}
+use Rattle.std.proofs.Common.{◌≡◌, ◌≢◌, ℕ, zero, suc, ◌+◌, ◌-◌, ◌<◌, ◌≤◌, ◌⊎◌, inl, inr, true, List, [], ◌∷◌, length}
+use Rattle.std.proofs.Common.{get_or, slice_index, Some, None, refl, sym, ap, ◌∙◌, subst, arith}
 use Rattle.std.specs.declared.cmp.Ordering.{Ordering}
 use Rattle.std.specs.declared.cmp.Ordering.TheVariants.{Less, Equal, Greater}
 use Rattle.std.specs.Prelude.{slice_get}
@@ -30,7 +31,8 @@ all_at P [] k d all lt = absurd (omega arith)
 all_at P (x ∷ xs) zero d all lt = all.0
 all_at P (x ∷ xs) (suc k) d all lt = all_at P xs k d all.1 (omega arith)
 
-pub below_at : (xs : List Memento) → IsStrictlySortedBy memento_cmp xs → (i j : ℕ) (d : Memento) → i < j → j < length xs → memento_cmp (get_or xs i d) (get_or xs j d) ≡ Less
+pub below_at : (xs : List Memento) → IsStrictlySortedBy memento_cmp xs → (i j : ℕ) (d : Memento) → i < j → j < length xs
+    → memento_cmp (get_or xs i d) (get_or xs j d) ≡ Less
 unfolding IsStrictlySortedBy
 below_at [] up i j d lt in_range = absurd (omega arith)
 below_at (x ∷ xs) up zero zero d lt in_range = absurd (omega arith)
@@ -60,7 +62,8 @@ lt_or_same : (i j : ℕ) → i ≤ j → (i < j) ⊎ (i ≡ j)
 lt_or_same i j le = elim (cases_lt i j) [ inl lt ↦ inl lt | inr ge ↦ inr (omega arith) ]
 
 -- each datetime of a list in order is at least those before it
-pub rises : (xs : List Memento) → IsStrictlySortedBy memento_cmp xs → (i j : ℕ) → i ≤ j → j < length xs → slice_index (datetimes xs) i ≤ slice_index (datetimes xs) j
+pub rises : (xs : List Memento) → IsStrictlySortedBy memento_cmp xs → (i j : ℕ) → i ≤ j → j < length xs
+    → slice_index (datetimes xs) i ≤ slice_index (datetimes xs) j
 rises [] up i j le lt = absurd (omega arith)
 rises (x ∷ xs) up i j le lt =
     elim (lt_or_same i j le) [
@@ -76,9 +79,11 @@ rises (x ∷ xs) up i j le lt =
 -- each datetime at another place is farther, or as far and behind this one
 pub record IsNearestPlace (ats : List ℕ) (t k : ℕ) : Type 0 where
   pub within : k < length ats
-  pub nearest : (j : ℕ) → j < length ats → (gap t (slice_index ats k) < gap t (slice_index ats j)) ⊎ ((gap t (slice_index ats k) ≡ gap t (slice_index ats j)) × (k ≤ j))
+  pub nearest : (j : ℕ) → j < length ats → (gap t (slice_index ats k) < gap t (slice_index ats j)) ⊎
+      ((gap t (slice_index ats k) ≡ gap t (slice_index ats j)) × (k ≤ j))
 
-not_below : (xs : List Memento) → IsStrictlySortedBy memento_cmp xs → (k j : ℕ) (d : Memento) → k ≤ j → j < length xs → memento_cmp (get_or xs j d) (get_or xs k d) ≢ Less
+not_below : (xs : List Memento) → IsStrictlySortedBy memento_cmp xs → (k j : ℕ) (d : Memento) → k ≤ j → j < length xs
+    → memento_cmp (get_or xs j d) (get_or xs k d) ≢ Less
 not_below xs up k j d le lt less =
     elim (lt_or_same k j le) [
       | inl below ↦
@@ -97,7 +102,8 @@ not_below xs up k j d le lt less =
 closer : (t a b c e : ℕ) → a ≡ c → b ≡ e → gap t a < gap t b → gap t c < gap t e
 closer t a b c e p q h = subst (λ x. gap t x < gap t e) p (subst (λ y. gap t a < gap t y) q h)
 
-pub named : (xs : List Memento) → IsStrictlySortedBy memento_cmp xs → (t k : ℕ) → IsNearestPlace (datetimes xs) t k → slice_get xs k ≡ nearest (set.from_list xs) t
+pub named : (xs : List Memento) → IsStrictlySortedBy memento_cmp xs → (t k : ℕ) → IsNearestPlace (datetimes xs) t k
+    → slice_get xs k ≡ nearest (set.from_list xs) t
 named [] up t k place = absurd (omega (arith, place.within))
 named (x ∷ xs) up t k place =
     let ys = x ∷ xs in
@@ -105,8 +111,11 @@ named (x ∷ xs) up t k place =
     let m = get_or ys k x in
     let in_range : k < length ys = omega (arith, place.within, length-datetimes ys) in
     let is : IsNearest ms t m = record {
-      held = contains-from_list memento_cmp_total memento_cmp_exact ys m ∙ list_any_at (eq_by_cmp memento_cmp m) ys k x in_range (ap is_eq (tied_itself memento_cmp_total m));
-      nearest = λ n h. at_place ys up t k x place in_range n (Any-from_list_any (eq_by_cmp memento_cmp n) ys (sym (contains-from_list memento_cmp_total memento_cmp_exact ys n) ∙ h));
+      held = contains-from_list memento_cmp_total memento_cmp_exact ys m
+          ∙ list_any_at (eq_by_cmp memento_cmp m) ys k x in_range (ap is_eq (tied_itself memento_cmp_total m));
+      nearest = λ n h. at_place ys up t k x place in_range n
+          (Any-from_list_any (eq_by_cmp memento_cmp n) ys
+          (sym (contains-from_list memento_cmp_total memento_cmp_exact ys n) ∙ h));
     } in
     slice_get-get_or ys k x in_range
     ∙ elim (nearest ms t) as (λ r. MatchOption r (set.items ms ≡ []) (IsNearest ms t) → Some m ≡ r) [
@@ -117,7 +126,10 @@ named (x ∷ xs) up t k place =
     cons_or_none : {y : Memento} {ys : List Memento} → y ∷ ys ≡ [] → ⊥
     cons_or_none e = cc
 
-    at_place : (ys : List Memento) → IsStrictlySortedBy memento_cmp ys → (t k : ℕ) (d : Memento) → IsNearestPlace (datetimes ys) t k → k < length ys → (n : Memento) → Any (λ y. eq_by_cmp memento_cmp n y ≡ true) ys → (distance t (get_or ys k d) < distance t n) ⊎ ((distance t (get_or ys k d) ≡ distance t n) × (memento_cmp n (get_or ys k d) ≢ Less))
+    at_place : (ys : List Memento) → IsStrictlySortedBy memento_cmp ys → (t k : ℕ) (d : Memento)
+        → IsNearestPlace (datetimes ys) t k → k < length ys → (n : Memento)
+        → Any (λ y. eq_by_cmp memento_cmp n y ≡ true) ys → (distance t (get_or ys k d) < distance t n) ⊎
+        ((distance t (get_or ys k d) ≡ distance t n) × (memento_cmp n (get_or ys k d) ≢ Less))
     at_place ys up t k d place in_range n any =
         let j = any.0 in
         let lt : j < length ys = any.2 in
@@ -126,14 +138,19 @@ named (x ∷ xs) up t k place =
         let at_j = datetime_at ys j d lt ∙ ap (λ (y : Memento). y.at) (sym n_is) in
         elim (place.nearest j (omega (arith, lt, length-datetimes ys))) [
           | inl nearer ↦ inl (closer t (slice_index (datetimes ys) k) (slice_index (datetimes ys) j) (get_or ys k d).at n.at at_k at_j nearer)
-          | inr tie ↦ inr (ap (gap t) (sym at_k) ∙ (tie.0 ∙ ap (gap t) at_j), λ less. not_below ys up k j d tie.1 lt (ap (λ y. memento_cmp y (get_or ys k d)) (sym n_is) ∙ less))
+          | inr tie ↦ inr (
+            ap (gap t) (sym at_k) ∙ (tie.0 ∙ ap (gap t) at_j),
+            λ less. not_below ys up k j d tie.1 lt
+                (ap (λ y. memento_cmp y (get_or ys k d)) (sym n_is) ∙ less),
+          )
         ]
 
 by_gap : (t a b k j : ℕ) → gap t a ≤ gap t b → k ≤ j → (gap t a < gap t b) ⊎ ((gap t a ≡ gap t b) × (k ≤ j))
 by_gap t a b k j le here = elim (cases_lt (gap t a) (gap t b)) [ inl lt ↦ inl lt | inr ge ↦ inr (omega (arith, le, ge), here) ]
 
 -- where none is before the moment, the first
-pub first_place : (ats : List ℕ) (t : ℕ) → IsNonDecreasing ats → 0 < length ats → ((k : ℕ) → 0 ≤ k → k < length ats → t ≤ slice_index ats k) → IsNearestPlace ats t 0
+pub first_place : (ats : List ℕ) (t : ℕ) → IsNonDecreasing ats → 0 < length ats
+    → ((k : ℕ) → 0 ≤ k → k < length ats → t ≤ slice_index ats k) → IsNearestPlace ats t 0
 first_place ats t up some after = record {
   within = some;
   nearest = λ j lt.
@@ -144,7 +161,9 @@ first_place ats t up some after = record {
 }
 
 -- where the first one that isn't before the moment is nearer than the one in front of it, that
-pub after_place : (ats : List ℕ) (t place : ℕ) → IsNonDecreasing ats → 0 < place → place < length ats → ((k : ℕ) → k < place → slice_index ats k < t) → ((k : ℕ) → place ≤ k → k < length ats → t ≤ slice_index ats k) → gap t (slice_index ats place) < gap t (slice_index ats (place - 1)) → IsNearestPlace ats t place
+pub after_place : (ats : List ℕ) (t place : ℕ) → IsNonDecreasing ats → 0 < place → place < length ats
+    → ((k : ℕ) → k < place → slice_index ats k < t) → ((k : ℕ) → place ≤ k → k < length ats → t ≤ slice_index ats k)
+    → gap t (slice_index ats place) < gap t (slice_index ats (place - 1)) → IsNearestPlace ats t place
 after_place ats t place up some lt before after nearer = record {
   within = lt;
   nearest = λ j in_range.
@@ -163,7 +182,11 @@ after_place ats t place up some lt before after nearer = record {
 }
 
 -- or else the first one at the datetime of the last that is before the moment
-pub before_place : (ats : List ℕ) (t place k : ℕ) → IsNonDecreasing ats → 0 < place → place ≤ length ats → ((j : ℕ) → j < place → slice_index ats j < t) → ((j : ℕ) → place ≤ j → j < length ats → t ≤ slice_index ats j) → (place < length ats → gap t (slice_index ats (place - 1)) ≤ gap t (slice_index ats place)) → k ≤ place - 1 → ((j : ℕ) → j < k → slice_index ats j < slice_index ats (place - 1)) → ((j : ℕ) → k ≤ j → j < place - 1 → slice_index ats (place - 1) ≤ slice_index ats j) → IsNearestPlace ats t k
+pub before_place : (ats : List ℕ) (t place k : ℕ) → IsNonDecreasing ats → 0 < place → place ≤ length ats
+    → ((j : ℕ) → j < place → slice_index ats j < t) → ((j : ℕ) → place ≤ j → j < length ats → t ≤ slice_index ats j)
+    → (place < length ats → gap t (slice_index ats (place - 1)) ≤ gap t (slice_index ats place)) → k ≤ place - 1
+    → ((j : ℕ) → j < k → slice_index ats j < slice_index ats (place - 1))
+    → ((j : ℕ) → k ≤ j → j < place - 1 → slice_index ats (place - 1) ≤ slice_index ats j) → IsNearestPlace ats t k
 before_place ats t place k up some le before after farther within less least =
     let back : slice_index ats (place - 1) < t = before (place - 1) (omega arith) in
     let top : slice_index ats k ≤ slice_index ats (place - 1) = up k (place - 1) 0 within (omega arith) in
@@ -201,7 +224,8 @@ none_named [] t up h = ap (least_by (nearness_cmp t)) (sym (items_in_order [] up
 none_named (x ∷ xs) t up h = absurd (omega arith)
 
 -- where one is held, its datetime stands at a place
-held_at : (xs : List Memento) (n : Memento) → set.contains (set.from_list {R = memento_cmp} xs) n ≡ true → (j : ℕ) × (j < length xs) × (slice_index (datetimes xs) j ≡ n.at)
+held_at : (xs : List Memento) (n : Memento) → set.contains (set.from_list {R = memento_cmp} xs) n ≡ true → (j : ℕ)
+    × (j < length xs) × (slice_index (datetimes xs) j ≡ n.at)
 held_at xs n h =
     let any = Any-from_list_any (eq_by_cmp memento_cmp n) xs (sym (contains-from_list memento_cmp_total memento_cmp_exact xs n) ∙ h) in
     let lt : any.0 < length xs = any.2 in
@@ -219,7 +243,10 @@ there_place ats t k within there less = record {
 }
 
 -- the first place at the greatest datetime has the last memento
-pub last_named : (xs : List Memento) → IsStrictlySortedBy memento_cmp xs → (k end : ℕ) → length xs ≡ end + 1 → k ≤ end → ((j : ℕ) → j < k → slice_index (datetimes xs) j < slice_index (datetimes xs) end) → ((j : ℕ) → k ≤ j → j < end → slice_index (datetimes xs) end ≤ slice_index (datetimes xs) j) → slice_get xs k ≡ last (set.from_list xs)
+pub last_named : (xs : List Memento) → IsStrictlySortedBy memento_cmp xs → (k end : ℕ) → length xs ≡ end + 1 → k ≤ end
+    → ((j : ℕ) → j < k → slice_index (datetimes xs) j < slice_index (datetimes xs) end)
+    → ((j : ℕ) → k ≤ j → j < end → slice_index (datetimes xs) end ≤ slice_index (datetimes xs) j) → slice_get xs k
+    ≡ last (set.from_list xs)
 last_named xs up k end size within less least =
     let t = slice_index (datetimes xs) end in
     let top : (j : ℕ) → j < length xs → slice_index (datetimes xs) j ≤ t = λ j lt. rises xs up j end (omega arith) (omega arith) in

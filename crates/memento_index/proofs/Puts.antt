@@ -35,15 +35,19 @@ pub get-put_all : (es : List (Key × Kept)) (m : Entries) (q : Key) → fmap.get
 get-put_all [] m q = refl
 get-put_all (e ∷ es) m q =
     fmap.get-insert key_cmp_total (put_all es m) e.0 e.1 q
-    ∙ elim (eq_by_cmp key_cmp q e.0) as (λ b. cond b (Some e.1) (fmap.get (put_all es m) q) ≡ or_else (cond b (Some e.1) (fmap.find key_cmp q es)) (fmap.get m q)) [
+    ∙ elim (eq_by_cmp key_cmp q e.0) as (λ b. cond b (Some e.1) (fmap.get (put_all es m) q)
+    ≡ or_else (cond b (Some e.1) (fmap.find key_cmp q es)) (fmap.get m q)) [
       | true ↦ refl
       | false ↦ get-put_all es m q
     ]
 
-find-joined : (x : Entries) (es : List (Key × Kept)) (q : Key) → fmap.find key_cmp q (map (joined_with x) es) ≡ option_map (λ v. join_at x (q, v)) (fmap.find key_cmp q es)
+find-joined : (x : Entries) (es : List (Key × Kept)) (q : Key) → fmap.find key_cmp q (map (joined_with x) es)
+    ≡ option_map (λ v. join_at x (q, v)) (fmap.find key_cmp q es)
 find-joined x [] q = refl
 find-joined x (e ∷ es) q =
-    elim (eq_by_cmp key_cmp q e.0) as (λ b. eq_by_cmp key_cmp q e.0 ≡ b → cond b (Some (join_at x e)) (fmap.find key_cmp q (map (joined_with x) es)) ≡ option_map (λ v. join_at x (q, v)) (cond b (Some e.1) (fmap.find key_cmp q es))) [
+    elim (eq_by_cmp key_cmp q e.0) as (λ b. eq_by_cmp key_cmp q e.0 ≡ b
+    → cond b (Some (join_at x e)) (fmap.find key_cmp q (map (joined_with x) es))
+    ≡ option_map (λ v. join_at x (q, v)) (cond b (Some e.1) (fmap.find key_cmp q es))) [
       | true ↦ λ t. ap (λ (k : Key). Some (join_at x (k, e.1))) (sym (same_key q e.0 t))
       | false ↦ λ _. find-joined x es q
     ] refl
@@ -64,9 +68,12 @@ put_joined x y = fmap.same_map key_cmp_total key_cmp_exact _ _ (λ q.
 
 below_joined : (x : Entries) (k : Key) (es : List (Key × Kept)) → T (below_all key_cmp k es) → T (below_all key_cmp k (map (joined_with x) es))
 below_joined x k [] h = tt
-below_joined x k (e ∷ es) h = let p = two_parts (is_lt (key_cmp k e.0)) (below_all key_cmp k es) h in both_parts (is_lt (key_cmp k e.0)) (below_all key_cmp k (map (joined_with x) es)) p.0 (below_joined x k es p.1)
+below_joined x k (e ∷ es) h = let p = two_parts (is_lt (key_cmp k e.0)) (below_all key_cmp k es) h in
+    both_parts (is_lt (key_cmp k e.0)) (below_all key_cmp k (map (joined_with x) es)) p.0 (below_joined x k es p.1)
 
 -- what stands in the join at the keys of entries in order stands in order
 pub joined_sorted : (x : Entries) (es : List (Key × Kept)) → T (fmap.is_sorted key_cmp es) → T (fmap.is_sorted key_cmp (map (joined_with x) es))
 joined_sorted x [] h = tt
-joined_sorted x (e ∷ es) h = let p = two_parts (below_all key_cmp e.0 es) (fmap.is_sorted key_cmp es) h in both_parts (below_all key_cmp e.0 (map (joined_with x) es)) (fmap.is_sorted key_cmp (map (joined_with x) es)) (below_joined x e.0 es p.0) (joined_sorted x es p.1)
+joined_sorted x (e ∷ es) h = let p = two_parts (below_all key_cmp e.0 es) (fmap.is_sorted key_cmp es) h in
+    both_parts (below_all key_cmp e.0 (map (joined_with x) es)) (fmap.is_sorted key_cmp (map (joined_with x) es))
+    (below_joined x e.0 es p.0) (joined_sorted x es p.1)

@@ -55,10 +55,18 @@ pub replaced_end : (before after : List Memento) (x : Memento) → endings (each
 replaced_end [] after x = none_ends after x
 replaced_end (m ∷ ms) after x = ap (λ n. once x m + n) (replaced_end ms after x)
 
-pub all_counted : (old : List Counted) (before : List Memento) (s : Mementos) → old ≡ each_once before → IsRecounted old (each_step false before ++ each_step true (set.items s)) (each_once (set.items s))
+pub all_counted : (old : List Counted) (before : List Memento) (s : Mementos) → old ≡ each_once before
+    → IsRecounted old (each_step false before ++ each_step true (set.items s)) (each_once (set.items s))
 all_counted old before s is = record {
   tally = tally_once (set.items s) (items_sorted memento_cmp s);
-  counts = λ x. omega (arith, ap (λ (es : List Counted). count_of es x) is, count_once before x, count_once (set.items s) x, replaced_begin before (set.items s) x, replaced_end before (set.items s) x);
+  counts = λ x. omega (
+    arith,
+    ap (λ (es : List Counted). count_of es x) is,
+    count_once before x,
+    count_once (set.items s) x,
+    replaced_begin before (set.items s) x,
+    replaced_end before (set.items s) x,
+  );
 }
 
 halves_true : (a b : Bool) → (a && b) ≡ true → (a ≡ true) × (b ≡ true)

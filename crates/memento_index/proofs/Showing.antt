@@ -1,5 +1,6 @@
 -- How many archives show a memento, before and after entries are joined.
-use Rattle.std.proofs.Common.{◌≡◌, ℕ, ◌+◌, ◌<◌, ◌≤◌, Bool, true, false, cond, ◌&&◌, ◌||◌, map, length, List, [], ◌∷◌, Option, Some, None, refl, sym, ap, ◌∙◌, arith}
+use Rattle.std.proofs.Common.{◌≡◌, ℕ, ◌+◌, ◌<◌, ◌≤◌, Bool, true, false, cond, ◌&&◌, ◌||◌, map, length, List, [], ◌∷◌}
+use Rattle.std.proofs.Common.{Option, Some, None, refl, sym, ap, ◌∙◌, arith}
 use Rattle.std.specs.Prelude.{T}
 use Rattle.std.specs.declared.cmp.Ordering.TheVariants.{Less, Equal, Greater}
 use Rattle.std.specs.List.{list_any}
@@ -38,12 +39,17 @@ below_through k a (e ∷ es) lt h =
     let p = two_parts (is_lt (key_cmp a e.0)) (below_all key_cmp a es) h in
     ap (λ r. cond (is_eq r) (Some e.1) (fmap.find key_cmp k es)) (key_cmp_total.trans k a e.0 lt (less_from (key_cmp a e.0) p.0)) ∙ below_through k a es lt p.1
 
-put_shows : (k : Key) (v : Kept) (es : List (Key × Kept)) → T (fmap.is_sorted key_cmp es) → (o : List ℕ) (m : Memento) → showing_by (λ e. Some e.1) (put key_cmp k v es) o m + of_original o k (fmap.find key_cmp k es) m ≡ showing_by (λ e. Some e.1) es o m + of_original o k (Some v) m
+put_shows : (k : Key) (v : Kept) (es : List (Key × Kept)) → T (fmap.is_sorted key_cmp es) → (o : List ℕ) (m : Memento)
+    → showing_by (λ e. Some e.1) (put key_cmp k v es) o m + of_original o k (fmap.find key_cmp k es) m
+    ≡ showing_by (λ e. Some e.1) es o m + of_original o k (Some v) m
 put_shows k v [] h o m = let none = no_one o k m in omega arith
 put_shows k v (e ∷ es) h o m =
     let p = two_parts (below_all key_cmp e.0 es) (fmap.is_sorted key_cmp es) h in
     let rest = put_shows k v es p.1 o m in
-    elim (key_cmp k e.0) as (λ r. key_cmp k e.0 ≡ r → showing_by (λ e. Some e.1) (by_order r ((k, v) ∷ e ∷ es) ((e.0, v) ∷ es) (e ∷ put key_cmp k v es)) o m + of_original o k (cond (is_eq r) (Some e.1) (fmap.find key_cmp k es)) m ≡ showing_by (λ e. Some e.1) (e ∷ es) o m + of_original o k (Some v) m) [
+    elim (key_cmp k e.0) as (λ r. key_cmp k e.0 ≡ r
+    → showing_by (λ e. Some e.1) (by_order r ((k, v) ∷ e ∷ es) ((e.0, v) ∷ es) (e ∷ put key_cmp k v es)) o
+    m + of_original o k (cond (is_eq r) (Some e.1) (fmap.find key_cmp k es)) m ≡ showing_by (λ e. Some e.1)
+    (e ∷ es) o m + of_original o k (Some v) m) [
       | Less ↦ λ is.
           let none : of_original o k (fmap.find key_cmp k es) m ≡ 0 = ap (λ f. of_original o k f m) (below_through k e.0 es is p.0) ∙ no_one o k m in
           omega (arith, none)
@@ -55,7 +61,8 @@ put_shows k v (e ∷ es) h o m =
       | Greater ↦ λ is. omega (arith, rest)
     ] refl
 
-insert_shows : (x : Entries) (k : Key) (v : Kept) (o : List ℕ) (m : Memento) → showing (fmap.insert x k v) o m + of_original o k (fmap.get x k) m ≡ showing x o m + of_original o k (Some v) m
+insert_shows : (x : Entries) (k : Key) (v : Kept) (o : List ℕ) (m : Memento)
+    → showing (fmap.insert x k v) o m + of_original o k (fmap.get x k) m ≡ showing x o m + of_original o k (Some v) m
 insert_shows x k v o m =
     let put_is = ap (λ (es : List (Key × Kept)). showing_by (λ e. Some e.1) es o m) (fmap.entries-insert key_cmp_total x k v) in
     let found = ap (λ f. of_original o k f m) (fmap.get-entries x k) in
@@ -64,13 +71,17 @@ insert_shows x k v o m =
 
 -- ---- entries put, one after the other
 
-put_all_shows : (x : Entries) (es : List (Key × Kept)) → T (fmap.is_sorted key_cmp es) → (o : List ℕ) (m : Memento) → showing (put_all es x) o m + showing_by (λ e. fmap.get x e.0) es o m ≡ showing x o m + showing_by (λ e. Some e.1) es o m
+put_all_shows : (x : Entries) (es : List (Key × Kept)) → T (fmap.is_sorted key_cmp es) → (o : List ℕ) (m : Memento)
+    → showing (put_all es x) o m + showing_by (λ e. fmap.get x e.0) es o m ≡ showing x o m + showing_by
+    (λ e. Some e.1) es o m
 put_all_shows x [] h o m = refl
 put_all_shows x (e ∷ es) h o m =
     let p = two_parts (below_all key_cmp e.0 es) (fmap.is_sorted key_cmp es) h in
     let rest = put_all_shows x es p.1 o m in
     let one = insert_shows (put_all es x) e.0 e.1 o m in
-    let was : of_original o e.0 (fmap.get (put_all es x) e.0) m ≡ of_original o e.0 (fmap.get x e.0) m = ap (λ f. of_original o e.0 f m) (get-put_all es x e.0 ∙ ap (λ f. or_else f (fmap.get x e.0)) (below_none e.0 es p.0)) in
+    let was : of_original o e.0 (fmap.get (put_all es x) e.0) m ≡ of_original o e.0 (fmap.get x e.0) m =
+    ap (λ f. of_original o e.0 f m) (get-put_all es x e.0
+    ∙ ap (λ f. or_else f (fmap.get x e.0)) (below_none e.0 es p.0)) in
     omega (arith, rest, one, was)
 
 -- the same sums over entries with other values
@@ -78,12 +89,14 @@ by_joined : (x : Entries) (es : List (Key × Kept)) (o : List ℕ) (m : Memento)
 by_joined x [] o m = refl
 by_joined x (e ∷ es) o m = let rest = by_joined x es o m in omega (arith, rest)
 
-before_joined : (x : Entries) (es : List (Key × Kept)) (o : List ℕ) (m : Memento) → showing_by (λ e. fmap.get x e.0) (map (joined_with x) es) o m ≡ shown_before x es o m
+before_joined : (x : Entries) (es : List (Key × Kept)) (o : List ℕ) (m : Memento)
+    → showing_by (λ e. fmap.get x e.0) (map (joined_with x) es) o m ≡ shown_before x es o m
 before_joined x [] o m = refl
 before_joined x (e ∷ es) o m = let rest = before_joined x es o m in omega (arith, rest)
 
 -- what is joined makes just the difference at its own keys
-pub join_shows : (x y : Entries) (o : List ℕ) (m : Memento) → showing (join x y) o m + shown_before x (fmap.entries y) o m ≡ showing x o m + shown_after x (fmap.entries y) o m
+pub join_shows : (x y : Entries) (o : List ℕ) (m : Memento) → showing (join x y) o m + shown_before x
+    (fmap.entries y) o m ≡ showing x o m + shown_after x (fmap.entries y) o m
 join_shows x y o m =
     let es = map (joined_with x) (fmap.entries y) in
     let h = put_all_shows x es (joined_sorted x (fmap.entries y) (fmap.entries_sorted y)) o m in
@@ -98,7 +111,8 @@ nothing = kept_in false (0, set.empty) []
 
 shows_nothing : (m : Memento) → set.contains (mementos_of nothing) m ≡ false
 unfolding nothing
-shows_nothing m = ap (λ (s : Mementos). set.contains s m) (sym (shown_of_one nothing (0, set.empty) (entries_in false (0, set.empty) [] tt))) ∙ contains-empty memento_cmp m
+shows_nothing m = ap (λ (s : Mementos). set.contains s m)
+    (sym (shown_of_one nothing (0, set.empty) (entries_in false (0, set.empty) [] tt))) ∙ contains-empty memento_cmp m
 
 bare : Key × Kept → Key × Kept
 bare e = (e.0, nothing)
@@ -106,12 +120,15 @@ bare e = (e.0, nothing)
 bare_below : (k : Key) (es : List (Key × Kept)) → T (below_all key_cmp k es) → T (below_all key_cmp k (map bare es))
 unfolding bare
 bare_below k [] h = tt
-bare_below k (e ∷ es) h = let p = two_parts (is_lt (key_cmp k e.0)) (below_all key_cmp k es) h in both_parts (is_lt (key_cmp k e.0)) (below_all key_cmp k (map bare es)) p.0 (bare_below k es p.1)
+bare_below k (e ∷ es) h = let p = two_parts (is_lt (key_cmp k e.0)) (below_all key_cmp k es) h in
+    both_parts (is_lt (key_cmp k e.0)) (below_all key_cmp k (map bare es)) p.0 (bare_below k es p.1)
 
 bare_sorted : (es : List (Key × Kept)) → T (fmap.is_sorted key_cmp es) → T (fmap.is_sorted key_cmp (map bare es))
 unfolding bare
 bare_sorted [] h = tt
-bare_sorted (e ∷ es) h = let p = two_parts (below_all key_cmp e.0 es) (fmap.is_sorted key_cmp es) h in both_parts (below_all key_cmp e.0 (map bare es)) (fmap.is_sorted key_cmp (map bare es)) (bare_below e.0 es p.0) (bare_sorted es p.1)
+bare_sorted (e ∷ es) h = let p = two_parts (below_all key_cmp e.0 es) (fmap.is_sorted key_cmp es) h in
+    both_parts (below_all key_cmp e.0 (map bare es)) (fmap.is_sorted key_cmp (map bare es)) (bare_below e.0 es p.0)
+    (bare_sorted es p.1)
 
 bare_shows : (es : List (Key × Kept)) (o : List ℕ) (m : Memento) → showing_by (λ e. Some e.1) (map bare es) o m ≡ 0
 unfolding bare
@@ -151,12 +168,20 @@ showing-le x o m = omega (arith, by-le (fmap.entries x) o m, fmap.len-entries x)
 
 -- ---- what is shown
 
-any_shows : (es : List (Key × Kept)) (o : List ℕ) (m : Memento) → (list_any (λ (e : Key × Kept). eq_by_cmp text_cmp o e.0.1 && set.contains (mementos_of e.1) m) es ≡ true → 0 < showing_by (λ e. Some e.1) es o m) × (list_any (λ (e : Key × Kept). eq_by_cmp text_cmp o e.0.1 && set.contains (mementos_of e.1) m) es ≡ false → showing_by (λ e. Some e.1) es o m ≡ 0)
+any_shows : (es : List (Key × Kept)) (o : List ℕ) (m : Memento)
+    → (list_any (λ (e : Key × Kept). eq_by_cmp text_cmp o e.0.1 && set.contains (mementos_of e.1) m) es ≡ true
+    → 0 < showing_by (λ e. Some e.1) es o m)
+    × (list_any (λ (e : Key × Kept). eq_by_cmp text_cmp o e.0.1 && set.contains (mementos_of e.1) m) es ≡ false
+    → showing_by (λ e. Some e.1) es o m ≡ 0)
 any_shows [] o m = (λ h. absurd (true≢false (sym h)), λ _. refl)
 any_shows (e ∷ es) o m =
-    by (eq_by_cmp text_cmp o e.0.1) (set.contains (mementos_of e.1) m) (list_any (λ (e : Key × Kept). eq_by_cmp text_cmp o e.0.1 && set.contains (mementos_of e.1) m) es) (showing_by (λ e. Some e.1) es o m) (any_shows es o m)
+    by (eq_by_cmp text_cmp o e.0.1) (set.contains (mementos_of e.1) m)
+    (list_any (λ (e : Key × Kept). eq_by_cmp text_cmp o e.0.1 && set.contains (mementos_of e.1) m) es)
+    (showing_by (λ e. Some e.1) es o m) (any_shows es o m)
   where
-    by : (a b c : Bool) (n : ℕ) → (c ≡ true → 0 < n) × (c ≡ false → n ≡ 0) → (((a && b) || c) ≡ true → 0 < cond a (cond b 1 0) 0 + n) × (((a && b) || c) ≡ false → cond a (cond b 1 0) 0 + n ≡ 0)
+    by : (a b c : Bool) (n : ℕ) → (c ≡ true → 0 < n) × (c ≡ false → n ≡ 0)
+        → (((a && b) || c) ≡ true → 0 < cond a (cond b 1 0) 0 + n)
+        × (((a && b) || c) ≡ false → cond a (cond b 1 0) 0 + n ≡ 0)
     by true true c n h = (λ _. omega arith, λ f. absurd (true≢false f))
     by true false c n h = (λ t. let some = h.0 t in omega arith, λ f. let none = h.1 f in omega arith)
     by false b c n h = (λ t. let some = h.0 t in omega arith, λ f. let none = h.1 f in omega arith)

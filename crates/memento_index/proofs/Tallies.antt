@@ -1,5 +1,7 @@
 -- Lists with counts, parted at a memento.
-use Rattle.std.proofs.Common.{◌≡◌, ℕ, zero, suc, ◌+◌, ◌-◌, ◌<◌, ◌≤◌, Bool, true, false, cond, List, [], ◌∷◌, ◌++◌, reverse, length, get_or, drop, Option, Some, None, option_to_list, append_assoc, refl, sym, ap, ◌∙◌, subst, arith}
+use Rattle.std.proofs.Common.{◌≡◌, ℕ, zero, suc, ◌+◌, ◌-◌, ◌<◌, ◌≤◌, Bool, true, false, cond, List, [], ◌∷◌, ◌++◌}
+use Rattle.std.proofs.Common.{reverse, length, get_or, drop, Option, Some, None, option_to_list, append_assoc, refl}
+use Rattle.std.proofs.Common.{sym, ap, ◌∙◌, subst, arith}
 use Rattle.std.specs.Option.{IfSome}
 use Rattle.std.specs.List.{slice_get}
 use Rattle.std.specs.declared.cmp.Ordering.{Ordering}
@@ -41,7 +43,8 @@ all_above : (m : Memento) (n : Memento) (es : List Counted) → memento_cmp m n 
 all_above m n [] lt above = tt
 all_above m n (e ∷ es) lt above = (less_than m n e.memento lt above.0, all_above m n es lt above.1)
 
-pub below_front : (m : Memento) (rest behind : List Counted) (e : Counted) → IsTally ((rest ++ e ∷ []) ++ behind) → memento_cmp e.memento m ≡ Less → AreBelow m (rest ++ e ∷ [])
+pub below_front : (m : Memento) (rest behind : List Counted) (e : Counted) → IsTally ((rest ++ e ∷ []) ++ behind)
+    → memento_cmp e.memento m ≡ Less → AreBelow m (rest ++ e ∷ [])
 below_front m [] behind e up lt = (lt, tt)
 below_front m (x ∷ rest) behind e up lt = (less_than x.memento e.memento m (last_above x.memento rest behind e up.1) lt, below_front m rest behind e up.2 lt)
   where
@@ -50,7 +53,8 @@ below_front m (x ∷ rest) behind e up lt = (less_than x.memento e.memento m (la
     last_above n (x ∷ rest) behind e above = last_above n rest behind e above.1
 
 -- where the last is below a memento, all are
-pub below_last : (m last : Memento) (es : List Counted) (place : ℕ) → slice_get (mementos_of es) place ≡ Some last → place ≡ length (mementos_of es) - 1 → memento_cmp last m ≡ Less → IsTally es → AreBelow m es
+pub below_last : (m last : Memento) (es : List Counted) (place : ℕ) → slice_get (mementos_of es) place ≡ Some last
+    → place ≡ length (mementos_of es) - 1 → memento_cmp last m ≡ Less → IsTally es → AreBelow m es
 below_last m last [] place at is lt up = tt
 below_last m last (e ∷ []) zero at is lt up = (subst (λ n. memento_cmp n m ≡ Less) (sym (ap (λ o. unwrap_or o e.memento) at)) lt, tt)
 below_last m last (e ∷ []) (suc place) at is lt up = absurd (omega (arith, is))
@@ -95,7 +99,12 @@ left_out (x ∷ a) (Some e) b up = (up.0, above_join x.memento a (e ∷ b) up.1 
 -- and with it, between those below it and those above it
 pub put_in : (a b : List Counted) (e : Counted) → IsTally (a ++ b) → AreBelow e.memento a → AreAbove e.memento b → 0 < e.count → IsTally ((a ++ e ∷ []) ++ b)
 put_in [] b e up below above some = (some, above, up)
-put_in (x ∷ a) b e up below above some = (up.0, subst (AreAbove x.memento) (sym (append_assoc a (e ∷ []) b)) (above_join x.memento a b up.1 (e ∷ b) (below.0, above_parts x.memento a b up.1)), put_in a b e up.2 below.1 above some)
+put_in (x ∷ a) b e up below above some = (
+  up.0,
+  subst (AreAbove x.memento) (sym (append_assoc a (e ∷ []) b))
+      (above_join x.memento a b up.1 (e ∷ b) (below.0, above_parts x.memento a b up.1)),
+  put_in a b e up.2 below.1 above some,
+)
 
 -- ---- counts
 
@@ -137,7 +146,8 @@ above_top list lifted rest e is up =
     let there : IsTally (list ++ (e ∷ reverse rest)) = subst (λ (xs : List Counted). IsTally (list ++ xs)) (ap reverse is ∙ reverse-append rest (e ∷ [])) up in
     (tally_behind list (e ∷ reverse rest) there).1
 
-pub above_all : (m : Memento) (rest : List Counted) (e : Counted) → memento_cmp e.memento m ≡ Greater → AreAbove e.memento (reverse rest) → AreAbove m (reverse (rest ++ e ∷ []))
+pub above_all : (m : Memento) (rest : List Counted) (e : Counted) → memento_cmp e.memento m ≡ Greater
+    → AreAbove e.memento (reverse rest) → AreAbove m (reverse (rest ++ e ∷ []))
 above_all m rest e gt above =
     subst (AreAbove m) (sym (reverse-append rest (e ∷ []))) (turned e.memento m gt, all_above m e.memento (reverse rest) (turned e.memento m gt) above)
 
@@ -152,8 +162,20 @@ pub record IsParted (m : Memento) (a b old : List Counted) (r : Option Counted) 
   pub found : IfSome r (λ e. e.memento ≡ m)
   pub tally : IsTally old
 
+-- what a list and what is lifted come to, once a memento is taken out
+pub parted_at : (m : Memento) (a b made old : List Counted) (r : Option Counted) → a ++ (option_to_list r ++ b) ≡ made
+    → AreBelow m a → AreAbove m b → IfSome r (λ e. e.memento ≡ m) → made ≡ old → IsTally old → IsParted m a b old r
+parted_at m a b made old r parts below above found is tally = record {
+  parts = parts ∙ is;
+  below = below;
+  above = above;
+  found = found;
+  tally = tally;
+}
+
 -- with this count in the middle
-pub tally_with : (m : Memento) (a b old : List Counted) (r : Option Counted) (n : ℕ) → IsParted m a b old r → 0 < n → IsTally ((a ++ record { memento = m; count = n } ∷ []) ++ b)
+pub tally_with : (m : Memento) (a b old : List Counted) (r : Option Counted) (n : ℕ) → IsParted m a b old r → 0 < n
+    → IsTally ((a ++ record { memento = m; count = n } ∷ []) ++ b)
 tally_with m a b old r n p some = put_in a b (record { memento = m; count = n }) (left_out a r b (subst IsTally (sym p.parts) p.tally)) p.below p.above some
 
 pub tally_without : (m : Memento) (a b old : List Counted) (r : Option Counted) → IsParted m a b old r → IsTally (a ++ b)
@@ -164,14 +186,16 @@ either_none true = refl
 either_none false = refl
 
 -- the memento's count, among the parts
-pub count_parts : (m : Memento) (a b old : List Counted) (r : Option Counted) → IsParted m a b old r → (x : Memento) → count_of old x ≡ count_of a x + (cond (eq_by_cmp memento_cmp x m) (taken r) 0 + count_of b x)
+pub count_parts : (m : Memento) (a b old : List Counted) (r : Option Counted) → IsParted m a b old r → (x : Memento)
+    → count_of old x ≡ count_of a x + (cond (eq_by_cmp memento_cmp x m) (taken r) 0 + count_of b x)
 count_parts m a b old None p x =
     let whole_is = ap (λ (es : List Counted). count_of es x) (sym p.parts) in
     let none = either_none (eq_by_cmp memento_cmp x m) in
     omega (arith, whole_is, count-append a b x, none)
 count_parts m a b old (Some e) p x =
     let whole_is = ap (λ (es : List Counted). count_of es x) (sym p.parts) in
-    let same : cond (eq_by_cmp memento_cmp x e.memento) e.count 0 ≡ cond (eq_by_cmp memento_cmp x m) e.count 0 = ap (λ y. cond (eq_by_cmp memento_cmp x y) e.count 0) p.found in
+    let same : cond (eq_by_cmp memento_cmp x e.memento) e.count 0 ≡ cond (eq_by_cmp memento_cmp x m) e.count 0 =
+    ap (λ y. cond (eq_by_cmp memento_cmp x y) e.count 0) p.found in
     omega (arith, whole_is, count-append a (e ∷ b) x, same)
 
 pub count_itself : (m : Memento) (a b old : List Counted) (r : Option Counted) → IsParted m a b old r → count_of old m ≡ taken r
@@ -181,25 +205,32 @@ count_itself m a b old r p =
     omega (arith, all, one, none_below m a p.below, none_above m b p.above)
 
 -- one archive more
-pub counts_more : (m : Memento) (a b old : List Counted) (r : Option Counted) (n : ℕ) → IsParted m a b old r → n ≡ taken r + 1 → (x : Memento) → count_of ((a ++ record { memento = m; count = n } ∷ []) ++ b) x ≡ count_of old x + once x m
+pub counts_more : (m : Memento) (a b old : List Counted) (r : Option Counted) (n : ℕ) → IsParted m a b old r
+    → n ≡ taken r + 1 → (x : Memento) → count_of ((a ++ record { memento = m; count = n } ∷ []) ++ b) x
+    ≡ count_of old x + once x m
 counts_more m a b old r n p is x =
     let all = count_parts m a b old r p x in
     let here = count-append (a ++ record { memento = m; count = n } ∷ []) b x in
     let there = count-append a (record { memento = m; count = n } ∷ []) x in
-    let more : cond (eq_by_cmp memento_cmp x m) n 0 ≡ cond (eq_by_cmp memento_cmp x m) (taken r) 0 + once x m = ap (λ k. cond (eq_by_cmp memento_cmp x m) k 0) is ∙ once_or_not x m (taken r) in
+    let more : cond (eq_by_cmp memento_cmp x m) n 0 ≡ cond (eq_by_cmp memento_cmp x m) (taken r) 0 + once x m =
+    ap (λ k. cond (eq_by_cmp memento_cmp x m) k 0) is ∙ once_or_not x m (taken r) in
     omega (arith, all, here, there, more)
 
 -- one archive less, of several
-pub counts_less : (m : Memento) (a b old : List Counted) (r : Option Counted) (n : ℕ) → IsParted m a b old r → n + 1 ≡ taken r → (x : Memento) → count_of ((a ++ record { memento = m; count = n } ∷ []) ++ b) x + once x m ≡ count_of old x
+pub counts_less : (m : Memento) (a b old : List Counted) (r : Option Counted) (n : ℕ) → IsParted m a b old r
+    → n + 1 ≡ taken r → (x : Memento) → count_of ((a ++ record { memento = m; count = n } ∷ []) ++ b) x + once x m
+    ≡ count_of old x
 counts_less m a b old r n p is x =
     let all = count_parts m a b old r p x in
     let here = count-append (a ++ record { memento = m; count = n } ∷ []) b x in
     let there = count-append a (record { memento = m; count = n } ∷ []) x in
-    let less : cond (eq_by_cmp memento_cmp x m) (taken r) 0 ≡ cond (eq_by_cmp memento_cmp x m) n 0 + once x m = ap (λ k. cond (eq_by_cmp memento_cmp x m) k 0) (sym is) ∙ once_or_not x m n in
+    let less : cond (eq_by_cmp memento_cmp x m) (taken r) 0 ≡ cond (eq_by_cmp memento_cmp x m) n 0 + once x m =
+    ap (λ k. cond (eq_by_cmp memento_cmp x m) k 0) (sym is) ∙ once_or_not x m n in
     omega (arith, all, here, there, less)
 
 -- and of one
-pub counts_last : (m : Memento) (a b old : List Counted) (r : Option Counted) → IsParted m a b old r → taken r ≡ 1 → (x : Memento) → count_of (a ++ b) x + once x m ≡ count_of old x
+pub counts_last : (m : Memento) (a b old : List Counted) (r : Option Counted) → IsParted m a b old r → taken r ≡ 1
+    → (x : Memento) → count_of (a ++ b) x + once x m ≡ count_of old x
 counts_last m a b old r p is x =
     let all = count_parts m a b old r p x in
     let here = count-append a b x in
@@ -225,7 +256,9 @@ pub record IsBetween (all rest : List Step) (old now : List Counted) : Type 0 wh
   pub shown : (x : Memento) → endings rest x ≤ count_of now x
   pub few : (x : Memento) → count_of now x + beginnings rest x ≤ 18446744073709551615
 
-pub begun_step : (all ss rest : List Step) (s : Step) (old now after : List Counted) → ss ≡ s ∷ rest → s.begins ≡ true → IsBetween all ss old now → ((x : Memento) → count_of after x ≡ count_of now x + once x s.memento) → IsBetween all rest old after
+pub begun_step : (all ss rest : List Step) (s : Step) (old now after : List Counted) → ss ≡ s ∷ rest → s.begins ≡ true
+    → IsBetween all ss old now → ((x : Memento) → count_of after x ≡ count_of now x + once x s.memento)
+    → IsBetween all rest old after
 begun_step all ss rest s old now after is begins between more = record {
   counts = λ x. omega (arith, between.counts x, more x, begun_is x, ceased_is x);
   shown = λ x. omega (arith, between.shown x, more x, ceased_is x);
@@ -238,7 +271,9 @@ begun_step all ss rest s old now after is begins between more = record {
     ceased_is : (x : Memento) → endings ss x ≡ 0 + endings rest x
     ceased_is x = ap (λ (ts : List Step). endings ts x) is ∙ ap (λ b. cond b 0 (once x s.memento) + endings rest x) begins
 
-pub ceased_step : (all ss rest : List Step) (s : Step) (old now after : List Counted) → ss ≡ s ∷ rest → s.begins ≡ false → IsBetween all ss old now → ((x : Memento) → count_of after x + once x s.memento ≡ count_of now x) → IsBetween all rest old after
+pub ceased_step : (all ss rest : List Step) (s : Step) (old now after : List Counted) → ss ≡ s ∷ rest → s.begins ≡ false
+    → IsBetween all ss old now → ((x : Memento) → count_of after x + once x s.memento ≡ count_of now x)
+    → IsBetween all rest old after
 ceased_step all ss rest s old now after is begins between less = record {
   counts = λ x. omega (arith, between.counts x, less x, begun_is x, ceased_is x);
   shown = λ x. omega (arith, between.shown x, less x, ceased_is x);
@@ -252,14 +287,16 @@ ceased_step all ss rest s old now after is begins between less = record {
     ceased_is x = ap (λ (ts : List Step). endings ts x) is ∙ ap (λ b. cond b 0 (once x s.memento) + endings rest x) begins
 
 -- the step in turn begins, so there is room to count it
-pub may_begin : (all ss rest : List Step) (s : Step) (old now : List Counted) → ss ≡ s ∷ rest → s.begins ≡ true → IsBetween all ss old now → count_of now s.memento < 18446744073709551615
+pub may_begin : (all ss rest : List Step) (s : Step) (old now : List Counted) → ss ≡ s ∷ rest → s.begins ≡ true
+    → IsBetween all ss old now → count_of now s.memento < 18446744073709551615
 may_begin all ss rest s old now is begins between =
     let few = between.few s.memento in
     let push = ap (λ (ts : List Step). beginnings ts s.memento) is ∙ ap (λ b. cond b (once s.memento s.memento) 0 + beginnings rest s.memento) begins in
     omega (arith, few, push, once_itself s.memento)
 
 -- or it ceases, and it is counted
-pub may_cease : (all ss rest : List Step) (s : Step) (old now : List Counted) → ss ≡ s ∷ rest → s.begins ≡ false → IsBetween all ss old now → 0 < count_of now s.memento
+pub may_cease : (all ss rest : List Step) (s : Step) (old now : List Counted) → ss ≡ s ∷ rest → s.begins ≡ false
+    → IsBetween all ss old now → 0 < count_of now s.memento
 may_cease all ss rest s old now is begins between =
     let shown = between.shown s.memento in
     let push = ap (λ (ts : List Step). endings ts s.memento) is ∙ ap (λ b. cond b 0 (once s.memento s.memento) + endings rest s.memento) begins in
@@ -267,13 +304,16 @@ may_cease all ss rest s old now is begins between =
 
 -- ---- a walk over two lists
 
-pub held_drop : (xs : List Memento) (i : ℕ) (d x : Memento) → i < length xs → occurrences (drop i xs) x ≡ once x (get_or xs i d) + occurrences (drop (i + 1) xs) x
+pub held_drop : (xs : List Memento) (i : ℕ) (d x : Memento) → i < length xs → occurrences (drop i xs) x
+    ≡ once x (get_or xs i d) + occurrences (drop (i + 1) xs) x
 held_drop xs i d x lt = at_drop_more (λ (ys : List Memento). occurrences ys x) xs i d lt
 
-pub begun_by : (old new : List Step) (m : Memento) (b : Bool) → new ≡ old ++ record { memento = m; begins = b } ∷ [] → (x : Memento) → beginnings new x ≡ beginnings old x + cond b (once x m) 0
+pub begun_by : (old new : List Step) (m : Memento) (b : Bool) → new ≡ old ++ record { memento = m; begins = b } ∷ []
+    → (x : Memento) → beginnings new x ≡ beginnings old x + cond b (once x m) 0
 begun_by old new m b is x = ap (λ (ss : List Step). beginnings ss x) is ∙ beginnings-push old (record { memento = m; begins = b }) x
 
-pub ceased_by : (old new : List Step) (m : Memento) (b : Bool) → new ≡ old ++ record { memento = m; begins = b } ∷ [] → (x : Memento) → endings new x ≡ endings old x + cond b 0 (once x m)
+pub ceased_by : (old new : List Step) (m : Memento) (b : Bool) → new ≡ old ++ record { memento = m; begins = b } ∷ []
+    → (x : Memento) → endings new x ≡ endings old x + cond b 0 (once x m)
 ceased_by old new m b is x = ap (λ (ss : List Step). endings ss x) is ∙ endings-push old (record { memento = m; begins = b }) x
 
 -- ---- steps in another order

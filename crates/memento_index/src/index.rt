@@ -67,7 +67,7 @@ impl Index {
     /// archive alone shows is shared with its entry, and so is the one that a later revision puts in its place; it is
     /// copied when another archive's mementos come beside it, or more of the same revision. Neither the number of
     /// archives nor the lists that don't change make a difference, nor in how many revisions an archive shows a
-    /// memento.
+    /// memento. A list in which more addresses began and ceased than it has is packed anew, unless memory is refused.
     pub fn absorb(&mut self, merge: &Merge) -> Result<(), NoMemory>
         ensures ok { OnOk result (self.new ≡ join self.old (lat (adds_of merge.now))) }
         ensures stands { (hs : List Harvested) → self.old ≡ lat hs

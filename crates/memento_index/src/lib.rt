@@ -18,6 +18,7 @@ mod probed;
 mod replacement;
 mod steps;
 mod tally;
+mod wear;
 
 pub use index::Index;
 pub use last::last_in;

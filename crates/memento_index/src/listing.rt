@@ -9,6 +9,7 @@ ghost use Rattle.memento_index.specs.Tallies.{each_once};
 use crate::counted::{Counted, Step, Steps};
 use crate::counts::recount;
 use crate::tally::{Tally, are_same};
+use crate::wear::{Wear, bytes_of_steps};
 use memento_sets::Mementos;
 use memento_time::{Memento, NoMemory};
 use std::alloc::Global;
@@ -21,6 +22,7 @@ use std::sync::Arc;
 pub struct Listing {
     shared: Option<Arc<Mementos>>,
     own: Tally,
+    wear: Wear,
 }
 
 impl Model for Listing {
@@ -43,6 +45,7 @@ impl Listing {
         Listing {
             shared: None,
             own: Tally::new(alloc),
+            wear: Wear::none(),
         }
     }
 
@@ -75,11 +78,12 @@ impl Listing {
         if let Some(shared) = &self.shared {
             self.own = count_each(shared.allocator(), shared.as_slice(), more)?;
             self.shared = None;
+            self.wear = Wear::none();
         }
         self.own.reserve(more)
     }
 
-    // Counts what archives begin and cease to show. Takes no memory.
+    // Counts what archives begin and cease to show. Needs no memory: where it is refused, the list isn't packed.
     pub fn recount(&mut self, lifted: &mut Tally, steps: Steps)
         requires tally { IsTally self.old.entries }
         requires can { CanCount self.old.entries (steps_in steps) }
@@ -114,7 +118,9 @@ impl Listing {
     {
         // A list that is shared has no room: then it is empty, and there are no steps.
         if self.shared.is_none() {
+            let bytes = bytes_of_steps(&steps);
             recount(&mut self.own, lifted, steps);
+            self.wear.pack_worn(&mut self.own, bytes);
         }
     }
 }

@@ -5,7 +5,7 @@ ghost use Rattle.memento_time.specs.declared.mementos.Memento.{Memento as AMemen
 ghost use Rattle.memento_index.specs.Counts.{beginnings, endings, occurrences};
 
 use crate::counted::Step;
-use memento_time::{Memento, NoMemory};
+use memento_time::{Clean, Memento, NoMemory};
 use std::alloc::Global;
 use std::cmp::Ordering;
 
@@ -27,7 +27,27 @@ fn next_at(before: &[Memento], i: usize, after: &[Memento], j: usize) -> Orderin
     before[i].cmp(&after[j])
 }
 
+// A copy of a memento, whose address has a buffer of its own unless it is to share the memento's.
+fn copy_of(alloc: Global, memento: &Memento, shares: bool) -> Result<Memento, NoMemory>
+    ensures { IfOk result (λ copy. copy ≡ memento.now) }
+{
+    if shares {
+        return memento.try_clone();
+    }
+    // An address is clean.
+    match Clean::new(alloc, memento.uri.as_bytes()) {
+        Ok(uri) => Ok(Memento {
+            at: memento.at,
+            uri,
+        }),
+        Err(_) => Err(NoMemory),
+    }
+}
+
 // What an entry ceases to show that showed the one list, and begins to show with the other, in order where these are.
+//
+// Where it showed nothing before, all of the other list begins, and shares its addresses. Else no address that begins
+// keeps the others that stand in its buffer.
 pub fn steps_between(
     alloc: Global,
     before: &[Memento],
@@ -56,7 +76,7 @@ pub fn steps_between(
                 j += 1;
             }
             Ordering::Greater => {
-                let memento = after[j].try_clone()?;
+                let memento = copy_of(alloc, &after[j], before.is_empty())?;
                 steps.push(Step {
                     memento,
                     begins: true,

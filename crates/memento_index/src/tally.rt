@@ -6,6 +6,7 @@ ghost use Rattle.memento_index.specs.Counts.{mementos_of, AreBelow, IsTally};
 ghost use Rattle.memento_index.specs.Tallies.{each_once};
 
 use crate::counted::Counted;
+use memento_sets::packed;
 use memento_time::{Memento, NoMemory};
 use std::alloc::Global;
 use std::marker::Model;
@@ -68,6 +69,15 @@ impl Tally {
         self.mementos.reserve(more)?;
         self.counts.reserve(more)?;
         Ok(self.mementos.len() + more)
+    }
+
+    // A copy whose addresses are packed.
+    pub fn packed(&self) -> Result<Tally, NoMemory>
+        ensures { IfOk result (λ copy. copy.entries ≡ self.now.entries) }
+    {
+        let mementos = packed(*self.mementos.allocator(), &self.mementos)?;
+        let counts = self.counts.clone()?;
+        Ok(Tally { mementos, counts })
     }
 
     // Adds a memento at the end, in the room that there is.

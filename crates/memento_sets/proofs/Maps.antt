@@ -25,7 +25,8 @@ either f (Some a) None = refl
 either f (Some a) (Some b) = refl
 
 module _ {K V : Type 0} {R : K → K → Ordering} (o : IsTotalOrder R) (same : IsAntisymmetric R) where
-  tabulate_more : (m : FinMap R V) (k : K) (f : K → Option V) (q : K) (any : Bool) → get m q ≡ cond any (f q) None → get (insert_some m k (f k)) q ≡ cond (eq_by_cmp R q k || any) (f q) None
+  tabulate_more : (m : FinMap R V) (k : K) (f : K → Option V) (q : K) (any : Bool) → get m q ≡ cond any (f q) None
+      → get (insert_some m k (f k)) q ≡ cond (eq_by_cmp R q k || any) (f q) None
   tabulate_more m k f q any e =
       let at : eq_by_cmp R q k ≡ true → f q ≡ f k = λ t. ap f (same q k ((Equal-is (R q k)).0 t)) in
       elim (f k) as (λ v. f q ≡ f q → (eq_by_cmp R q k ≡ true → f q ≡ v) → get (insert_some m k v) q ≡ cond (eq_by_cmp R q k || any) (f q) None) [

@@ -18,12 +18,14 @@ use Rattle.memento_sets.proofs.Sets.{contains-from_list, contains-union, same_se
 
 below_marked : (x : Memento) (xs : List Memento) → AllByRecursion (λ y. memento_cmp x y ≡ Less) xs → T (below_all memento_cmp x (set.as_keys xs))
 below_marked x [] h = tt
-below_marked x (y ∷ xs) h = both_parts (is_lt (memento_cmp x y)) (below_all memento_cmp x (set.as_keys xs)) (subst (λ r. T (is_lt r)) (sym h.0) tt) (below_marked x xs h.1)
+below_marked x (y ∷ xs) h = both_parts (is_lt (memento_cmp x y)) (below_all memento_cmp x (set.as_keys xs))
+    (subst (λ r. T (is_lt r)) (sym h.0) tt) (below_marked x xs h.1)
 
 pub sorted_marked : (xs : List Memento) → IsStrictlySortedBy memento_cmp xs → T (is_sorted memento_cmp (set.as_keys xs))
 unfolding IsStrictlySortedBy
 sorted_marked [] h = tt
-sorted_marked (x ∷ xs) h = both_parts (below_all memento_cmp x (set.as_keys xs)) (is_sorted memento_cmp (set.as_keys xs)) (below_marked x xs h.0) (sorted_marked xs h.1)
+sorted_marked (x ∷ xs) h = both_parts (below_all memento_cmp x (set.as_keys xs))
+    (is_sorted memento_cmp (set.as_keys xs)) (below_marked x xs h.0) (sorted_marked xs h.1)
 
 -- a list in order, each memento once, is the list of its set
 pub items_in_order : (xs : List Memento) → IsStrictlySortedBy memento_cmp xs → set.items (set.from_list {R = memento_cmp} xs) ≡ xs
@@ -34,7 +36,9 @@ module _ (E : Memento → Memento → Bool) (ties : (x y : Memento) → E x y �
   any_dedup_from p k [] = refl
   any_dedup_from p k (x ∷ xs) =
       elim (E x k) as (λ b. E x k ≡ b → list_any p (cond b (dedup_from E k xs) (k ∷ dedup_from E x xs)) ≡ (p k || (p x || list_any p xs))) [
-        | true ↦ λ t. any_dedup_from p k xs ∙ twice (p k) (p x) (list_any p xs) (ap p (memento_cmp_exact x k ((Equal-is (memento_cmp x k)).0 (sym (ties x k) ∙ t))))
+        | true ↦ λ t. any_dedup_from p k xs
+            ∙ twice (p k) (p x) (list_any p xs)
+            (ap p (memento_cmp_exact x k ((Equal-is (memento_cmp x k)).0 (sym (ties x k) ∙ t))))
         | false ↦ λ _. ap (λ b. p k || b) (any_dedup_from p x xs)
       ] refl
     where

@@ -39,10 +39,15 @@ module _ {K X : Type 0} (R : K → K → Ordering) where
   from_keys (e ∷ es) h = both_parts (below_all R e.0 es) (is_sorted R es) (below_keys e.0 es h.0) (from_keys es h.1)
 
   pub risen : IsTotalOrder R → (es : List (K × X)) (ks : List K) (n : ℕ) (d : K) → map (λ e. e.0) es ≡ ks → Rises R ks n → length ks ≤ n → is_sorted R es ≡ true
-  risen o es ks n d e rises le = is_true (is_sorted R es) (from_keys es (subst (IsStrictlySortedBy R) (sym e) (sorted_from_all_adjacent o ks d (λ k lt. rises k d (omega (arith, le, lt))))))
+  risen o es ks n d e rises le = is_true (is_sorted R es)
+      (from_keys es (subst (IsStrictlySortedBy R) (sym e)
+      (sorted_from_all_adjacent o ks d (λ k lt. rises k d (omega (arith, le, lt))))))
 
-  pub fallen : (es : List (K × X)) (ks : List K) (k : ℕ) (d : K) → map (λ e. e.0) es ≡ ks → 0 < k → k < length ks → (R (get_or ks (k - 1) d) (get_or ks k d) ≡ Less → ⊥) → is_sorted R es ≡ false
-  fallen es ks k d e some lt differ = is_false (is_sorted R es) (λ h. differ (Less-from_sorted R ks (k - 1) k d (subst (IsStrictlySortedBy R) e (keys_rise R es h)) (omega arith) lt))
+  pub fallen : (es : List (K × X)) (ks : List K) (k : ℕ) (d : K) → map (λ e. e.0) es ≡ ks → 0 < k → k < length ks
+      → (R (get_or ks (k - 1) d) (get_or ks k d) ≡ Less → ⊥) → is_sorted R es ≡ false
+  fallen es ks k d e some lt differ = is_false (is_sorted R es)
+      (λ h. differ (Less-from_sorted R ks (k - 1) k d (subst (IsStrictlySortedBy R) e (keys_rise R es h))
+      (omega arith) lt))
 
 pub mementos_risen : (ms : List Memento) (n : ℕ) → Rises memento_cmp ms n → length ms ≤ n → is_sorted memento_cmp (set.as_keys ms) ≡ true
 mementos_risen ms n rises le = elim ms as (λ ms. Rises memento_cmp ms n → length ms ≤ n → is_sorted memento_cmp (set.as_keys ms) ≡ true) [
@@ -64,7 +69,8 @@ mementos_fallen ms k a b some lt at next differ =
 
 -- mementos that rise stand in order
 pub rise_in_order : (ms : List Memento) → is_sorted memento_cmp (set.as_keys ms) ≡ true → IsStrictlySortedBy memento_cmp ms
-rise_in_order ms h = subst (IsStrictlySortedBy memento_cmp) (firsts memento_cmp_total memento_cmp_exact ms) (keys_rise memento_cmp (set.as_keys ms) (subst T (sym h) tt))
+rise_in_order ms h = subst (IsStrictlySortedBy memento_cmp) (firsts memento_cmp_total memento_cmp_exact ms)
+    (keys_rise memento_cmp (set.as_keys ms) (subst T (sym h) tt))
 
 pub less_is : (r : Ordering) (b : Bool) → b ≡ is_lt r → b ≡ true → r ≡ Less
 less_is r b e h = less_from r (subst T (sym h ∙ e) tt)

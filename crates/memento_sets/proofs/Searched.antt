@@ -1,5 +1,6 @@
 -- What a binary search finds in a list of mementos in order, and when every memento of a list is in another.
-use Rattle.std.proofs.Common.{◌≡◌, ℕ, suc, ◌+◌, ◌<◌, Bool, true, false, ◌||◌, ◌&&◌, length, get_or, take, ◌++◌, subst, List, [], ◌∷◌, Result, Ok, Err, is_ok, inl, inr, refl, sym, ap, ◌∙◌, arith}
+use Rattle.std.proofs.Common.{◌≡◌, ℕ, suc, ◌+◌, ◌<◌, Bool, true, false, ◌||◌, ◌&&◌, length, get_or, take, ◌++◌, subst}
+use Rattle.std.proofs.Common.{List, [], ◌∷◌, Result, Ok, Err, is_ok, inl, inr, refl, sym, ap, ◌∙◌, arith}
 use Rattle.std.specs.declared.cmp.Ordering.TheVariants.{Less, Equal, Greater}
 use Rattle.std.specs.List.{list_any, list_all}
 use Rattle.std.specs.List.Sorted.{IsStrictlySortedBy, IsSortedBy, IsSearchInRange, IsBinarySearchResult}
@@ -37,7 +38,8 @@ none_at p (x ∷ xs) h = (λ i. h 0 x (omega arith) i || list_any p xs) ∙ none
 pub search_is : (xs : List Memento) (m : Memento) (r : Result ℕ ℕ) → IsStrictlySortedBy memento_cmp xs → IsSearchInRange r (length xs)
     → IsBinarySearchResult (λ y. memento_cmp y m) xs r → is_ok r ≡ set.contains (set.from_list {R = memento_cmp} xs) m
 search_is xs m (Ok at) h in_range here =
-    sym (contains_is xs m ∙ list_any_at (eq_by_cmp memento_cmp m) xs at m in_range ((eq_by_cmp_equiv memento_cmp_total).symm m (get_or xs at m) ∙ ap is_eq (here m)))
+    sym (contains_is xs m ∙ list_any_at (eq_by_cmp memento_cmp m) xs at m in_range
+    ((eq_by_cmp_equiv memento_cmp_total).symm m (get_or xs at m) ∙ ap is_eq (here m)))
 search_is xs m (Err at) h in_range parted =
     let point = parted (searchable_from_sorted memento_cmp_total (λ x. x) xs m (steps xs h)) in
     sym (contains_is xs m ∙ none_at (eq_by_cmp memento_cmp m) xs (λ j d lt. elim (cases_lt j at) [
@@ -51,10 +53,11 @@ all_any : (p : Memento → Bool) (xs : List Memento) → list_all p xs ≡ true 
 all_any p [] all m any = absurd (true≢false (sym any))
 all_any p (x ∷ xs) all m any =
     elim (p x) as (λ b. p x ≡ b → (b && list_all p xs) ≡ true → p m ≡ true) [
-      | true ↦ λ first rest. elim (eq_by_cmp memento_cmp m x) as (λ b. eq_by_cmp memento_cmp m x ≡ b → (b || list_any (eq_by_cmp memento_cmp m) xs) ≡ true → p m ≡ true) [
-        | true ↦ λ t _. ap p (memento_cmp_exact m x ((Equal-is (memento_cmp m x)).0 t)) ∙ first
-        | false ↦ λ _ more. all_any p xs rest m more
-      ] refl any
+      | true ↦ λ first rest. elim (eq_by_cmp memento_cmp m x) as (λ b. eq_by_cmp memento_cmp m x ≡ b
+          → (b || list_any (eq_by_cmp memento_cmp m) xs) ≡ true → p m ≡ true) [
+            | true ↦ λ t _. ap p (memento_cmp_exact m x ((Equal-is (memento_cmp m x)).0 t)) ∙ first
+            | false ↦ λ _ more. all_any p xs rest m more
+          ] refl any
       | false ↦ λ _ none. absurd (true≢false (sym none))
     ] refl all
 
@@ -62,7 +65,8 @@ all_from : (p : Memento → Bool) (xs : List Memento) → ((m : Memento) → lis
 all_from p [] h = refl
 all_from p (x ∷ xs) h =
     (λ i. h x (ap (λ o. is_eq o || list_any (eq_by_cmp memento_cmp x) xs) (tied_itself memento_cmp_total x)) i && list_all p xs)
-    ∙ all_from p xs (λ m any. h m (elim (eq_by_cmp memento_cmp m x) as (λ b. (b || list_any (eq_by_cmp memento_cmp m) xs) ≡ true) [ true ↦ refl | false ↦ any ]))
+    ∙ all_from p xs (λ m any. h m (elim (eq_by_cmp memento_cmp m x) as
+    (λ b. (b || list_any (eq_by_cmp memento_cmp m) xs) ≡ true) [ true ↦ refl | false ↦ any ]))
 
 pub subset_from_all : (s t : Mementos) → list_all (λ m. set.contains t m) (set.items s) ≡ true → IsSubset s t
 subset_from_all s t all m had = all_any (λ m. set.contains t m) (set.items s) all m (sym (contains_key-keys s m) ∙ had)

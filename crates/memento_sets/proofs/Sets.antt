@@ -41,7 +41,8 @@ module _ {K : Type 0} {R : K → K → Ordering} (o : IsTotalOrder R) (same : Is
 
   find_marked : (xs : List K) (x : K) → is_some (find R x (as_keys xs)) ≡ list_any (eq_by_cmp R x) xs
   find_marked [] x = refl
-  find_marked (y ∷ xs) x = elim (eq_by_cmp R x y) as (λ b. is_some (cond b (Some tt) (find R x (as_keys xs))) ≡ (b || list_any (eq_by_cmp R x) xs)) [ true ↦ refl | false ↦ find_marked xs x ]
+  find_marked (y ∷ xs) x = elim (eq_by_cmp R x y) as (λ b. is_some (cond b (Some tt) (find R x (as_keys xs)))
+      ≡ (b || list_any (eq_by_cmp R x) xs)) [ true ↦ refl | false ↦ find_marked xs x ]
 
   pub contains-from_list : (xs : List K) (x : K) → contains (from_list {R = R} xs) x ≡ list_any (eq_by_cmp R x) xs
   contains-from_list xs x = ap is_some (get-from_entries o (as_keys xs) x) ∙ find_marked xs x

@@ -1,5 +1,6 @@
 -- Lists of mementos in order, part by part.
-use Rattle.std.proofs.Common.{◌≡◌, ℕ, zero, suc, ◌<◌, Bool, true, false, ◌||◌, ◌++◌, List, [], ◌∷◌, Some, length, get_or, take, reverse, refl, sym, ap, subst, ◌∙◌, arith, append_assoc}
+use Rattle.std.proofs.Common.{◌≡◌, ℕ, zero, suc, ◌<◌, Bool, true, false, ◌||◌, ◌++◌, List, [], ◌∷◌, Some, length}
+use Rattle.std.proofs.Common.{get_or, take, reverse, refl, sym, ap, subst, ◌∙◌, arith, append_assoc}
 use Rattle.std.specs.declared.cmp.Ordering.TheVariants.{Less}
 use Rattle.std.specs.List.{list_any, AllByRecursion, slice_get}
 use Rattle.std.proofs.lemmas.Option.{none-some, same_Some}
@@ -57,7 +58,8 @@ chained (x ∷ xs) m ys h g =
     let lt = above_last x xs m h.0 in
     (above_both x xs (m ∷ ys) (above_front x xs (m ∷ []) h.0) (lt, above_all x m ys lt g.0), chained xs m ys h.1 g)
 
-pub up_to : (xs : List Memento) (m : Memento) (ys : List Memento) → IsStrictlySortedBy memento_cmp (xs ++ m ∷ ys) → IsStrictlySortedBy memento_cmp (xs ++ m ∷ [])
+pub up_to : (xs : List Memento) (m : Memento) (ys : List Memento) → IsStrictlySortedBy memento_cmp (xs ++ m ∷ ys)
+    → IsStrictlySortedBy memento_cmp (xs ++ m ∷ [])
 up_to xs m ys h = front_in_order (xs ++ m ∷ []) ys (subst (IsStrictlySortedBy memento_cmp) (sym (append_assoc xs (m ∷ []) ys)) h)
 
 pub pair_in_order : (m n : Memento) → memento_cmp m n ≡ Less → IsStrictlySortedBy memento_cmp (m ∷ n ∷ [])
@@ -65,7 +67,8 @@ unfolding IsStrictlySortedBy
 pair_in_order m n lt = ((lt, tt), (tt, tt))
 
 -- a lesser memento in front
-pub lesser_first : (m n : Memento) (ys : List Memento) → memento_cmp m n ≡ Less → IsStrictlySortedBy memento_cmp (n ∷ ys) → IsStrictlySortedBy memento_cmp (m ∷ n ∷ ys)
+pub lesser_first : (m n : Memento) (ys : List Memento) → memento_cmp m n ≡ Less
+    → IsStrictlySortedBy memento_cmp (n ∷ ys) → IsStrictlySortedBy memento_cmp (m ∷ n ∷ ys)
 unfolding IsStrictlySortedBy
 lesser_first m n ys lt h = ((lt, above_all m n ys lt h.0), h)
 
@@ -73,7 +76,9 @@ lesser_first m n ys lt h = ((lt, above_all m n ys lt h.0), h)
 pub added_behind : (front added : List Memento) (m : Memento) → slice_get added 0 ≡ Some m → IsStrictlySortedBy memento_cmp (front ++ m ∷ [])
     → IsStrictlySortedBy memento_cmp added → IsStrictlySortedBy memento_cmp (front ++ added)
 added_behind front [] m first below h = absurd (none-some m first)
-added_behind front (n ∷ added) m first below h = chained front n added (subst (λ k. IsStrictlySortedBy memento_cmp (front ++ k ∷ [])) (sym (same_Some n m first)) below) h
+added_behind front (n ∷ added) m first below h =
+    chained front n added (subst (λ k. IsStrictlySortedBy memento_cmp (front ++ k ∷ [])) (sym (same_Some n m first))
+    below) h
 
 -- a memento above those of a front
 pub above_front_of : (xs : List Memento) (at : ℕ) (m : Memento) → IsStrictlySortedBy memento_cmp xs
@@ -97,7 +102,8 @@ next_first xs m lifted is = ap (λ (ys : List Memento). reverse ys) is ∙ rever
 
 pub reverse_twice : (xs : List Memento) → reverse (reverse xs) ≡ xs
 reverse_twice [] = refl
-reverse_twice (x ∷ xs) = ap (λ (ys : List Memento). reverse ys) (reverse-append (x ∷ []) xs) ∙ (reverse-append (reverse xs) (x ∷ []) ∙ ap (λ (ys : List Memento). x ∷ ys) (reverse_twice xs))
+reverse_twice (x ∷ xs) = ap (λ (ys : List Memento). reverse ys) (reverse-append (x ∷ []) xs)
+    ∙ (reverse-append (reverse xs) (x ∷ []) ∙ ap (λ (ys : List Memento). x ∷ ys) (reverse_twice xs))
 
 -- ---- members
 
@@ -124,7 +130,8 @@ or_next true false c = refl
 or_next false b c = refl
 
 -- what comes next is counted once
-pub any_next : (p : Memento → Bool) (m : Memento) (now was : Bool) (rest : List Memento) → now ≡ (p m || was) → (now || list_any p rest) ≡ (was || list_any p (m ∷ rest))
+pub any_next : (p : Memento → Bool) (m : Memento) (now was : Bool) (rest : List Memento) → now ≡ (p m || was)
+    → (now || list_any p rest) ≡ (was || list_any p (m ∷ rest))
 any_next p m now was rest is = ap (λ b. b || list_any p rest) is ∙ or_next (p m) was (list_any p rest)
 
 pub any_none : (p : Memento → Bool) (b : Bool) (rest : List Memento) → rest ≡ [] → (b || list_any p rest) ≡ b

@@ -12,4 +12,4 @@ mod laws;
 mod mementos;
 
 pub use laws::one_list_of_a_set;
-pub use mementos::Mementos;
+pub use mementos::{Mementos, packed};

@@ -99,7 +99,7 @@ impl Mementos {
         all_in(self.as_slice(), other)
     }
 
-    /// Copies of those that the other set lacks.
+    /// Those that the other set lacks, packed: nothing of the rest is kept.
     pub fn without(&self, other: &Mementos) -> Result<Mementos, NoMemory>
         ensures { IfOk result (λ rest. rest ≡ set.minus self.now other.now) }
     {
@@ -107,11 +107,11 @@ impl Mementos {
         Ok(Mementos { list })
     }
 
-    /// A copy whose addresses share one buffer that has nothing else. `NoMemory` also where they would have 4 GiB.
+    /// A copy whose addresses share one buffer that has nothing else: see `packed`.
     pub fn packed(&self) -> Result<Mementos, NoMemory>
         ensures { IfOk result (λ copy. copy ≡ self.now) }
     {
-        let list = pack(*self.list.allocator(), &self.list)?;
+        let list = packed(*self.list.allocator(), &self.list)?;
         Ok(Mementos { list })
     }
 
@@ -153,7 +153,7 @@ fn all_in(list: &[Memento], others: &Mementos) -> bool
     list.iter().all(|memento| others.has(memento))
 }
 
-// Copies of those of a list that a set lacks.
+// Of a list those that a set lacks, packed.
 fn copy_missing(
     alloc: Global,
     list: &[Memento],
@@ -161,26 +161,40 @@ fn copy_missing(
 ) -> Result<Vec<Memento>, NoMemory>
     ensures { IfOk result (λ rest. rest.items ≡ filter (λ m. not (set.contains others.now m)) list.now) }
 {
-    let mut rest = Vec::new(alloc);
+    let mut rest = MementosBuilder::new(alloc);
     for memento in list {
         if !others.has(memento) {
-            rest.push(memento.try_clone()?)?;
+            append(&mut rest, memento)?;
         }
     }
-    Ok(rest)
+    Ok(rest.build(alloc)?)
 }
 
-// Copies whose addresses share one buffer that has nothing else.
-fn pack(alloc: Global, list: &[Memento]) -> Result<Vec<Memento>, NoMemory>
+/// Copies whose addresses share one buffer that has nothing else: they are *packed*. `NoMemory` also where the addresses
+/// would have 4 GiB.
+///
+/// An address is a range of a buffer, and keeps all of it. So a list is packed where a part of it stays longer than the
+/// rest: a harvest's, and that of a revision that is read, since a page or a text has more than them; what one list has
+/// and another lacks (`Mementos::without`); and a list that has seen as many addresses come and go as it has.
+pub fn packed(alloc: Global, list: &[Memento]) -> Result<Vec<Memento>, NoMemory>
     ensures { IfOk result (λ copies. copies.items ≡ list.now) }
 {
     let mut builder = MementosBuilder::new(alloc);
     for memento in list {
-        if builder.push(memento.at, memento.uri.as_bytes()).is_err() {
-            return Err(NoMemory);
-        }
+        append(&mut builder, memento)?;
     }
     Ok(builder.build(alloc)?)
+}
+
+// Adds a memento, whose address is copied.
+fn append(builder: &mut MementosBuilder, memento: &Memento) -> Result<(), NoMemory>
+    ensures { OnOk result (builder.new ≡ builder.old ++ memento.now ∷ []) }
+{
+    // An address is clean.
+    match builder.push(memento.at, memento.uri.as_bytes()) {
+        Ok(()) => Ok(()),
+        Err(_) => Err(NoMemory),
+    }
 }
 
 // How many of a list in order are below a memento.

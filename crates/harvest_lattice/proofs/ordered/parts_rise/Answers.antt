@@ -19,7 +19,8 @@ loop-k-preserved c = record {
       let a = c.index-parts-k.result in
       let b = c.index-parts-k-in-loop-k.result in
       let lt : a.0 < b.0 = omega (arith, c.if-revision.false, c.revision.ensures, c.revision-in-loop-k.ensures) in
-      parts_more c.args.parts.now c.loop-k.k a b c.loop-k.invariant.some c.loop-k-test.true c.index-parts-k.is c.index-parts-k-in-loop-k.is (sym (nat_cmp_is a.0 b.0 Less lt)) c.loop-k.invariant.rises;
+      parts_more c.args.parts.now c.loop-k.k a b c.loop-k.invariant.some c.loop-k-test.true c.index-parts-k.is
+      c.index-parts-k-in-loop-k.is (sym (nat_cmp_is a.0 b.0 Less lt)) c.loop-k.invariant.rises;
 }
 
 pub returns : goal.returns

@@ -15,9 +15,13 @@ returns-clause-placed c =
     let greater = reverse c.pass.new.waiting.items in
     let here = c.in_ok-standing.standing in
     let p = c.args.part.now in
-    placed_is all lesser greater c.push.new.self.items here p c.in_ok-placed.placed (subst (λ r. IsParted r all lesser here greater) c.revision.ensures c.in_ok-standing.ensures) c.in_ok-placed.ensures c.in_ok-push.ensures.items
+    placed_is all lesser greater c.push.new.self.items here p c.in_ok-placed.placed
+    (subst (λ r. IsParted r all lesser here greater) c.revision.ensures c.in_ok-standing.ensures)
+    c.in_ok-placed.ensures c.in_ok-push.ensures.items
 
 pub returns-clause-last : goal.returns-clause-last
 returns-clause-last c =
     let all = c.args.both.now.items ++ reverse c.args.waiting.now.items in
-    all_up_to c.revision.result all c.pass.new.both.items (reverse c.pass.new.waiting.items) c.push.new.self.items c.in_ok-standing.standing c.args.part.now c.in_ok-placed.placed (sym c.revision.ensures) c.in_ok-standing.ensures c.in_ok-placed.ensures c.in_ok-push.ensures.items
+    all_up_to c.revision.result all c.pass.new.both.items (reverse c.pass.new.waiting.items) c.push.new.self.items
+    c.in_ok-standing.standing c.args.part.now c.in_ok-placed.placed
+    (sym c.revision.ensures) c.in_ok-standing.ensures c.in_ok-placed.ensures c.in_ok-push.ensures.items

@@ -6,5 +6,6 @@ use Rattle.harvest_lattice.proofs.ordered.unite.Given as goal
 abbrev pub invariant-loop-part : goal.invariant-loop-part
 invariant-loop-part l = record {
   whole : put_parts (l.both.items ++ reverse l.waiting.items) (drop l.part-index l.coming) ≡ put_parts l.fn.standing.items l.coming;
-  below : (i j : ℕ) (d : ℕ × Mementos) → i < length l.both.items → l.part-index ≤ j → j < length l.coming → (get_or l.both.items i d).0 < (get_or l.coming j d).0;
+  below : (i j : ℕ) (d : ℕ × Mementos) → i < length l.both.items → l.part-index ≤ j → j < length l.coming
+      → (get_or l.both.items i d).0 < (get_or l.coming j d).0;
 }

@@ -51,8 +51,20 @@ loop-step-init c =
       count = omega (arith, all.1, ap (λ (ss : List Step). length ss) all.0);
       between = record {
         counts = λ x. ap (λ (es : List Counted). count_of es x + (beginnings sorted x + endings sorted x)) same;
-        shown = λ x. omega (arith, c.requires.shown x, ap (λ (es : List Counted). count_of es x) same, ap (λ (ss : List Step). endings ss x) all.0, endings-IsPermutation steps _ x c.sort_unstable.ensures.permutation);
-        few = λ x. omega (arith, c.requires.few x, ap (λ (es : List Counted). count_of es x) same, ap (λ (ss : List Step). beginnings ss x) all.0, beginnings-IsPermutation steps _ x c.sort_unstable.ensures.permutation);
+        shown = λ x. omega (
+          arith,
+          c.requires.shown x,
+          ap (λ (es : List Counted). count_of es x) same,
+          ap (λ (ss : List Step). endings ss x) all.0,
+          endings-IsPermutation steps _ x c.sort_unstable.ensures.permutation,
+        );
+        few = λ x. omega (
+          arith,
+          c.requires.few x,
+          ap (λ (es : List Counted). count_of es x) same,
+          ap (λ (ss : List Step). beginnings ss x) all.0,
+          beginnings-IsPermutation steps _ x c.sort_unstable.ensures.permutation,
+        );
       };
     }
 

@@ -11,5 +11,6 @@ invariant-loop-step l = record {
   lifted_room : length l.list.entries + length l.lifted.entries + into_iter_len l.step-iterator ≤ l.lifted.room;
   count : into_iter_len l.step-iterator ≡ length (into_iter_items l.step-iterator);
   lifted_grows : l.initial.lifted.room ≤ l.lifted.room;
-  between : IsBetween (into_iter_items l.initial.step-iterator) (into_iter_items l.step-iterator) l.initial.list.entries (whole l.list.entries l.lifted.entries);
+  between : IsBetween (into_iter_items l.initial.step-iterator) (into_iter_items l.step-iterator) l.initial.list.entries
+      (whole l.list.entries l.lifted.entries);
 }

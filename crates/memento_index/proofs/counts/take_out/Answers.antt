@@ -18,7 +18,9 @@ returns-in-Equal-clause-above c =
     let rest = c.pop.new.self.entries in
     let was : c.loop-counted.lifted.entries ≡ rest ++ e ∷ [] = grind (arith, common_steps) in
     let tie : memento_cmp e.memento c.args.memento.now ≡ Equal = sym c.cmp.ensures ∙ c.in-Equal.is in
-    subst (λ m. AreAbove m (reverse rest)) (same_memento _ _ tie) (above_top c.loop-counted.list.entries c.loop-counted.lifted.entries rest e was (subst IsTally (sym c.loop-counted.invariant.whole) c.requires.tally))
+    subst (λ m. AreAbove m (reverse rest)) (same_memento _ _ tie)
+    (above_top c.loop-counted.list.entries c.loop-counted.lifted.entries rest e was
+    (subst IsTally (sym c.loop-counted.invariant.whole) c.requires.tally))
 
 pub returns-in-Greater-clause-above : goal.returns-in-Greater-clause-above
 returns-in-Greater-clause-above c =
@@ -27,4 +29,6 @@ returns-in-Greater-clause-above c =
     let was : c.loop-counted.lifted.entries ≡ rest ++ e ∷ [] = grind (arith, common_steps) in
     let put : c.push-in-Greater.new.self.entries ≡ rest ++ e ∷ [] = grind (arith, common_steps) in
     let gt : memento_cmp e.memento c.args.memento.now ≡ Greater = sym c.cmp.ensures ∙ c.in-Greater.is in
-    subst (λ (xs : List Counted). AreAbove c.args.memento.now (reverse xs)) (sym put) (above_all _ rest e gt (above_top c.loop-counted.list.entries c.loop-counted.lifted.entries rest e was (subst IsTally (sym c.loop-counted.invariant.whole) c.requires.tally)))
+    subst (λ (xs : List Counted). AreAbove c.args.memento.now (reverse xs)) (sym put)
+    (above_all _ rest e gt (above_top c.loop-counted.list.entries c.loop-counted.lifted.entries rest e was
+    (subst IsTally (sym c.loop-counted.invariant.whole) c.requires.tally)))

@@ -11,15 +11,19 @@ returns-clause-shifted c =
     let all = c.args.all.now in
     let same = c.in_ok-original.ensures ∙ c.original.ensures in
     subst (λ (ss : List Step). IsShifted c.args.state.now (row_entry row) (steps_of all row.original) ss)
-    (sym (steps_put all c.take_more_steps.new.all c.insert.new.self row.original c.in_ok-original.original c.in_ok-steps.steps c.in_ok-steps.ensures.gone c.in_ok-insert.ensures.updates.0 same))
+    (sym (steps_put all c.take_more_steps.new.all c.insert.new.self row.original c.in_ok-original.original
+    c.in_ok-steps.steps c.in_ok-steps.ensures.gone c.in_ok-insert.ensures.updates.0 same))
     c.in_ok-steps.ensures.shifted
 
 pub returns-clause-others : goal.returns-clause-others
 returns-clause-others c =
     let same = c.in_ok-original.ensures ∙ c.original.ensures in
-    others_stay c.args.all.now c.take_more_steps.new.all c.insert.new.self c.args.row.now.original c.in_ok-original.original c.in_ok-steps.steps c.in_ok-steps.ensures.gone c.in_ok-insert.ensures.updates.0 same
+    others_stay c.args.all.now c.take_more_steps.new.all c.insert.new.self c.args.row.now.original
+    c.in_ok-original.original c.in_ok-steps.steps c.in_ok-steps.ensures.gone c.in_ok-insert.ensures.updates.0 same
 
 pub returns-clause-fit : goal.returns-clause-fit
 returns-clause-fit c =
     let same = c.in_ok-original.ensures ∙ c.original.ensures in
-    fit_put c.args.all.now c.take_more_steps.new.all c.insert.new.self c.args.row.now.original c.in_ok-original.original c.in_ok-steps.steps c.in_ok-steps.ensures.gone c.in_ok-insert.ensures.updates.0 same c.args.lists.now c.requires.fit c.in_ok-steps.ensures.fit
+    fit_put c.args.all.now c.take_more_steps.new.all c.insert.new.self c.args.row.now.original c.in_ok-original.original
+    c.in_ok-steps.steps c.in_ok-steps.ensures.gone c.in_ok-insert.ensures.updates.0 same c.args.lists.now
+    c.requires.fit c.in_ok-steps.ensures.fit

@@ -14,5 +14,10 @@ returns c =
     let more = c.in_ok-more.more.items in
     let is : c.append.new.self.items ≡ c.args.steps.now.items ++ more = grind (arith, common_steps) in
     stepped (shared_mementos made.before) (set.items (arc_value made.after)) c.args.steps.now.items more c.append.new.self.items is
-    (λ m. omega (arith, c.in_ok-more.ensures.counts m, ap (λ (ms : List Memento). occurrences ms m) c.before-2.ensures, ap (λ (ms : List Memento). occurrences ms m) c.after.ensures))
+    (λ m. omega (
+      arith,
+      c.in_ok-more.ensures.counts m,
+      ap (λ (ms : List Memento). occurrences ms m) c.before-2.ensures,
+      ap (λ (ms : List Memento). occurrences ms m) c.after.ensures,
+    ))
     (λ m. omega (arith, c.in_ok-more.ensures.shown m, ap (λ (ms : List Memento). occurrences ms m) c.before-2.ensures))

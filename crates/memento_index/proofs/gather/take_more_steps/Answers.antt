@@ -17,8 +17,11 @@ returns-then-replaces_all-clause-shifted c =
     let made = c.in_ok-made.made in
     let before = shared_mementos made.before in
     let after = set.items (arc_value made.after) in
-    let none : tree.get text_cmp c.args.all.now row.original ≡ None = ap (λ p. tree.get text_cmp c.args.all.now p) (sym c.original.ensures) ∙ c.replaces_all.ensures.alone c.if-replaces_all.true in
-    subst (λ (ss : List Step). IsShifted x (row_entry row) ss (each_step false before ++ each_step true after)) (sym (ap (λ (s : Option Steps). steps_or_none s) none))
+    let none : tree.get text_cmp c.args.all.now row.original ≡ None =
+    ap (λ p. tree.get text_cmp c.args.all.now p) (sym c.original.ensures)
+    ∙ c.replaces_all.ensures.alone c.if-replaces_all.true in
+    subst (λ (ss : List Step). IsShifted x (row_entry row) ss (each_step false before ++ each_step true after))
+    (sym (ap (λ (s : Option Steps). steps_or_none s) none))
     (shifted_all x (row_entry row) before after c.in_ok-made.ensures)
 
 pub returns-then-replaces_all-clause-gone : goal.returns-then-replaces_all-clause-gone

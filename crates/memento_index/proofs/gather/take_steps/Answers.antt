@@ -6,7 +6,8 @@ use Rattle.memento_index.proofs.gather.take_steps.Goals as goal
 
 pub returns-in-Some-clause-taken : goal.returns-in-Some-clause-taken
 returns-in-Some-clause-taken c =
-    let is : steps_in c.in-Some.steps ≡ steps_of c.args.all.now c.args.original.now = ap (λ (s : Option Steps). steps_or_none s) (sym c.in-Some.is ∙ c.remove.ensures.value) in
+    let is : steps_in c.in-Some.steps ≡ steps_of c.args.all.now c.args.original.now =
+    ap (λ (s : Option Steps). steps_or_none s) (sym c.in-Some.is ∙ c.remove.ensures.value) in
     subst (λ (ss : List Step). IfOk c.into_vec.result (λ steps. steps.items ≡ ss)) is c.into_vec.ensures
 
 pub returns-in-None-clause-taken : goal.returns-in-None-clause-taken

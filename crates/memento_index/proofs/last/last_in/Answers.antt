@@ -22,5 +22,9 @@ returns-clause-last c =
     let same : c.at-greatest.new.self.list ≡ list = ap (λ (l : Lent). l.list) c.at-greatest.ensures.counted in
     let greatest : c.at-greatest.result ≡ slice_index (datetimes list) end = c.at-greatest.ensures.datetime in
     last_named list c.requires.in_order k end (omega arith) c.first_from.ensures.within
-    (λ j lt. subst (λ x. slice_index (datetimes list) j < x) greatest (subst (λ (ms : List Memento). slice_index (datetimes ms) j < c.at-greatest.result) same (c.first_from.ensures.before j lt)))
-    (λ j from to. subst (λ x. x ≤ slice_index (datetimes list) j) greatest (subst (λ (ms : List Memento). c.at-greatest.result ≤ slice_index (datetimes ms) j) same (c.first_from.ensures.after j from to)))
+    (λ j lt. subst (λ x. slice_index (datetimes list) j < x) greatest
+    (subst (λ (ms : List Memento). slice_index (datetimes ms) j < c.at-greatest.result) same
+    (c.first_from.ensures.before j lt)))
+    (λ j from to. subst (λ x. x ≤ slice_index (datetimes list) j) greatest
+    (subst (λ (ms : List Memento). c.at-greatest.result ≤ slice_index (datetimes ms) j) same
+    (c.first_from.ensures.after j from to)))

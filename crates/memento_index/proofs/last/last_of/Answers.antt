@@ -12,7 +12,8 @@ returns-in-Some c =
     let list = c.args.list.now in
     let place = c.in-Some.place in
     let its : c.new.result.list ≡ list = ap (λ (l : Lent). l.list) c.new.ensures in
-    let is : slice_get list place ≡ last (set.from_list list) = subst (λ (ms : List Memento). slice_get ms place ≡ last (set.from_list ms)) its c.in-Some.ensures.last in
+    let is : slice_get list place ≡ last (set.from_list list) =
+    subst (λ (ms : List Memento). slice_get ms place ≡ last (set.from_list ms)) its c.in-Some.ensures.last in
     let lt : place < length list = subst (λ (ms : List Memento). place < length ms) its c.in-Some.ensures.within in
     ap (λ (m : Memento). Some m) c.index-list-place.is ∙ (sym (slice_get-get_or list place c.index-list-place.result lt) ∙ is)
 

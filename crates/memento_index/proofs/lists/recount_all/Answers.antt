@@ -20,30 +20,39 @@ loop-entry-init c =
 pub recount_list-requires-clause-tally : goal.recount_list-requires-clause-tally
 recount_list-requires-clause-tally c =
     let e : List ℕ × Steps = c.in-Some.entry in
-    next_tally c.args.all c.loop-entry.entry-iterator c.next.new.self e c.args.lists.now c.loop-entry.lists c.in-Some.ensures.steps c.loop-entry.invariant.each c.requires.tally
+    next_tally c.args.all c.loop-entry.entry-iterator c.next.new.self e c.args.lists.now c.loop-entry.lists
+    c.in-Some.ensures.steps c.loop-entry.invariant.each c.requires.tally
 
 pub recount_list-requires-clause-can : goal.recount_list-requires-clause-can
 recount_list-requires-clause-can c =
     let e : List ℕ × Steps = c.in-Some.entry in
-    next_can c.args.all c.loop-entry.entry-iterator c.next.new.self e c.args.lists.now c.loop-entry.lists c.in-Some.ensures.steps c.loop-entry.invariant.each c.requires.can
+    next_can c.args.all c.loop-entry.entry-iterator c.next.new.self e c.args.lists.now c.loop-entry.lists
+    c.in-Some.ensures.steps c.loop-entry.invariant.each c.requires.can
 
 pub recount_list-requires-clause-room : goal.recount_list-requires-clause-room
 recount_list-requires-clause-room c =
     let e : List ℕ × Steps = c.in-Some.entry in
-    next_room c.args.all c.loop-entry.entry-iterator c.next.new.self e c.args.lists.now c.loop-entry.lists c.in-Some.ensures.steps c.loop-entry.invariant.each c.args.lifted.now.room c.loop-entry.lifted.room c.loop-entry.invariant.room c.requires.room
+    next_room c.args.all c.loop-entry.entry-iterator c.next.new.self e c.args.lists.now c.loop-entry.lists
+    c.in-Some.ensures.steps c.loop-entry.invariant.each c.args.lifted.now.room c.loop-entry.lifted.room
+    c.loop-entry.invariant.room c.requires.room
 
 pub loop-entry-preserved : goal.loop-entry-preserved
 loop-entry-preserved c =
     let e : List ℕ × Steps = c.in-Some.entry in
     record {
       sorted = later_sorted c.loop-entry.entry-iterator c.next.new.self e c.in-Some.ensures.steps c.loop-entry.invariant.sorted;
-      each = λ o. one_more_counted c.args.all c.loop-entry.entry-iterator c.next.new.self e c.args.lists.now c.loop-entry.lists c.recount_list.new.lists c.in-Some.ensures.steps c.loop-entry.invariant.sorted c.loop-entry.invariant.each c.recount_list.ensures.recounted c.recount_list.ensures.listed c.recount_list.ensures.others o;
+      each = λ o. one_more_counted c.args.all c.loop-entry.entry-iterator c.next.new.self e c.args.lists.now
+          c.loop-entry.lists c.recount_list.new.lists c.in-Some.ensures.steps c.loop-entry.invariant.sorted
+          c.loop-entry.invariant.each c.recount_list.ensures.recounted c.recount_list.ensures.listed
+          c.recount_list.ensures.others o;
       settled = c.recount_list.ensures.settled;
       room = omega (arith, c.recount_list.ensures.lifted_room, c.loop-entry.invariant.room);
     }
 
 pub returns-clause-recounted : goal.returns-clause-recounted
-returns-clause-recounted c = all_counted c.args.all c.loop-entry.entry-iterator c.args.lists.now c.loop-entry.lists c.in-None.ensures.steps.0 c.requires.tally c.loop-entry.invariant.each
+returns-clause-recounted c = all_counted c.args.all c.loop-entry.entry-iterator c.args.lists.now c.loop-entry.lists
+    c.in-None.ensures.steps.0 c.requires.tally c.loop-entry.invariant.each
 
 pub returns-clause-listed : goal.returns-clause-listed
-returns-clause-listed c = all_listed c.args.all c.loop-entry.entry-iterator c.args.lists.now c.loop-entry.lists c.in-None.ensures.steps.0 c.requires.listed c.loop-entry.invariant.each
+returns-clause-listed c = all_listed c.args.all c.loop-entry.entry-iterator c.args.lists.now c.loop-entry.lists
+    c.in-None.ensures.steps.0 c.requires.listed c.loop-entry.invariant.each

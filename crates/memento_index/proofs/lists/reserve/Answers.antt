@@ -14,4 +14,6 @@ returns-in-Some-clause-grow c =
     let list = c.reserve.new.self in
     let here : tree.get text_cmp m a ≡ Some c.in-Some.list.now = sym c.get_mut.ensures.value ∙ ap option_copied_mut c.in-Some.is in
     let there : is_some (tree.get text_cmp m a) ≡ is_some (Some c.in-Some.list.now) = ap is_some here in
-    one_grows m (c.get_mut.follows.lender list) a list ((c.get_mut.follows.holds list).3 there).0 (subst (λ (t : Option Tallied). Grows t (Some list)) (sym here) (c.reserve.ensures.entries, c.reserve.ensures.room))
+    one_grows m (c.get_mut.follows.lender list) a list ((c.get_mut.follows.holds list).3 there).0
+    (subst (λ (t : Option Tallied). Grows t (Some list)) (sym here)
+    (c.reserve.ensures.entries, c.reserve.ensures.room))

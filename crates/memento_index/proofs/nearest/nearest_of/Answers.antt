@@ -12,7 +12,9 @@ returns-in-Some c =
     let list = c.args.list.now in
     let place = c.in-Some.place in
     let its : c.new.result.list ≡ list = ap (λ (l : Lent). l.list) c.new.ensures in
-    let near : slice_get list place ≡ nearest (set.from_list list) c.args.moment = subst (λ (ms : List Memento). slice_get ms place ≡ nearest (set.from_list ms) c.args.moment) its c.in-Some.ensures.nearest in
+    let near : slice_get list place ≡ nearest (set.from_list list) c.args.moment =
+    subst (λ (ms : List Memento). slice_get ms place ≡ nearest (set.from_list ms) c.args.moment) its
+    c.in-Some.ensures.nearest in
     let lt : place < length list = subst (λ (ms : List Memento). place < length ms) its c.in-Some.ensures.within in
     ap (λ (m : Memento). Some m) c.index-list-place.is ∙ (sym (slice_get-get_or list place c.index-list-place.result lt) ∙ near)
 

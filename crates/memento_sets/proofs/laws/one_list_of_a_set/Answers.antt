@@ -12,7 +12,8 @@ returns c = record {
   sorted = items_sorted memento_cmp;
   once = items_in_order;
   members = λ list m. (
-    λ h. Contains-from_any (λ x y t. memento_cmp_exact x y ((Equal-is (memento_cmp x y)).0 t)) m list (sym (contains-from_list memento_cmp_total memento_cmp_exact list m) ∙ h),
+    λ h. Contains-from_any (λ x y t. memento_cmp_exact x y ((Equal-is (memento_cmp x y)).0 t)) m list
+        (sym (contains-from_list memento_cmp_total memento_cmp_exact list m) ∙ h),
     λ h. contains-from_list memento_cmp_total memento_cmp_exact list m ∙ list_any-from_Contains (eq_by_cmp_equiv memento_cmp_total) m list h,
   );
 }

@@ -23,7 +23,8 @@ loop-memento-preserved c =
     let lifted = c.pass.new.lifted.items in
     let rest = into_iter_items c.next.new.self in
     let pushed : c.push_reserved.new.self.items ≡ list ++ m ∷ [] = c.push_reserved.ensures.items in
-    let all : c.push_reserved.new.self.items ++ reverse lifted ≡ list ++ m ∷ reverse lifted = ap (λ (xs : List Memento). xs ++ reverse lifted) pushed ∙ append_assoc list (m ∷ []) (reverse lifted) in
+    let all : c.push_reserved.new.self.items ++ reverse lifted ≡ list ++ m ∷ reverse lifted =
+    ap (λ (xs : List Memento). xs ++ reverse lifted) pushed ∙ append_assoc list (m ∷ []) (reverse lifted) in
     let behind : c.push_reserved.new.self.items ++ rest ≡ list ++ m ∷ rest = ap (λ (xs : List Memento). xs ++ rest) pushed ∙ append_assoc list (m ∷ []) rest in
     let was : IsStrictlySortedBy memento_cmp (before ++ m ∷ rest) = subst (λ (xs : List Memento). IsStrictlySortedBy memento_cmp (before ++ xs))
     c.in-Some.ensures.steps.0 c.loop-memento.invariant.rest in
@@ -38,5 +39,13 @@ loop-memento-preserved c =
           ∙ (ap (λ (xs : List Memento). list_any (eq_by_cmp memento_cmp q) (before ++ reverse c.loop-memento.lifted.items)
           || list_any (eq_by_cmp memento_cmp q) xs) (sym c.in-Some.ensures.steps.0) ∙ c.loop-memento.invariant.members q);
       count = omega (arith, c.in-Some.ensures.steps.1, ap (λ (xs : List Memento). length xs) c.in-Some.ensures.steps.0, c.loop-memento.invariant.count);
-      room = omega (arith, c.in-Some.ensures.steps.1, c.pass.ensures.len, c.pass.ensures.capacity, c.push_reserved.ensures.len, c.push_reserved.ensures.capacity, c.loop-memento.invariant.room);
+      room = omega (
+        arith,
+        c.in-Some.ensures.steps.1,
+        c.pass.ensures.len,
+        c.pass.ensures.capacity,
+        c.push_reserved.ensures.len,
+        c.push_reserved.ensures.capacity,
+        c.loop-memento.invariant.room,
+      );
     }

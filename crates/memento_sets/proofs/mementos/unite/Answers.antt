@@ -15,7 +15,9 @@ nothing_first (x ∷ xs) none = absurd (none-some x none)
 
 pub returns-in-None-clause-members : goal.returns-in-None-clause-members
 returns-in-None-clause-members c =
-    let none : c.args.added.items ≡ [] = nothing_first c.args.added.items (c.in-None.ensures.value ∙ ap (λ (xs : List Memento). slice_get xs 0) c.deref.ensures.value) in
+    let none : c.args.added.items ≡ [] =
+    nothing_first c.args.added.items (c.in-None.ensures.value
+    ∙ ap (λ (xs : List Memento). slice_get xs 0) c.deref.ensures.value) in
     united_is c.args.list.now.items c.args.list.now.items c.args.added.items
     (λ m. sym (any_none (eq_by_cmp memento_cmp m) (list_any (eq_by_cmp memento_cmp m) c.args.list.now.items) c.args.added.items none))
 
@@ -38,4 +40,5 @@ returns-clause-members c =
     let whole : c.split_off.new.self.items ++ reverse c.reverse.new.self.items ≡ c.args.list.now.items =
     (λ i. c.in_ok-lifted.ensures.items i ++ back i) ∙ (take-append-drop at c.reserve.new.self.items ∙ c.in_ok-reserve.ensures.items) in
     united_is c.merge.new.list.items c.args.list.now.items c.args.added.items (λ m.
-    c.merge.ensures.members m ∙ ap (λ (xs : List Memento). list_any (eq_by_cmp memento_cmp m) xs || list_any (eq_by_cmp memento_cmp m) c.args.added.items) whole)
+    c.merge.ensures.members m ∙ ap (λ (xs : List Memento). list_any (eq_by_cmp memento_cmp m) xs
+    || list_any (eq_by_cmp memento_cmp m) c.args.added.items) whole)

@@ -14,7 +14,9 @@ returns-then-has_at-clause-ok c =
     let es = c.args.self.now in
     let p = c.args.part in
     let k = c.count_below-place.result in
-    let place : IsPlace es p.0 k = subst (λ r. IsPlace es r k) c.revision.ensures (subst (λ (xs : List (ℕ × Mementos)). IsPlace xs c.revision.result k) c.as_slice.ensures c.count_below-place.ensures.place) in
+    let place : IsPlace es p.0 k = subst (λ r. IsPlace es r k) c.revision.ensures
+    (subst (λ (xs : List (ℕ × Mementos)). IsPlace xs c.revision.result k) c.as_slice.ensures
+    c.count_below-place.ensures.place) in
     let here : is_of p.0 (slice_get es k) ≡ true = ap (λ r. is_of r (slice_get es k)) (sym c.revision-2.ensures) ∙ (sym c.has_at.ensures ∙ c.if-has_at.true) in
     on_ok c.unite.result (λ is. is ∙ (ap (united_at es k) c.into_set.ensures ∙ united_placed es k p place here)) c.unite.ensures.ok
 
@@ -23,6 +25,10 @@ returns-clause-ok c =
     let es = c.args.self.now in
     let p = c.args.part in
     let k = c.count_below-place.result in
-    let place : IsPlace es p.0 k = subst (λ r. IsPlace es r k) c.revision.ensures (subst (λ (xs : List (ℕ × Mementos)). IsPlace xs c.revision.result k) c.as_slice.ensures c.count_below-place.ensures.place) in
-    let none : is_of p.0 (slice_get es k) ≡ false = ap (λ r. is_of r (slice_get es k)) (sym c.revision-2.ensures) ∙ (sym c.has_at.ensures ∙ c.if-has_at.false) in
-    on_ok c.insert.result (λ is. is ∙ (ap (λ (q : ℕ × Mementos). take k es ++ q ∷ drop k es) c.in_ok-placed.ensures ∙ inserted_placed es k p place none)) c.insert.ensures.ok
+    let place : IsPlace es p.0 k = subst (λ r. IsPlace es r k) c.revision.ensures
+    (subst (λ (xs : List (ℕ × Mementos)). IsPlace xs c.revision.result k) c.as_slice.ensures
+    c.count_below-place.ensures.place) in
+    let none : is_of p.0 (slice_get es k) ≡ false = ap (λ r. is_of r (slice_get es k)) (sym c.revision-2.ensures)
+    ∙ (sym c.has_at.ensures ∙ c.if-has_at.false) in
+    on_ok c.insert.result (λ is. is ∙ (ap (λ (q : ℕ × Mementos). take k es ++ q ∷ drop k es) c.in_ok-placed.ensures
+    ∙ inserted_placed es k p place none)) c.insert.ensures.ok

@@ -8,4 +8,6 @@ returns-clause-ok c =
     let es = c.args.self.now in
     let k = c.args.place in
     let e : ℕ × Mementos = c.index-as_slice-place.result in
-    first_left es k e c.in_ok-first.first c.skip.new.self c.args.part.1 c.requires (subst (λ (xs : List (ℕ × Mementos)). e ≡ get_or xs k e) c.as_slice.ensures c.index-as_slice-place.is) c.in_ok-first.ensures c.in_ok-skip.ensures.ok
+    first_left es k e c.in_ok-first.first c.skip.new.self c.args.part.1 c.requires
+    (subst (λ (xs : List (ℕ × Mementos)). e ≡ get_or xs k e) c.as_slice.ensures c.index-as_slice-place.is)
+    c.in_ok-first.ensures c.in_ok-skip.ensures.ok

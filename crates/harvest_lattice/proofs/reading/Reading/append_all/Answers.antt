@@ -15,4 +15,6 @@ returns c =
     on_ok c.append_parts.result (λ is.
     is ∙ (ap (λ ms. ms ++ items_of e.later.now) (c.in_ok-append_copies.ensures ∙ ap (λ ms. list ++ ms) c.mementos.ensures)
     ∙ (append_assoc list (set.items e.first.now.1) (items_of e.later.now)
-    ∙ ap (λ es. list ++ items_of es) (sym (entries_of_it e.is_whole e.first.now e.later.now c.args.self.now c.self.view_is c.self.invariant))))) c.append_parts.ensures
+    ∙ ap (λ es. list ++ items_of es) (sym
+    (entries_of_it e.is_whole e.first.now e.later.now c.args.self.now c.self.view_is c.self.invariant)))))
+    c.append_parts.ensures

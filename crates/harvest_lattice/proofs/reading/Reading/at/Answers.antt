@@ -18,4 +18,5 @@ pub returns : goal.returns
 returns c =
     let e = c.self.inside in
     c.find.ensures
-    ∙ sym (held_later e.is_whole e.first.now e.later.now c.args.self.now c.self.view_is c.args.revision (λ same. c.if-revision.false (c.revision.ensures ∙ sym same)))
+    ∙ sym (held_later e.is_whole e.first.now e.later.now c.args.self.now c.self.view_is c.args.revision
+    (λ same. c.if-revision.false (c.revision.ensures ∙ sym same)))

@@ -14,4 +14,5 @@ loop-k-preserved c =
 
 pub returns : goal.returns
 returns c =
-    c.loop-k.invariant ∙ ap (current c.args.whole) (taken_all (map.entries c.args.self.now.revisions) c.loop-k.k (omega (arith, c.loop-k-test.false, c.revisions-k-end.ensures, map.len-entries c.args.self.now.revisions)))
+    c.loop-k.invariant ∙ ap (current c.args.whole) (taken_all (map.entries c.args.self.now.revisions) c.loop-k.k
+    (omega (arith, c.loop-k-test.false, c.revisions-k-end.ensures, map.len-entries c.args.self.now.revisions)))

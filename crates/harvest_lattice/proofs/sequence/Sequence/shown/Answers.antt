@@ -16,9 +16,11 @@ returns-in-Some c =
     let e = c.self.inside in
     on_ok (λ x. arc_value x) c.share.result
     (c.in-Some.ensures ∙ (ap (λ (es : List (ℕ × Mementos)). union_all (map_list (λ (p : ℕ × Mementos). p.1) (e.first ∷ es))) c.as_slice.ensures
-    ∙ ap (λ (es : List (ℕ × Mementos)). union_all (map_list (λ (p : ℕ × Mementos). p.1) es)) (sym (entries_of_it e.is_whole e.first e.later c.args.self.now c.self.view_is c.self.invariant)))) c.share.ensures
+    ∙ ap (λ (es : List (ℕ × Mementos)). union_all (map_list (λ (p : ℕ × Mementos). p.1) es))
+    (sym (entries_of_it e.is_whole e.first e.later c.args.self.now c.self.view_is c.self.invariant))))
+    c.share.ensures
 
 pub returns : goal.returns
 returns c =
-    c.in_ok-list.ensures.ok ∙ (c.of.ensures ∙ shown_of_all c.args.self.now c.append_all.new.list.items
-    (c.in_ok-append_all.ensures ∙ (λ i. (c.new-all.ensures.items i) ++ items_of (map.entries (c.reading.ensures i).revisions))))
+    c.in_ok-list.ensures.ok ∙ (c.in_ok-union.ensures ∙ (c.of.ensures ∙ shown_of_all c.args.self.now c.append_all.new.list.items
+    (c.in_ok-append_all.ensures ∙ (λ i. (c.new-all.ensures.items i) ++ items_of (map.entries (c.reading.ensures i).revisions)))))

@@ -12,4 +12,5 @@ on_ok f (Err e) same is = tt
 
 pub returns-in-One : goal.returns-in-One
 returns-in-One c =
-    on_ok (λ x. arc_value x) c.share.result (shown_alone _ c.in-One.first ∙ ap (λ (shape : Shape). mementos_of (kept_by shape)) (sym c.in-One.is)) c.share.ensures
+    on_ok (λ x. arc_value x) c.share.result (shown_alone _ c.in-One.first
+    ∙ ap (λ (shape : Shape). mementos_of (kept_by shape)) (sym c.in-One.is)) c.share.ensures

@@ -11,7 +11,8 @@ use Rattle.memento_index.proofs.ListLemmas.{from_items}
 use Rattle.memento_index.proofs.index.Index.latest.Goals as goal
 
 pub last_of-requires : goal.last_of-requires
-last_of-requires c = subst (λ (ms : List Memento). IsStrictlySortedBy memento_cmp ms) (sym c.list.ensures.list) (items_sorted memento_cmp (shown_of c.args.self.now c.args.original.now))
+last_of-requires c = subst (λ (ms : List Memento). IsStrictlySortedBy memento_cmp ms) (sym c.list.ensures.list)
+    (items_sorted memento_cmp (shown_of c.args.self.now c.args.original.now))
 
 pub returns-clause-last : goal.returns-clause-last
 returns-clause-last c =

@@ -11,14 +11,17 @@ use Rattle.memento_index.proofs.ListLemmas.{from_items}
 use Rattle.memento_index.proofs.index.Index.nearest.Goals as goal
 
 pub nearest_of-requires : goal.nearest_of-requires
-nearest_of-requires c = subst (λ (ms : List Memento). IsStrictlySortedBy memento_cmp ms) (sym c.list.ensures.list) (items_sorted memento_cmp (shown_of c.args.self.now c.args.original.now))
+nearest_of-requires c = subst (λ (ms : List Memento). IsStrictlySortedBy memento_cmp ms) (sym c.list.ensures.list)
+    (items_sorted memento_cmp (shown_of c.args.self.now c.args.original.now))
 
 pub returns-clause-nearest : goal.returns-clause-nearest
 returns-clause-nearest c =
     let s = shown_of c.args.self.now c.args.original.now in
-    c.nearest_of.ensures ∙ (ap (λ (ms : List Memento). nearest (set.from_list ms) c.args.moment) c.list.ensures.list ∙ ap (λ (t : Mementos). nearest t c.args.moment) (from_items s))
+    c.nearest_of.ensures ∙ (ap (λ (ms : List Memento). nearest (set.from_list ms) c.args.moment) c.list.ensures.list
+    ∙ ap (λ (t : Mementos). nearest t c.args.moment) (from_items s))
 
 pub returns-clause-stands : goal.returns-clause-stands
 returns-clause-stands c hs is =
     let s = shown hs c.args.original.now in
-    c.nearest_of.ensures ∙ (ap (λ (ms : List Memento). nearest (set.from_list ms) c.args.moment) (c.list.ensures.stands hs is) ∙ ap (λ (t : Mementos). nearest t c.args.moment) (from_items s))
+    c.nearest_of.ensures ∙ (ap (λ (ms : List Memento). nearest (set.from_list ms) c.args.moment)
+    (c.list.ensures.stands hs is) ∙ ap (λ (t : Mementos). nearest t c.args.moment) (from_items s))

@@ -11,5 +11,8 @@ use Rattle.memento_index.proofs.listing.Listing.mementos.Goals as goal
 pub returns-in-Some : goal.returns-in-Some
 returns-in-Some c =
     let list = arc_value c.in-Some.shared in
-    let now : shared_or (Some list) c.self.inside.own ≡ c.args.self.now = ap (λ (s : Option Mementos). shared_or s c.self.inside.own) (sym (ap (option_map arc_value) c.in-Some.is)) ∙ c.self.view_is in
-    c.as_slice.ensures ∙ (ap (λ (s : Mementos). set.items s) c.deref.ensures ∙ (sym (mementos_once (set.items list)) ∙ ap (λ (t : Tallied). mementos_of t.entries) now))
+    let now : shared_or (Some list) c.self.inside.own ≡ c.args.self.now =
+    ap (λ (s : Option Mementos). shared_or s c.self.inside.own) (sym (ap (option_map arc_value) c.in-Some.is))
+    ∙ c.self.view_is in
+    c.as_slice.ensures ∙ (ap (λ (s : Mementos). set.items s) c.deref.ensures
+    ∙ (sym (mementos_once (set.items list)) ∙ ap (λ (t : Tallied). mementos_of t.entries) now))

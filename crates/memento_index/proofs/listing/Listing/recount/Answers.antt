@@ -16,4 +16,6 @@ returns-in-All-clause-recounted c =
     let made = c.in-All.made in
     let room : HasRoom 0 (Some old) c.args.lifted.now.room (All made) = subst (HasRoom 0 (Some old) c.args.lifted.now.room) c.in-All.is c.requires.room in
     subst (λ (s : Steps). IsRecounted old.entries (steps_in s) c.share.new.self.entries) (sym c.in-All.is)
-    (subst (λ (es : List Counted). IsRecounted old.entries (steps_in (All made)) es) (sym (c.share.ensures ∙ ap (λ l. each_once (set.items (arc_value l))) c.into_after.ensures)) (all_counted old.entries (shared_mementos made.before) (arc_value made.after) room.0))
+    (subst (λ (es : List Counted). IsRecounted old.entries (steps_in (All made)) es)
+    (sym (c.share.ensures ∙ ap (λ l. each_once (set.items (arc_value l))) c.into_after.ensures))
+    (all_counted old.entries (shared_mementos made.before) (arc_value made.after) room.0))

@@ -16,7 +16,8 @@ returns-in_default c =
     let x = c.args.state.now in
     let row = c.args.row.now in
     let list = c.in_ok-shown.field-0 in
-    let none : fmap.get x (row_key row) ≡ None = (λ i. fmap.get x (sym c.archive.ensures i, sym c.original.ensures i)) ∙ (sym c.entry.ensures ∙ ap option_copied c.in_default.is) in
+    let none : fmap.get x (row_key row) ≡ None = (λ i. fmap.get x (sym c.archive.ensures i, sym c.original.ensures i))
+    ∙ (sym c.entry.ensures ∙ ap option_copied c.in_default.is) in
     comes_alone x (row_entry row) [] (set.items (arc_value list)) none refl
     (ap (λ (s : Mementos). set.items s) (c.in_ok-shown.ensures ∙ ap (λ (k : Kept). mementos_of k) c.entry-entry.ensures))
 
@@ -26,7 +27,9 @@ returns-then-are_of_one c =
     let row = c.args.row.now in
     let a = c.in-Some.standing.now in
     let list = c.in_ok-shown-2.field-0 in
-    let there : fmap.get x (row_key row) ≡ Some a = (λ i. fmap.get x (sym c.archive.ensures i, sym c.original.ensures i)) ∙ (sym c.entry.ensures ∙ ap option_copied c.in-Some.is) in
+    let there : fmap.get x (row_key row) ≡ Some a =
+    (λ i. fmap.get x (sym c.archive.ensures i, sym c.original.ensures i))
+    ∙ (sym c.entry.ensures ∙ ap option_copied c.in-Some.is) in
     let one : AreOfOne a row.entry = subst (AreOfOne a) c.entry-entry.ensures (c.are_of_one.ensures c.if-are_of_one.true) in
     comes_beside x (row_entry row) a [] (set.items (arc_value list)) there one c.requires refl
     (ap (λ (s : Mementos). set.items s) (c.in_ok-shown-2.ensures ∙ ap (λ (k : Kept). mementos_of k) c.entry-entry.ensures))
@@ -38,7 +41,9 @@ returns c =
     let a = c.in-Some.standing.now in
     let before = c.in_ok-shown-3.field-0 in
     let after = c.in_ok-shown_with.field-0 in
-    let there : fmap.get x (row_key row) ≡ Some a = (λ i. fmap.get x (sym c.archive.ensures i, sym c.original.ensures i)) ∙ (sym c.entry.ensures ∙ ap option_copied c.in-Some.is) in
+    let there : fmap.get x (row_key row) ≡ Some a =
+    (λ i. fmap.get x (sym c.archive.ensures i, sym c.original.ensures i))
+    ∙ (sym c.entry.ensures ∙ ap option_copied c.in-Some.is) in
     takes_place x (row_entry row) a (set.items (arc_value before)) (set.items (arc_value after)) there
     (ap (λ (s : Mementos). set.items s) c.in_ok-shown-3.ensures)
     (ap (λ (s : Mementos). set.items s) (c.in_ok-shown_with.ensures ∙ ap (λ (k : Kept). mementos_of (join_kept a k)) c.entry-entry.ensures))

@@ -13,6 +13,9 @@ returns-in-Some c less up =
     let ms = c.self.inside.mementos in
     let ns = c.self.inside.counts in
     let same : length ms.items ≡ length ns.items = omega (arith, ms.ok.0, ns.ok.0, c.self.invariant) in
-    let items : ms.items ≡ mementos_of c.args.self.now.entries = sym (mementos-beside ms.items ns.items same) ∙ ap (λ (t : Tallied). mementos_of t.entries) c.self.view_is in
-    let at = subst (λ (xs : List Memento). slice_get xs (length xs - 1) ≡ Some c.in-Some.last.now) (c.deref.ensures.value ∙ items) (sym c.in-Some.ensures.value) in
-    below_last c.args.memento.now c.in-Some.last.now c.args.self.now.entries _ at refl (lt_is _ (ap is_lt (sym c.cmp.ensures) ∙ (sym c.is_lt.ensures ∙ less))) up
+    let items : ms.items ≡ mementos_of c.args.self.now.entries = sym (mementos-beside ms.items ns.items same)
+    ∙ ap (λ (t : Tallied). mementos_of t.entries) c.self.view_is in
+    let at = subst (λ (xs : List Memento). slice_get xs (length xs - 1) ≡ Some c.in-Some.last.now)
+    (c.deref.ensures.value ∙ items) (sym c.in-Some.ensures.value) in
+    below_last c.args.memento.now c.in-Some.last.now c.args.self.now.entries _ at refl
+    (lt_is _ (ap is_lt (sym c.cmp.ensures) ∙ (sym c.is_lt.ensures ∙ less))) up

@@ -10,7 +10,8 @@ unwrap-requires c =
     let ms = c.self.inside.mementos in
     let ns = c.self.inside.counts in
     let same : length ms.items ≡ length ns.items = omega (arith, ms.ok.0, ns.ok.0, c.self.invariant) in
-    let room : length (beside ms.items ns.items) < min (vec_capacity ms) (vec_capacity ns) = subst (λ (t : Tallied). length t.entries < t.room) (sym c.self.view_is) c.requires in
+    let room : length (beside ms.items ns.items) < min (vec_capacity ms) (vec_capacity ns) =
+    subst (λ (t : Tallied). length t.entries < t.room) (sym c.self.view_is) c.requires in
     c.push.ensures.succeeds (omega (arith, room, ms.ok.0, length-beside ms.items ns.items same))
 
 pub unwrap-requires-2 : goal.unwrap-requires-2
@@ -18,7 +19,8 @@ unwrap-requires-2 c =
     let ms = c.self.inside.mementos in
     let ns = c.self.inside.counts in
     let same : length ms.items ≡ length ns.items = omega (arith, ms.ok.0, ns.ok.0, c.self.invariant) in
-    let room : length (beside ms.items ns.items) < min (vec_capacity ms) (vec_capacity ns) = subst (λ (t : Tallied). length t.entries < t.room) (sym c.self.view_is) c.requires in
+    let room : length (beside ms.items ns.items) < min (vec_capacity ms) (vec_capacity ns) =
+    subst (λ (t : Tallied). length t.entries < t.room) (sym c.self.view_is) c.requires in
     c.push-2.ensures.succeeds (omega (arith, room, ns.ok.0, same, length-beside ms.items ns.items same))
 
 pub returns-clause-entries : goal.returns-clause-entries

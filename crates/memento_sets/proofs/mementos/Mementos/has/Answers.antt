@@ -14,4 +14,5 @@ returns c =
     ∙ (search_is c.deref.result.now m c.binary_search.result
     (subst (λ (xs : List Memento). IsStrictlySortedBy memento_cmp xs) (sym c.deref.ensures.value) c.self.invariant) c.binary_search.ensures.bound
     c.binary_search.ensures.position
-    ∙ (ap (λ (xs : List Memento). set.contains (set.from_list {R = memento_cmp} xs) m) c.deref.ensures.value ∙ ap (λ (s : Mementos). set.contains s m) c.self.view_is))
+    ∙ (ap (λ (xs : List Memento). set.contains (set.from_list {R = memento_cmp} xs) m) c.deref.ensures.value
+    ∙ ap (λ (s : Mementos). set.contains s m) c.self.view_is))

@@ -9,7 +9,8 @@ use Rattle.memento_sets.proofs.Rising.{rise_in_order}
 use Rattle.memento_sets.proofs.mementos.Mementos.of.Goals as goal
 
 pub invariant_of-result : goal.invariant_of-result
-invariant_of-result c = rise_in_order c.args.mementos.items (ap mementos_rise (sym c.deref.ensures.value) ∙ (sym c.mementos_rise.ensures ∙ c.if-mementos_rise.true))
+invariant_of-result c = rise_in_order c.args.mementos.items (ap mementos_rise (sym c.deref.ensures.value)
+    ∙ (sym c.mementos_rise.ensures ∙ c.if-mementos_rise.true))
 
 pub invariant_of-result-2 : goal.invariant_of-result-2
 invariant_of-result-2 c =

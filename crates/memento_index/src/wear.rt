@@ -1,0 +1,61 @@
+// When the addresses of a list are packed anew.
+ghost use Rattle.std.specs.Prelude.{◌≡◌};
+
+use crate::counted::Step;
+use crate::tally::Tally;
+use memento_time::Memento;
+
+// How much of other lists' addresses a list may keep beside its own.
+//
+// Buffers are kept as long as one address in them, so a list may keep the bytes of those that began or ceased to be
+// shown since it was packed, and no others. It is packed anew once these are more than its own. That is looked at
+// whenever half as many bytes came as it had at the last look, so it keeps at most four times as many bytes as it has,
+// and the looks take time in what comes.
+#[derive(Clone, Copy, Debug)]
+pub struct Wear {
+    moved: usize,
+    due: usize,
+}
+
+impl Wear {
+    pub fn none() -> Wear {
+        Wear { moved: 0, due: 0 }
+    }
+
+    // Packs a list in which addresses of so many bytes began or ceased, if it is due. Where memory is refused, the list
+    // stays as it is until the next look.
+    pub fn pack_worn(&mut self, list: &mut Tally, bytes: usize)
+        ensures { list.new.entries ≡ list.old.entries }
+    {
+        self.moved = self.moved.saturating_add(bytes);
+        if self.moved <= self.due {
+            return;
+        }
+        let own = bytes_of(list.mementos());
+        if self.moved > own {
+            if let Ok(packed) = list.packed() {
+                *list = packed;
+                self.moved = 0;
+            }
+        }
+        self.due = self.moved.saturating_add(own / 2);
+    }
+}
+
+// How many bytes the addresses have.
+fn bytes_of(mementos: &[Memento]) -> usize {
+    let mut bytes: usize = 0;
+    for memento in mementos {
+        bytes = bytes.saturating_add(memento.uri.as_bytes().len());
+    }
+    bytes
+}
+
+// How many bytes the addresses of steps have.
+pub fn bytes_of_steps(steps: &[Step]) -> usize {
+    let mut bytes: usize = 0;
+    for step in steps {
+        bytes = bytes.saturating_add(step.memento.uri.as_bytes().len());
+    }
+    bytes
+}
