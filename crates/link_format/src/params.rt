@@ -4,7 +4,7 @@ ghost use Rattle.std.specs.Option.{option_or};
 ghost use Rattle.std.specs.List.{slice_get};
 ghost use Rattle.std.specs.Cow.{cow_slice_items};
 ghost use Rattle.link_format.specs.Scan.{params_of, quoted_bytes};
-ghost use Rattle.link_format.specs.Spans.{meant_bytes, param_of, value_from};
+ghost use Rattle.link_format.specs.Spans.{meant_bytes, param_of, params_from, value_from};
 ghost use Rattle.link_format.specs.Values.{first_value, same_name, value_or_empty};
 
 use crate::scan::next_param;
@@ -34,11 +34,11 @@ pub(crate) fn nth_name(text: &[u8], k: usize) -> &[u8]
 }
 
 /// Whether the names are the same without regard to ASCII case.
+#[inline(always)]
 fn is_same_name(a: &[u8], b: &[u8]) -> bool
     ensures { result ≡ same_name a.now b.now }
 {
-    // Nearly all are written in the usual case.
-    a == b || a.eq_ignore_ascii_case(b)
+    a.eq_ignore_ascii_case(b)
 }
 
 /// The bytes that a quoted text says, up to the closing quote.
@@ -95,6 +95,7 @@ pub(crate) fn find_param<'a>(text: &'a [u8], name: &[u8]) -> Option<ParamSpan<'a
 }
 
 /// The one that is held, or else the next one, where it has the name.
+#[inline(always)]
 fn first_of<'a>(
     held: Option<ParamSpan<'a>>,
     next: ParamSpan<'a>,
@@ -112,6 +113,21 @@ fn first_of<'a>(
                 None
             }
         }
+    }
+}
+
+/// The one that is held, or else the one that was found, where it has the name.
+#[inline(always)]
+pub(crate) fn first_found<'a>(
+    held: Option<ParamSpan<'a>>,
+    found: Option<ParamSpan<'a>>,
+    name: &[u8],
+) -> Option<ParamSpan<'a>>
+    ensures { value_from result ≡ option_or (value_from held.entry) (first_value name.now (params_from found.entry)) }
+{
+    match found {
+        Some(next) => first_of(held, next, name),
+        None => held,
     }
 }
 

@@ -26,7 +26,7 @@ pub(crate) struct ParamsSpan<'a> {
     pub text: &'a [u8],
     /// How many they are.
     pub count: usize,
-    /// The datetime of a memento, where they begin with usual parameters.
+    /// The datetime of a memento; none also where a value has to be unescaped to know it.
     pub usual: Option<&'a [u8]>,
     ghost counted: { count ≡ length (params_of text.now) },
     ghost says: { (datetime : List ℕ) → option_map (λ u. u.now) usual ≡ Some datetime

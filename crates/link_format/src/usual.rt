@@ -1,12 +1,14 @@
-//! The parameters that nearly every link of a TimeMap begins with, read by their words: the relation type `memento`,
-//! and a datetime (RFC 7089, section 5).
-ghost use Rattle.std.specs.Prelude.{◌≡◌, ◌+◌, ◌≤◌, ◌++◌, length, codes, IfSome};
+//! What nearly every link of a TimeMap says: the relation type `memento`, and a datetime (RFC 7089, section 5). Where its
+//! parameters begin with these two, they are read by their words.
+ghost use Rattle.std.specs.Prelude.{◌≡◌, ◌+◌, ◌≤◌, ◌++◌, length, codes, IfSome, Some};
 ghost use Rattle.link_format.specs.Scan.{behind_params, params_of};
+ghost use Rattle.link_format.specs.Spans.{value_from};
 ghost use Rattle.link_format.specs.Usual.{usual_params, FollowsRelation, FollowsSemicolon};
 ghost use Rattle.link_format.specs.Walk.{behind_link, left_by};
 
 use crate::bytes::Class;
 use crate::scan::{skip_byte, skip_while, split_while};
+use crate::spans::{ParamSpan, ValueSpan};
 
 /// The relation type of usual parameters.
 pub(crate) const MEMENTO: &[u8; 7] = b"memento";
@@ -20,14 +22,28 @@ fn skip_semicolon(text: &[u8]) -> Option<&[u8]>
     Some(skip_while(Class::Blank, rest))
 }
 
+/// What follows the word, where the text begins with it.
+#[inline(always)]
+fn skip_word<'a, const N: usize>(word: &[u8; N], text: &'a [u8]) -> Option<&'a [u8]>
+    ensures { IfSome result (λ rest. text.now ≡ word.now ++ rest.now) }
+{
+    let (front, rest) = text.split_first_chunk::<N>()?;
+    // A loop without an exit compares many bytes at once.
+    let mut same = true;
+    for k in 0..N {
+        same &= front[k] == word[k];
+    }
+    if same { Some(rest) } else { None }
+}
+
 /// What follows the relation type, a quoted text or a token.
 #[inline(always)]
 fn skip_relation(text: &[u8]) -> Option<&[u8]>
     ensures { IfSome result (λ rest. FollowsRelation text.now rest.now) }
 {
-    match text.strip_prefix(b"rel=\"memento\"") {
+    match skip_word(b"rel=\"memento\"", text) {
         Some(rest) => Some(rest),
-        None => text.strip_prefix(b"rel=memento"),
+        None => skip_word(b"rel=memento", text),
     }
 }
 
@@ -36,7 +52,7 @@ fn skip_relation(text: &[u8]) -> Option<&[u8]>
 fn skip_datetime(text: &[u8]) -> Option<&[u8]>
     ensures { IfSome result (λ rest. text.now ≡ codes "datetime=\"" ++ rest.now) }
 {
-    text.strip_prefix(b"datetime=\"")
+    skip_word(b"datetime=\"", text)
 }
 
 /// The datetime of usual parameters at the front, and what follows its quote.
@@ -54,4 +70,25 @@ pub(crate) fn split_usual(text: &[u8]) -> Option<(&[u8], &[u8])>
     let (datetime, rest) = split_while(Class::Plain, quoted);
     let rest = skip_byte(b'"', rest)?;
     Some((datetime, rest))
+}
+
+/// The datetime, where the relation type is just `memento` and neither value has to be unescaped.
+#[inline(always)]
+pub(crate) fn memento_datetime<'a>(
+    rel: Option<ParamSpan<'a>>,
+    datetime: Option<ParamSpan<'a>>,
+) -> Option<&'a [u8]>
+    ensures rel { IfSome result (λ _. value_from rel.entry ≡ Some (codes "memento")) }
+    ensures datetime { IfSome result (λ text. value_from datetime.entry ≡ Some text.now) }
+{
+    let Some(ValueSpan::Plain(rel)) = rel?.value else {
+        return None;
+    };
+    let Some(ValueSpan::Plain(datetime)) = datetime?.value else {
+        return None;
+    };
+    match skip_word(MEMENTO, rel) {
+        Some([]) => Some(datetime),
+        _ => None,
+    }
 }

@@ -1,5 +1,5 @@
 //! Rows of dates. Neighbours mostly share their day, so that a date is read and written by its clock alone.
-ghost use Rattle.std.specs.Prelude.{◌≡◌, ◌<◌, ◌≤◌, ◌*◌, drop, IfNone, IfSome};
+ghost use Rattle.std.specs.Prelude.{◌≡◌, ◌<◌, ◌≤◌, ◌*◌, drop, IfNone, IfSome, IsTrue};
 ghost use Rattle.memento_time.specs.Clock.{clock_text, day_of};
 ghost use Rattle.memento_time.specs.Second.{imf, Reads};
 ghost use Rattle.memento_time.specs.SecondOf.{second_of};
@@ -67,7 +67,7 @@ impl DateReader {
     fn read_same_day(&self, text: &[u8; 29]) -> Option<Moment>
         ensures { IfSome result (λ s. Reads text.now s × (day_of s ≡ self.now)) }
     {
-        if text[..CLOCK] != self.text[..CLOCK] {
+        if !is_same::<CLOCK>(text.first_chunk()?, self.text.first_chunk()?) {
             return None;
         }
         let clock = read_clock(text)?;
@@ -132,11 +132,23 @@ fn read_clock(text: &[u8; 29]) -> Option<u64>
     let second = number(text[23], text[24]);
     let secs = hour * 3600 + minute * 60 + second;
     // Whatever the bytes are: it is this second that they show, or none.
-    if secs < DAY && &text[CLOCK..] == to_clock(secs).as_slice() {
+    if secs < DAY && is_same(text.last_chunk()?, &to_clock(secs)) {
         Some(secs)
     } else {
         None
     }
+}
+
+/// Whether the bytes are the same. Looks at all of them: a loop without an exit compares many at once.
+#[inline(always)]
+fn is_same<const N: usize>(a: &[u8; N], b: &[u8; N]) -> bool
+    ensures { IsTrue result → a.now ≡ b.now }
+{
+    let mut same = true;
+    for k in 0..N {
+        same &= a[k] == b[k];
+    }
+    same
 }
 
 /// The number of these two digits; any where they are none.

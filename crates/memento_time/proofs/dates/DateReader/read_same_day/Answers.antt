@@ -1,6 +1,4 @@
-use Rattle.std.proofs.Common.{◌≡◌, ◌∙◌, ℕ, ◌+◌, ◌*◌, ◌/◌, take, Option, Some, None, sym, subst}
-use Rattle.std.proofs.lemmas.Bool.{not-false}
-use Rattle.std.proofs.lemmas.Slice.Eq.{bytes_eq-Decides}
+use Rattle.std.proofs.Common.{◌≡◌, ◌∙◌, ℕ, ◌+◌, ◌*◌, ◌/◌, Option, Some, None, sym, subst}
 use Rattle.std.specs.Option.{SomeIff, IfSome}
 use Rattle.memento_time.specs.Clock.{day_of}
 use Rattle.memento_time.specs.Second.{Reads}
@@ -13,7 +11,8 @@ of_value P Q (Some x) v h q = subst Q (sym h.1) q
 
 pub returns : goal.returns
 returns c =
-    let front = (bytes_eq-Decides (take 17 c.args.text.now) (take 17 c.self.inside.text)).0 (not-false _ (sym c.ne.ensures ∙ c.if-ne.false)) in
+    let same = c.is_same.ensures c.if-not-is_same.false in
+    let front = sym c.in_ok-first_chunk.ensures.cases.same ∙ same ∙ c.in_ok-first_chunk-2.ensures.cases.same in
     let clock = c.in_ok-clock.ensures in
     let same_day = Reads_same_day c.args.text.now c.self.inside.text c.self.inside.moment c.in_ok-clock.clock c.self.invariant c.told-text front clock.0 clock.1 in
     let day = day_of_clock c.self.inside.moment c.in_ok-clock.clock clock.0 ∙ c.self.view_is in
