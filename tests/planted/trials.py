@@ -4,6 +4,7 @@
 import hashlib
 import pathlib
 import re
+import shutil
 import subprocess
 
 HERE = pathlib.Path(__file__).resolve().parent
@@ -28,6 +29,15 @@ TRIED = HERE / "tried"
 
 def crate_of_tests(crate):
     return next((trials for trials, tested in TRIALS.items() if crate in tested), crate)
+
+
+def copy_repository(top, room):
+    """Copies what rt reads. The work of checks stays behind: rt begins with what those of the same text kept on this machine,
+    which takes no room on the disk."""
+    for part in ("crates.txt", "HANDLES"):
+        shutil.copy(f"{top}/{part}", room)
+    shutil.copytree(f"{top}/crates", f"{room}/crates", ignore=shutil.ignore_patterns("out"))
+    leave_out_slow_tests(f"{room}/crates")
 
 
 def leave_out_slow_tests(crates):
