@@ -1,6 +1,7 @@
 -- The reply to each request (RFC 7089, sections 4 and 5), from the state of the harvests that are known.
 use Rattle.std.specs.FinMap as map
-use Rattle.std.specs.Prelude.{ℕ, List, [], ◌∷◌, ◌++◌, Option, None, Some, length, codes, if◌then◌else◌, ◌==◌, ◌||◌, nat_lt}
+use Rattle.std.specs.Prelude.{ℕ, List, [], ◌∷◌, ◌++◌, Option, None, Some, length, codes, if◌then◌else◌, ◌==◌, ◌||◌}
+use Rattle.std.specs.Prelude.{nat_lt}
 use Rattle.memento_time.specs.declared.mementos.Memento.{Memento}
 use Rattle.memento_sets.specs.Sets as set
 use Rattle.memento_sets.specs.MementoSets.{Mementos}

@@ -130,7 +130,10 @@ numbered (Some parts) = option_map (λ number. (number, parts.1)) (number_of par
 
 -- the number of a page and what stands behind it, where bytes begin with these
 abbrev pub page_in : List ℕ → Option (ℕ × List ℕ)
-page_in bytes = if starts_with nat_eq bytes page_part then numbered (parts_at slash (drop (length page_part) bytes)) else None
+page_in bytes =
+    if starts_with nat_eq bytes page_part
+    then numbered (parts_at slash (drop (length page_part) bytes))
+    else None
 
 -- a page of a TimeMap, where bytes begin with its number, and else the TimeMap of the original that they name
 abbrev pub listing_route : Option (ℕ × List ℕ) → List ℕ → Route

@@ -1,4 +1,4 @@
--- What stands at the addresses that replies tell of an original.
+-- What the service answers at the addresses that replies tell of an original.
 use Rattle.std.specs.Prelude.{◌≡◌, ◌<◌, ◌^◌, ◌++◌, List, ℕ, codes}
 use Rattle.timemap_writer.specs.TimeMap.{timegate_address, timemap_address}
 use Rattle.timemap_writer.specs.Pages.{page_address}

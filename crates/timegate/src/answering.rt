@@ -43,11 +43,12 @@ use timemap_writer::{Service, pages, write_gate_links, write_index, write_page, 
 /// | a page of a TimeMap | 200 | the page, in link-format |
 ///
 /// A page is asked for at `/timemap/link/page/K/` and the original, K a decimal of 64 bits. It has 1,000 mementos, and
-/// the last has what is left. Where no decimal and slash stand behind `page/`, the whole is read as an original.
+/// the last has what is left. Where `page/` isn't followed by a decimal and a slash, the original is read from `page/`
+/// on.
 ///
-/// A TimeGate names the memento nearest to the moment that it is asked for, or else the latest. Whatever is said of
-/// a TimeGate has `Vary: accept-datetime`. The short texts end in a line feed. `HEAD` is answered as `GET` without
-/// the body.
+/// A TimeGate names the memento nearest to the moment that it is asked for, or else the latest. Each reply of a
+/// TimeGate has `Vary: accept-datetime`. The short texts end in a line feed. `HEAD` is answered as `GET`, without the
+/// body.
 ///
 /// The TimeMap, its pages and the `Link` of a redirect tell the addresses of the original's TimeGate and TimeMap, and
 /// the index those of the pages. A client that gets one of these asks for what it was told.

@@ -1,4 +1,4 @@
-//! What the replies keep.
+//! What holds of all replies.
 ghost use Rattle.std.specs.Prelude.{◌≡◌, ◌↔◌, ◌∷◌, [], ℕ, List, Option, Contains, codes, if◌then◌else◌};
 ghost use Rattle.harvest_lattice.specs.Knowledge.{Harvested, lat};
 ghost use Rattle.replica_exchange.specs.Stamps.{StampedState};
@@ -10,15 +10,14 @@ ghost use Rattle.timegate.specs.Reply.{reply, reply_of};
 ghost use Rattle.timegate.specs.Route.{AsksDelta, AsksPage, IsOfTaken, is_timegate, route_of};
 ghost use Rattle.timegate.specs.Promises.{as_get, without_body, vary_values, AreInOrder};
 
-/// But for the deltas, a reply is a function of the state of the harvests that were taken.
+/// A reply follows from the state of the harvests that were taken, unless a delta is asked for.
 pub fn replies_from_state()
     ensures { (base : List ℕ) (known : List Harvested) (s : StampedState) (q : Request)
         → s.entries ≡ lat known → IsOfTaken q → reply_of base s q ≡ reply base known q }
 {}
 
-/// The same harvests, in any order and however often, give every request that asks for no delta the same reply. What a
-/// delta is answered also tells of the merges by which the harvests came; `reply` has for it a delta that tells of
-/// none.
+/// The same harvests, in any order and however often, give every request that asks for no delta the same reply. A delta
+/// also tells of the merges by which the harvests came; in its place `reply` has one that tells of none.
 pub fn same_harvests_same_reply()
     ensures { (base : List ℕ) (known others : List Harvested) → ((h : Harvested) → Contains known h ↔ Contains others h)
         → (q : Request) → reply base known q ≡ reply base others q }
@@ -44,7 +43,7 @@ pub fn head_is_get_without_body()
         → reply_of base s q ≡ without_body (reply_of base s (as_get q)) }
 {}
 
-/// A reply is said to depend on the asked datetime, once, exactly where the target is a TimeGate's.
+/// A reply has one `Vary`, of `accept-datetime`, where the target is a TimeGate's, and else none.
 pub fn timegates_vary()
     ensures { (base : List ℕ) (s : StampedState) (q : Request)
         → vary_values (reply_of base s q).headers ≡ (if is_timegate q then codes "accept-datetime" ∷ [] else []) }
@@ -55,14 +54,14 @@ pub fn headers_stand_in_order()
     ensures { (base : List ℕ) (s : StampedState) (q : Request) → AreInOrder (reply_of base s q).headers }
 {}
 
-/// A delta is asked for at `/delta`, and one from a cursor behind `/delta/` at the decimals of its incarnation and its
-/// number with a slash between. No other request asks for one.
+/// `/delta` asks for the delta from no cursor, and `/delta/I/N` for the one from the cursor of incarnation I and number
+/// N, both decimals. No other request asks for a delta.
 pub fn deltas_stand_at_their_cursors()
     ensures { (q : Request) (cursor : Option Cursor) → (route_of q ≡ Delta cursor) ↔ AsksDelta q cursor }
 {}
 
-/// A page of a TimeMap is asked for behind `/timemap/link/page/` at the decimal of its number with a slash behind it,
-/// and a text that names the original. No other request asks for one.
+/// `/timemap/link/page/K/` and a text that names an original asks for page K of that original's TimeMap, K a decimal.
+/// No other request asks for a page.
 pub fn pages_stand_at_their_numbers()
     ensures { (q : Request) (number : ℕ) (original : List ℕ) → (route_of q ≡ Page number original)
         ↔ AsksPage q number original }

@@ -56,7 +56,7 @@ fn is_whole_delta(request: &Request) -> bool
     request.target.as_slice() == b"/delta".as_slice()
 }
 
-/// What stands behind the front, where the bytes begin with it.
+/// What follows the front, where the bytes begin with it.
 fn behind<'a>(bytes: &'a [u8], front: &[u8]) -> Option<&'a [u8]>
     ensures found { IfSome result (λ rest. (starts_with nat_eq bytes.now front.now ≡ true)
         × (rest.now ≡ drop (length front.now) bytes.now)) }
@@ -122,7 +122,7 @@ fn timegate_route(asked: &[Octets], original: Original) -> Route
     }
 }
 
-/// The number of a page and what stands behind it, where the bytes begin with these.
+/// The number of a page and what follows it, where the bytes begin with these.
 fn page_in(bytes: &[u8]) -> Option<(u64, &[u8])>
     ensures { option_map (λ page. (page.0, page.1.now)) result ≡ page_in bytes.now }
 {
