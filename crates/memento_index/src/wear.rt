@@ -9,17 +9,20 @@ use memento_time::Memento;
 //
 // Buffers are kept as long as one address in them, so a list may keep the bytes of those that began or ceased to be
 // shown since it was packed, and no others. It is packed anew once these are more than its own. That is looked at
-// whenever half as many bytes came as it had at the last look, so it keeps at most four times as many bytes as it has,
-// and the looks take time in what comes.
+// whenever half as many bytes came as it had at the last look, and more than `FEW`. So it keeps at most four times as
+// many bytes as it has, and three times `FEW`, and the looks take time in what comes.
 #[derive(Clone, Copy, Debug)]
 pub struct Wear {
     moved: usize,
     due: usize,
 }
 
+// So many bytes aren't worth a look.
+const FEW: usize = 1024;
+
 impl Wear {
     pub fn none() -> Wear {
-        Wear { moved: 0, due: 0 }
+        Wear { moved: 0, due: FEW }
     }
 
     // Packs a list in which addresses of so many bytes began or ceased, if it is due. Where memory is refused, the list
@@ -38,7 +41,7 @@ impl Wear {
                 self.moved = 0;
             }
         }
-        self.due = self.moved.saturating_add(own / 2);
+        self.due = self.moved.saturating_add(FEW.max(own / 2));
     }
 }
 
