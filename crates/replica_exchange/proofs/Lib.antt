@@ -11,3 +11,4 @@ pub mod OneReading
 pub mod CursorLemmas
 pub mod ShelfLemmas
 pub mod AbsorbLemmas
+pub mod OrderLemmas

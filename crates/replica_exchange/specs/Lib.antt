@@ -8,3 +8,4 @@ pub mod Stamps
 pub mod DeltaText
 pub mod CursorRule
 pub mod StampShelves
+pub mod StampOrder

@@ -60,6 +60,10 @@ abbrev pub entry_text : Key × Kept → List ℕ
 entry_text e = entry_line e.0 (whole e.1) (length (map.entries e.1.revisions))
     ++ flat_map part_text (map.entries e.1.revisions)
 
+-- N, the end of its line, and the entries
+abbrev pub counted_text : List (Key × Kept) → List ℕ
+counted_text es = (decimal (length es) ++ 10 ∷ []) ++ flat_map entry_text es
+
 -- the entries from `entries N` to `end`
 abbrev pub entries_text : List (Key × Kept) → List ℕ
 entries_text es = listing_text entry_text es

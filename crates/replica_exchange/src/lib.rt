@@ -54,6 +54,7 @@ mod fault;
 mod fields;
 mod format;
 mod laws;
+mod order;
 mod reading;
 mod stamped;
 mod stamps;

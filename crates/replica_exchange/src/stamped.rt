@@ -1,5 +1,6 @@
 //! A state with the stamp of each of its entries.
-ghost use Rattle.std.specs.Prelude.{◌≡◌, ◌+◌, ◌≤◌, ◌↔◌, [], ◌∷◌, ◌++◌, List, OnOk, OnErr, IsErrOf, IsSome, Some};
+ghost use Rattle.std.specs.Prelude.{◌≡◌, ◌+◌, ◌≤◌, ◌↔◌, [], ◌∷◌, ◌++◌, List, length, take, OnOk, OnErr, IsErrOf, IfOk};
+ghost use Rattle.std.specs.Prelude.{IsSome, IfSome, Some, map as map_list};
 ghost use Rattle.std.specs.BTreeMap.{IsOrdered};
 ghost use Rattle.std.specs.FinMap as map;
 ghost use Rattle.std.specs.List.{All};
@@ -8,18 +9,22 @@ ghost use Rattle.harvest_lattice.specs.Lattice.{Key, join};
 ghost use Rattle.memento_index.specs.Lists.{AreNews};
 ghost use Rattle.replica_exchange.specs.CursorRule.{start_from};
 ghost use Rattle.replica_exchange.specs.Faults.{stamp_words};
-ghost use Rattle.replica_exchange.specs.Stamps.{IsStamped, IsAbsorbed, is_above};
+ghost use Rattle.harvest_lattice.specs.Rows.{row_entry};
+ghost use Rattle.replica_exchange.specs.StampOrder.{given_at, order_of, is_stamp, standing_entry, AreAbove};
+ghost use Rattle.replica_exchange.specs.Stamps.{IsStamped, IsAbsorbed, is_above, entries_above};
 ghost use Rattle.replica_exchange.specs.StampShelves.{filled, slot, key_of};
 ghost use Rattle.replica_exchange.specs.declared.stamped.StampFault.TheVariants.{NoMemory as OutOfMemory};
 
 use crate::cursor::Cursor;
+use crate::order::StampOrder;
 use crate::stamps::{
     ChangedKey, StampShelves, drop_rooms, fill_all, keys_of, make_rooms, stamp_at,
 };
-use harvest_lattice::Changes;
+use harvest_lattice::{Changes, Row, State};
 use memento_index::{Index, Merge};
 use memento_time::{ArchiveName, NoMemory, Original};
 use std::alloc::Global;
+use std::cmp::Ordering;
 use std::collections::BTreeMap;
 use std::error::Error;
 use std::fmt;
@@ -56,13 +61,15 @@ impl From<NoMemory> for StampFault {
 }
 
 /// Makes room for the stamps of the keys, and has the index take the changes. Where memory is refused, the index and the
-/// stamps are as they were, and slots may have been made that are empty.
+/// stamps are as they were, and slots may have been made that are empty, and rows added to the order.
 fn put_with_room(
     index: &mut Index,
     stamps: &mut StampShelves,
+    order: &mut StampOrder,
     alloc: Global,
     changes: Changes,
     keys: &[ChangedKey],
+    number: u64,
 ) -> Result<(), NoMemory>
     requires ordered { IsOrdered text_cmp stamps.old }
     requires news { AreNews index.old changes }
@@ -71,9 +78,20 @@ fn put_with_room(
     ensures same { (k : Key) → filled (slot stamps.new k) ≡ filled (slot stamps.old k) }
     ensures made { OnOk result (All (λ key. IsSome (slot stamps.new (key_of key))) keys.now) }
     ensures ordered { IsOrdered text_cmp stamps.new }
+    ensures listed { OnOk result (order_of order.new ≡ order_of order.old ++ map_list (given_at number) keys.now) }
+    ensures front { take (length (order_of order.old)) (order_of order.new) ≡ order_of order.old }
 {
+    order.add_all(keys, number)?;
     make_rooms(stamps, alloc, keys)?;
     index.put(changes)
+}
+
+/// The order of keys.
+fn by_key(left: &Row, right: &Row) -> Ordering {
+    match left.archive.cmp(&right.archive) {
+        Ordering::Equal => left.original.cmp(&right.original),
+        order => order,
+    }
 }
 
 /// What the merges of an incarnation made, and since which of them each entry is as it is.
@@ -84,11 +102,13 @@ pub struct Stamped {
     number: u64,
     index: Index,
     stamps: StampShelves,
+    order: StampOrder,
 }
 
 impl Model for Stamped {
     ghost use Rattle.std.specs.BTreeMap.{IsOrdered};
     ghost use Rattle.memento_time.specs.Mementos.{text_cmp};
+    ghost use Rattle.replica_exchange.specs.StampOrder.{IsOrderOf, order_of};
     ghost use Rattle.replica_exchange.specs.StampShelves.{stamps_in};
     ghost use Rattle.replica_exchange.specs.Stamps.{StampedState, coded_stamped};
 
@@ -103,7 +123,7 @@ impl Model for Stamped {
       incarnation = s.incarnation;
     } };
 
-    ghost invariant = { λ s. IsOrdered text_cmp s.stamps };
+    ghost invariant = { λ s. IsOrdered text_cmp s.stamps × IsOrderOf s.stamps (order_of s.order) s.number };
 }
 
 impl Stamped {
@@ -121,6 +141,7 @@ impl Stamped {
             number: 0,
             index: Index::new(alloc),
             stamps: BTreeMap::new(alloc),
+            order: StampOrder::new(alloc),
         }
     }
 
@@ -128,7 +149,8 @@ impl Stamped {
     /// number as their stamp.
     ///
     /// It has all its memory before the first change. Besides what `Index::absorb` takes, it takes time in the size of
-    /// the merge, and for each entry that changes logarithmic in the number of keys.
+    /// the merge, and for each entry that changes logarithmic in the number of keys. After as many changes as there are
+    /// keys it looks up every stamp once.
     pub fn absorb(&mut self, merge: &Merge) -> Result<(), StampFault>
         ensures ok { OnOk result (IsAbsorbed self.old merge.now self.new) }
         ensures stands { (merges : List Merge) → IsStamped merges self.old
@@ -151,12 +173,17 @@ impl Stamped {
     {
         let changes = self.index.changes(merge)?;
         let keys = keys_of(self.alloc, changes.rows())?;
+        let held = self.index.state().len();
+        self.order.make_place(&self.stamps, keys.len(), held);
+        let listed = self.order.len();
         let taken = put_with_room(
             &mut self.index,
             &mut self.stamps,
+            &mut self.order,
             self.alloc,
             changes,
             &keys,
+            number,
         );
         match taken {
             Ok(()) => {
@@ -166,6 +193,7 @@ impl Stamped {
             }
             Err(refused) => {
                 drop_rooms(&mut self.stamps, &keys);
+                self.order.truncate(listed);
                 Err(refused)
             }
         }
@@ -206,6 +234,71 @@ impl Stamped {
             Some(stamp) => start < stamp,
             None => false,
         }
+    }
+
+    fn has_stamp(&self, archive: ArchiveName, original: &Original, stamp: u64) -> bool
+        ensures { result ≡ is_stamp stamp (map.get self.now.stamps (archive, original.now)) }
+    {
+        match self.stamp(archive, original) {
+            Some(other) => other == stamp,
+            None => false,
+        }
+    }
+
+    /// Adds the entry of a key, if the key still has this stamp.
+    fn note_standing(
+        &self,
+        rows: &mut Vec<Row>,
+        stamp: u64,
+        archive: ArchiveName,
+        original: &Original,
+    ) -> Result<(), NoMemory>
+        ensures { OnOk result (map_list row_entry rows.new.items
+            ≡ map_list row_entry rows.old.items ++ standing_entry self.now (stamp, (archive, original.now))) }
+    {
+        if !self.has_stamp(archive, original, stamp) {
+            return Ok(());
+        }
+        let Some(entry) = self.index.state().entry(archive, original) else {
+            return Ok(());
+        };
+        let copy = original.try_clone()?;
+        let kept = entry.try_clone()?;
+        rows.push(Row {
+            archive,
+            original: copy,
+            entry: kept,
+        })?;
+        Ok(())
+    }
+
+    /// The entries with a stamp above the start, in the order of their stamps.
+    fn rows_above(&self, start: u64) -> Result<Vec<Row>, NoMemory>
+        ensures { IfOk result (λ rows. AreAbove self.now start (map_list row_entry rows.items)) }
+    {
+        let mut rows = Vec::new(self.alloc);
+        let behind = self.order.behind(start);
+        for given in behind {
+            self.note_standing(&mut rows, given.stamp(), given.archive(), given.original())?;
+        }
+        Ok(rows)
+    }
+
+    /// Whether so many stamps are above the start that a walk over all entries is no dearer.
+    fn is_much_above(&self, start: u64) -> bool {
+        self.order.behind(start).len() > self.order.len() / 8
+    }
+
+    /// The entries with a stamp above the start, where these are few.
+    pub(crate) fn few_above(&self, start: u64) -> Result<Option<State>, NoMemory>
+        ensures { IfOk result (λ found. IfSome found (λ state. state ≡ entries_above self.now start)) }
+    {
+        if self.is_much_above(start) {
+            return Ok(None);
+        }
+        let mut rows = self.rows_above(start)?;
+        rows.sort_by(by_key)?;
+        State::of_rows(self.alloc, rows)
     }
 
     /// Where a delta from a cursor starts.

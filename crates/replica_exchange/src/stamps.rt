@@ -33,6 +33,18 @@ impl ChangedKey {
             original,
         })
     }
+
+    pub fn archive(&self) -> ArchiveName
+        ensures { result ≡ self.now.archive }
+    {
+        self.archive
+    }
+
+    pub fn original(&self) -> &Original
+        ensures { result.now ≡ self.now.original }
+    {
+        &self.original
+    }
 }
 
 /// The keys of the rows. They stay where the rows are taken in.

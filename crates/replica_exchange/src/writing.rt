@@ -6,7 +6,8 @@ ghost use Rattle.std.specs.FinMap as map;
 ghost use Rattle.memento_time.specs.Mementos.{IsMemento};
 ghost use Rattle.replica_exchange.specs.StateText.{memento_line, whole_field, entry_line, part_line, part_text};
 ghost use Rattle.replica_exchange.specs.StateText.{entry_text, state_text};
-ghost use Rattle.replica_exchange.specs.StateText.{IsEntryLine, IsPartLine, IsPart, IsEntry, IsState};
+ghost use Rattle.replica_exchange.specs.StateText.{counted_text, IsEntryLine, IsPartLine, IsPart, IsEntry, AreEntries};
+ghost use Rattle.replica_exchange.specs.StateText.{IsState};
 ghost use Rattle.harvest_lattice.specs.Lattice.{whole};
 ghost use Rattle.replica_exchange.specs.Stamps.{entries_above, above};
 ghost use Rattle.replica_exchange.specs.CursorRule.{delta_from, start_from};
@@ -209,6 +210,38 @@ fn write_entries_above(out: &mut Vec<u8>, stamped: &Stamped, start: u64) -> Resu
     Ok(())
 }
 
+/// The number of a state's entries, and the entries.
+fn write_all_counted(out: &mut Vec<u8>, state: &State) -> Result<(), AllocError>
+    ensures written { OnOk result (out.new.items ≡ out.old.items ++ counted_text (map.entries state.now)) }
+    ensures fits { OnOk result (AreEntries (map.entries state.now)) }
+{
+    write_number(out, state.len() as u64, b'\n')?;
+    write_entries(out, state)
+}
+
+/// The number of the entries with a stamp above the start, and these entries, from a walk over all.
+fn write_above_counted(out: &mut Vec<u8>, stamped: &Stamped, start: u64) -> Result<(), AllocError>
+    ensures written { OnOk result (out.new.items ≡ out.old.items
+        ++ counted_text (map.entries (entries_above stamped.now start))) }
+    ensures fits { OnOk result (AreEntries (map.entries (entries_above stamped.now start))) }
+{
+    write_number(out, count_above(stamped, start), b'\n')?;
+    write_entries_above(out, stamped, start)
+}
+
+/// The number of the entries with a stamp above the start, and these entries.
+fn write_counted(out: &mut Vec<u8>, stamped: &Stamped, start: u64) -> Result<(), NoMemory>
+    ensures written { OnOk result (out.new.items ≡ out.old.items
+        ++ counted_text (map.entries (entries_above stamped.now start))) }
+    ensures fits { OnOk result (AreEntries (map.entries (entries_above stamped.now start))) }
+{
+    match stamped.few_above(start)? {
+        Some(state) => write_all_counted(out, &state)?,
+        None => write_above_counted(out, stamped, start)?,
+    }
+    Ok(())
+}
+
 fn write_span(out: &mut Vec<u8>, incarnation: u64, start: u64, end: u64) -> Result<(), AllocError>
     ensures written { OnOk result (out.new.items ≡ out.old.items ++ from_line incarnation start end) }
     ensures fits { (incarnation < 2 ^ 64) × (end < 2 ^ 64) }
@@ -221,8 +254,8 @@ fn write_span(out: &mut Vec<u8>, incarnation: u64, start: u64, end: u64) -> Resu
 
 /// The text, in format 2, of what the merges after a cursor changed, or of all where there is none of this incarnation.
 ///
-/// Takes time linear in the text. Besides, it looks up the stamp of every entry of the state, twice, each time
-/// logarithmic in the number of keys: stamps aren't kept in their own order.
+/// Takes time linear in the text, and for each entry in it logarithmic in the number of keys. Where more than an eighth
+/// of all stamps are above the start, it looks up the stamp of every entry of the state instead, twice.
 pub fn write_delta(
     alloc: Global,
     stamped: &Stamped,
@@ -236,8 +269,7 @@ pub fn write_delta(
     out.extend_from_slice(b"memento-delta 2\n")?;
     write_span(&mut out, stamped.incarnation(), start, stamped.number())?;
     out.extend_from_slice(b"entries ")?;
-    write_number(&mut out, count_above(stamped, start), b'\n')?;
-    write_entries_above(&mut out, stamped, start)?;
+    write_counted(&mut out, stamped, start)?;
     out.extend_from_slice(b"end\n")?;
     Ok(out)
 }

@@ -8,4 +8,4 @@ use Rattle.replica_exchange.proofs.stamped.Stamped.stamp.Goals as goal
 pub returns : goal.returns
 returns c =
     let k : Key = (c.args.archive, c.args.original.now) in
-    c.stamp_at.ensures ∙ (sym (get-stamps_in c.self.inside.stamps c.self.invariant k) ∙ ap (λ (s : StampedState). map.get s.stamps k) c.self.view_is)
+    c.stamp_at.ensures ∙ (sym (get-stamps_in c.self.inside.stamps c.self.invariant.0 k) ∙ ap (λ (s : StampedState). map.get s.stamps k) c.self.view_is)
