@@ -1,5 +1,6 @@
 -- Which addresses a listed host leads to (RFC 6890 has the networks that nobody reaches from outside).
-use Rattle.std.specs.Prelude.{◌≡◌, ℕ, ◌/◌, ◌%◌, Bool, true, false, not, ◌&&◌, ◌||◌, ◌==◌, nat_le, List, [], ◌∷◌, take, slice_index, bytes_eq, codes}
+use Rattle.std.specs.Prelude.{◌≡◌, ℕ, ◌/◌, ◌%◌, Bool, true, false, not, ◌&&◌, ◌||◌, ◌==◌, nat_le, List, [], ◌∷◌, take}
+use Rattle.std.specs.Prelude.{slice_index, bytes_eq, codes}
 use Rattle.std.specs.List.{list_all}
 use Rattle.std.specs.declared.net.ip_addr.IpAddr.{IpAddr}
 use Rattle.std.specs.declared.net.ip_addr.IpAddr.TheVariants.{V4, V6}
@@ -63,15 +64,22 @@ IsKeptFrom address = is_allowed (Domain (codes "a.example")) address ≡ false
 -- worked examples, on both sides of each border
 pub record AreAddresses : Type 0 where
   pub this_network : IsKeptFrom (v4 0 0 0 0) × IsKeptFrom (v4 0 255 255 255) × IsReached (v4 1 0 0 0)
-  pub private_10 : IsReached (v4 9 255 255 255) × IsKeptFrom (v4 10 0 0 0) × IsKeptFrom (v4 10 255 255 255) × IsReached (v4 11 0 0 0)
-  pub shared : IsReached (v4 100 63 255 255) × IsKeptFrom (v4 100 64 0 0) × IsKeptFrom (v4 100 127 255 255) × IsReached (v4 100 128 0 0)
-  pub loopback : IsReached (v4 126 255 255 255) × IsKeptFrom (v4 127 0 0 0) × IsKeptFrom (v4 127 255 255 255) × IsReached (v4 128 0 0 0)
-  pub link_local : IsReached (v4 169 253 255 255) × IsKeptFrom (v4 169 254 0 0) × IsKeptFrom (v4 169 254 255 255) × IsReached (v4 169 255 0 0)
-  pub private_172 : IsReached (v4 172 15 255 255) × IsKeptFrom (v4 172 16 0 0) × IsKeptFrom (v4 172 31 255 255) × IsReached (v4 172 32 0 0)
-  pub private_192 : IsReached (v4 192 167 255 255) × IsKeptFrom (v4 192 168 0 0) × IsKeptFrom (v4 192 168 255 255) × IsReached (v4 192 169 0 0)
+  pub private_10 : IsReached (v4 9 255 255 255) × IsKeptFrom (v4 10 0 0 0) × IsKeptFrom (v4 10 255 255 255)
+      × IsReached (v4 11 0 0 0)
+  pub shared : IsReached (v4 100 63 255 255) × IsKeptFrom (v4 100 64 0 0) × IsKeptFrom (v4 100 127 255 255)
+      × IsReached (v4 100 128 0 0)
+  pub loopback : IsReached (v4 126 255 255 255) × IsKeptFrom (v4 127 0 0 0) × IsKeptFrom (v4 127 255 255 255)
+      × IsReached (v4 128 0 0 0)
+  pub link_local : IsReached (v4 169 253 255 255) × IsKeptFrom (v4 169 254 0 0) × IsKeptFrom (v4 169 254 255 255)
+      × IsReached (v4 169 255 0 0)
+  pub private_172 : IsReached (v4 172 15 255 255) × IsKeptFrom (v4 172 16 0 0) × IsKeptFrom (v4 172 31 255 255)
+      × IsReached (v4 172 32 0 0)
+  pub private_192 : IsReached (v4 192 167 255 255) × IsKeptFrom (v4 192 168 0 0) × IsKeptFrom (v4 192 168 255 255)
+      × IsReached (v4 192 169 0 0)
   pub multicast : IsReached (v4 223 255 255 255) × IsKeptFrom (v4 224 0 0 0) × IsKeptFrom (v4 255 255 255 255)
   pub unspecified_v6 : IsKeptFrom (v6 0 0 0 0) × IsKeptFrom (v6 0 0 0 1)
-  pub mapped : IsReached (v6 0 0xffff 0x09ff 0xffff) × IsKeptFrom (v6 0 0xffff 0x0a00 0) × IsKeptFrom (v6 0 0xffff 0x7f00 1) × IsReached (v6 0 0xffff 0x8000 0)
+  pub mapped : IsReached (v6 0 0xffff 0x09ff 0xffff) × IsKeptFrom (v6 0 0xffff 0x0a00 0) × IsKeptFrom (v6 0 0xffff 0x7f00 1)
+      × IsReached (v6 0 0xffff 0x8000 0)
   pub not_mapped : IsReached (v6 0 0xfffe 0x7f00 1) × IsReached (v6 1 0xffff 0x7f00 1)
   pub unique_local : IsReached (v6 0xfbff 0 0 1) × IsKeptFrom (v6 0xfc00 0 0 0) × IsKeptFrom (v6 0xfdff 0 0 1)
   pub link_local_v6 : IsKeptFrom (v6 0xfe80 0 0 1) × IsKeptFrom (v6 0xfebf 0 0 1)

@@ -3,7 +3,8 @@
 -- It is the URL's own text, and not what `url` would write: dot segments in an archived address must stay. So it has to
 -- begin where `url` ends the authority. The text is clean (`IsClean`): it has no tab, line feed or space, of which
 -- `url` leaves out some.
-use Rattle.std.specs.Prelude.{◌≡◌, ℕ, Bool, not, ◌||◌, ◌==◌, List, [], ◌∷◌, drop, codes, Option, Some, None, if◌then◌else◌}
+use Rattle.std.specs.Prelude.{◌≡◌, ℕ, Bool, not, ◌||◌, ◌==◌, List, [], ◌∷◌, drop, codes, Option, Some, None}
+use Rattle.std.specs.Prelude.{if◌then◌else◌}
 use Rattle.std.specs.List.{position_or_len}
 use Rattle.memento_time.specs.Text.{before_fragment}
 use Rattle.timemap_reader.specs.Address.{starts_with_any_case}
@@ -40,7 +41,8 @@ target_of url = if starts_with_any_case url (codes "http:") then Some (path_and_
 
 -- worked examples
 pub record AreTargets : Type 0 where
-  pub own_text : target_of (codes "http://a.example/web/2000/http://b.example/x/../y?z#top") ≡ Some (codes "/web/2000/http://b.example/x/../y?z")
+  pub own_text : target_of (codes "http://a.example/web/2000/http://b.example/x/../y?z#top")
+      ≡ Some (codes "/web/2000/http://b.example/x/../y?z")
   pub query : target_of (codes "http://a.example?x=/y") ≡ Some (codes "/?x=/y")
   pub nothing : target_of (codes "HTTP://a.example") ≡ Some (codes "/")
   pub fragment : target_of (codes "http://a.example#/x") ≡ Some (codes "/")

@@ -22,8 +22,9 @@ const MAX_BODY: usize = 8_388_608;
 #[derive(Clone, Copy, Debug)]
 pub struct HyperFetch;
 
-/// Fetches as `HyperFetch` does, and waits by a patience of its own. Where it has hosts, what isn't of one of them is
-/// Failed before a connection is made, and so is what a listed name leads to an internal address for (`is_allowed`).
+/// Fetches as `HyperFetch` does, and waits by a patience of its own. Where it has hosts, a URL of another host is
+/// Failed before a connection is made, and so is one whose listed name leads to no address but internal ones
+/// (`is_allowed`).
 #[derive(Clone, Copy, Debug)]
 pub struct CarefulFetch<'a> {
     pub patience: Patience,

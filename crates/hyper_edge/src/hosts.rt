@@ -31,7 +31,7 @@ impl AllowedHost {
     }
 }
 
-/// The URL in which the text is what stands between the scheme and the path, or None where that is no URL.
+/// The URL with this text between the scheme and the path, or None where that is no URL.
 fn read_around(alloc: Global, text: &str) -> Result<Option<Url>, AllocError>
     ensures { IfOk result (λ url. IsReading (parse_url None (url_around text.now)) url) }
 {
@@ -54,7 +54,8 @@ fn has_host_written(url: &Url, text: &str) -> bool
 
 /// The host and the port of a URL, where it has them.
 fn entry_of(alloc: Global, url: &Url) -> Result<Option<AllowedHost>, AllocError>
-    ensures { IfOk result (λ found. MatchOption found ((entry : Entry) → ¬ (IsEntryOf url.now entry)) (IsEntryOf url.now)) }
+    ensures { IfOk result (λ found.
+        MatchOption found ((entry : Entry) → ¬ (IsEntryOf url.now entry)) (IsEntryOf url.now)) }
 {
     let (Some(host), Some(port)) = (url.host_str(), url.port_or_known_default()) else {
         return Ok(None);
@@ -69,8 +70,8 @@ fn octets(alloc: Global, bytes: &[u8]) -> Result<Octets, AllocError>
     Ok(Octets::of(bytes.to_vec(alloc)?))
 }
 
-/// The entry that a text spells: what stands in a URL between `http://` and its path, as `web.archive.org`, whose port
-/// is 80, or `127.0.0.1:8101`. None for a text that isn't just that, or isn't spelled as `url` spells it.
+/// The entry that a text spells: the part of a URL between `http://` and its path, as `web.archive.org`, whose port is
+/// 80, or `127.0.0.1:8101`. None for a text that isn't just that, or isn't spelled as `url` spells it.
 pub fn read_host(alloc: Global, text: &str) -> Result<Option<AllowedHost>, AllocError>
     ensures { IfOk result (λ found. MatchOption found ((entry : Entry) → ¬ (Spells text.now entry)) (Spells text.now)) }
 {

@@ -1,4 +1,4 @@
-//! Laws for readers: the functions do nothing when they run.
+//! Worked examples, and what holds of all gates. No program calls these functions: each is a statement, and its proof.
 ghost use Rattle.std.specs.Prelude.{◌≡◌, ℕ, List};
 ghost use Rattle.harvest_lattice.specs.Knowledge.{Harvested};
 ghost use Rattle.memento_index.specs.declared.merge.Merge.{Merge};
@@ -21,8 +21,8 @@ pub fn addresses_by_example()
     ensures { AreAddresses }
 {}
 
-/// What a gate may answer, whichever it is, to a request that asks for no delta: the reply of a replica that has taken
-/// some harvests, and nothing else. And whatever a replica answers to a request, a gate may answer.
+/// To a request that asks for no delta, whatever a gate may answer is the reply of a replica that has taken some
+/// harvests. And whatever a replica answers to a request, a gate may answer.
 pub fn gates_answer_as_replicas()
     ensures taken { (q : Request) (made : Reply) → IsSomeReply q made → IsOfTaken q
         → (base : List ℕ) × (known : List Harvested) × (made ≡ reply base known q) }

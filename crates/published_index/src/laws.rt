@@ -27,7 +27,7 @@ ghost use Rattle.published_index.specs.Replies.{IsReplyFrom};
 ghost use Rattle.published_index.specs.Passes.{Pass};
 ghost use Rattle.published_index.specs.Views.{MergerView};
 
-/// Whatever a gate is asked and told: the front of an earlier reply begins that of each later one.
+/// Whatever a gate is asked and told, the front of each later reply begins with the front of each earlier one.
 pub fn answers_never_go_back()
     ensures { (start end : Pass) (before between after : List Call) (earlier later : List Batch)
         → Calls start (before ++ Answer earlier ∷ (between ++ Answer later ∷ after)) end → IsPrefix earlier later }
@@ -56,7 +56,8 @@ pub fn each_merge_is_published_once()
     ensures published { (m : MergerView) (calls : List MergerCall)
         → merges_of (fold after_call m (calls ++ Publish ∷ [])).published
         ≡ merges_with_pending m ++ flat_map handed_by calls }
-    ensures start { (m : MergerView) (calls : List MergerCall) → IsPrefix m.published (fold after_call m calls).published }
+    ensures start { (m : MergerView) (calls : List MergerCall)
+        → IsPrefix m.published (fold after_call m calls).published }
 {}
 
 /// A publish adds what the merges of its batch add, one after the other, with nothing between.
@@ -84,15 +85,15 @@ pub fn an_entry_is_an_ask()
         → IsReplyFrom base r.incarnation front q made → Step base w (Ask i q) (Ok (Replied made)) w }
 {}
 
-/// Gates of two replicas with one base, whose fronts have the same state, give the same replies, but to requests for
-/// deltas: what these are answered also tells of the merges, and `reply` has for them a delta that tells of none.
+/// Gates of two replicas with one base, whose fronts have the same state, give the same reply to every request that
+/// asks for no delta. A delta also tells of the merges; in its place `reply` has one that tells of none.
 pub fn same_state_same_reply()
     ensures { (base : List ℕ) (first second : List Batch) (q : Request) → lat (fold_of first) ≡ lat (fold_of second)
         → reply base (fold_of first) q ≡ reply base (fold_of second) q }
 {}
 
-/// A merger without cursors claims nothing. Where for each cursor that it holds it has, published or pending, at least
-/// what the first so many merges of that peer's incarnation made, this stays so after each delta of those merges that
+/// For each cursor that a merger holds it has, published or pending, at least what the first so many merges of that
+/// peer's incarnation made. A merger without cursors begins so, and it stays so after each delta of those merges that
 /// is appended, after every other merge, and after a publish.
 pub fn held_cursors_are_reached()
     ensures first { (histories : Histories) (m : MergerView) → m.cursors ≡ finite.empty → HasReached histories m }

@@ -1,5 +1,6 @@
 -- When replicas agree: the same harvests, the same TimeMaps, the same replies, and redirects to nearest mementos.
-use Rattle.std.specs.Prelude.{◌≡◌, ℕ, ◌↔◌, ◌==◌, ◌||◌, nat_lt, if◌then◌else◌, List, [], length, Contains, Option, Some, None, Ok}
+use Rattle.std.specs.Prelude.{◌≡◌, ℕ, ◌↔◌, ◌==◌, ◌||◌, nat_lt, if◌then◌else◌, List, [], length, Contains, Option, Some}
+use Rattle.std.specs.Prelude.{None, Ok}
 use Rattle.memento_sets.specs.Sets as set
 use Rattle.harvest_lattice.specs.Knowledge.{Harvested, shown}
 use Rattle.timemap_writer.specs.Pages.{pages}

@@ -57,9 +57,11 @@ pub record WasSentIn (count : ℕ) (history : History) (sender number incarnatio
 
 -- for example: a refused restart doesn't count, nor does a refused merge, or another replica's
 two_restarts : restarts
-    ((Restart 1, Ok Restarted) ∷ (Restart 3, Err NoReplica) ∷ (Send 1, Ok (Sent 1)) ∷ (Restart 2, Ok Restarted) ∷ []) ≡ 2
+    ((Restart 1, Ok Restarted) ∷ (Restart 3, Err NoReplica) ∷ (Send 1, Ok (Sent 1)) ∷ (Restart 2, Ok Restarted) ∷ [])
+    ≡ 2
 two_restarts = refl
 
 two_merges : merges_of 1
-    ((Deliver 1 1, Ok Joined) ∷ (Deliver 2 1, Ok Joined) ∷ (Receive 1 [], Err NoMemory) ∷ (Receive 1 [], Ok Joined) ∷ []) ≡ 2
+    ((Deliver 1 1, Ok Joined) ∷ (Deliver 2 1, Ok Joined) ∷ (Receive 1 [], Err NoMemory) ∷ (Receive 1 [], Ok Joined) ∷ [])
+    ≡ 2
 two_merges = refl

@@ -12,14 +12,14 @@ ghost use Rattle.replica_events.specs.Agreement.{HasTaken, Gives, SameHarvests, 
 ghost use Rattle.replica_events.specs.Agreement.{ServesTimeGates, RedirectsWell};
 
 /// After every list of harvests taken, messages sent, restarts, and deliveries that were lost, delayed, repeated or
-/// reordered, two replicas that have learnt the same harvests since their last restart, directly or through each
-/// other, as the accepted events alone say it, give every original the same TimeMap bytes, and every request that asks
-/// for no delta the same reply (a delta also tells of the merges by which the harvests came); each redirect names a
-/// memento of the latest harvests, and none of these lies nearer to the asked datetime.
+/// reordered, two replicas that have learnt the same harvests since their last restart, directly or through each other,
+/// give every original the same TimeMap bytes, and every request that asks for no delta the same reply. What they have
+/// learnt, the accepted events alone say. A delta also tells of the merges by which the harvests came. Each redirect
+/// names a memento of the latest harvests, and none of these lies nearer to the asked datetime.
 ///
-/// `learnt` says it of every course of events. The other clauses say of every world what this rests on: a replica's
-/// reply, unless a delta is asked for, is that of what it has taken, two replicas agree already where the states of
-/// what they have taken are the same, and a TimeGate redirects wherever anything of the original is shown.
+/// `learnt` says it of every course of events. The other clauses say of every world what this rests on. A replica's
+/// reply, unless a delta is asked for, is that of what it has taken. Two replicas agree already where the states of
+/// what they have taken are the same. A TimeGate redirects wherever anything of the original is shown.
 pub fn replicas_agree()
     ensures learnt { (base : List ℕ) (course : Course base) (i j : ℕ) (known other : Knowledge) →
         HasTaken course.world i known → HasTaken course.world j other →

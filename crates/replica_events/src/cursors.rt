@@ -9,9 +9,8 @@ ghost use Rattle.replica_events.specs.History.{History, history_of};
 ghost use Rattle.replica_events.specs.Cursors.{IsReached, WasBrought, IsFurthest};
 
 /// After every list of events, the merges of a replica have made the state of all that it has taken: a delta that was
-/// delivered has led where all that its sender had taken would have led. And a cursor that a replica holds for a peer
-/// says how many merges the peer had taken at some time in that incarnation: the replica holds at least what these
-/// made.
+/// delivered brought as much as all that its sender had taken. And a cursor that a replica holds for a peer is a number
+/// of merges that the peer had taken at some time in that incarnation: the replica holds at least what these made.
 pub fn cursors_are_kept()
     ensures states { (base : List ℕ) (course : Course base) (i : ℕ) (r : Replica) → replica course.world i ≡ Some r →
         state_after r.merges ≡ lat r.taken }

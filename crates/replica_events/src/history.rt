@@ -10,10 +10,10 @@ ghost use Rattle.replica_events.specs.Agreement.{HasTaken};
 ghost use Rattle.replica_events.specs.History.{Happened, History, NoRestart, IsLocal, Learnt, Carries, HasSent};
 ghost use Rattle.replica_events.specs.History.{history_of};
 
-/// After every list of events, what a replica has taken is what it has learnt since its last restart: the harvests
-/// that it took itself, those of the states that it received, and those that the sender of a message that it was
-/// delivered had learnt before it sent the message. And each message has its sender, what the sender had learnt then,
-/// and the text of its delta; the state of a delta from the beginning is that of all this.
+/// After every list of events, what a replica has taken is what it has learnt since its last restart: the harvests that
+/// it took itself, those of the states that it received, and, of each message that it was delivered, those that the
+/// sender had learnt before it sent the message. A message keeps who sent it, what the sender had learnt then, and the
+/// text of its delta. The state of a delta from the beginning is that of all that the sender had learnt.
 pub fn what_replicas_have_taken()
     ensures taken { (base : List ℕ) (course : Course base) (i : ℕ) (known : Knowledge) → HasTaken course.world i known →
         (h : Harvested) → Contains known h ↔ Learnt (history_of course) i h }
@@ -27,9 +27,9 @@ pub fn what_replicas_have_taken()
         m.delta.start ≡ 0 → m.delta.state ≡ lat m.taken }
 {}
 
-/// A message that no delivery names changes nothing of what replicas have learnt; nor does a further delivery of the
-/// same message to the same replica, if in between the replica wasn't restarted and no other message got the number;
-/// and two events in turn, of which none is a restart or sends, may come the other way round.
+/// A message that no delivery names changes nothing of what replicas have learnt. Nor does a further delivery of the
+/// same message to the same replica, if in between the replica wasn't restarted and no other message got the number.
+/// Two events in turn, of which none is a restart or a sending, may change places.
 pub fn deliveries_in_any_order()
     ensures lost { (before after : History) (sending : Event) (k : ℕ) →
         ((i : ℕ) → ¬ Contains after (Deliver i k, Ok Joined)) →

@@ -1,8 +1,8 @@
-//! What may happen to replicas that exchange what they have taken, and what follows of it, with no code of a program:
+//! What may happen to replicas that exchange what they have taken, and what follows from it, with no code of a program:
 //! events and their outcomes, worlds of replicas and messages, histories, and the laws that hold of them all.
 //!
-//! `replicas_agree` is what the crate is for: replicas that have learnt the same harvests reply alike, but to requests
-//! for deltas. A program that shows which events it stands for has the laws for itself.
+//! `replicas_agree` is what the crate is for: replicas that have learnt the same harvests give the same reply to every
+//! request that asks for no delta. The laws hold of any program that shows which events it performs.
 #![tactic(auto)]
 
 mod agreement;

@@ -54,7 +54,8 @@ take_word false = codes "takepart"
 abbrev pub form_text : Form → List ℕ
 form_text (Take f) =
     parted
-    (take_word f.is_whole ∷ decimal f.replica ∷ f.archive ∷ decimal f.revision ∷ f.address ∷ decimal f.len ∷ f.original ∷ [])
+    (take_word f.is_whole ∷ decimal f.replica ∷ f.archive ∷ decimal f.revision ∷ f.address ∷ decimal f.len ∷ f.original
+    ∷ [])
 form_text (Map replica original) = parted (codes "map" ∷ decimal replica ∷ original ∷ [])
 form_text (Gate replica original) = parted (codes "gate" ∷ decimal replica ∷ original ∷ [])
 form_text (GateAt replica original asked) = parted (codes "gate" ∷ decimal replica ∷ original ∷ asked ∷ [])

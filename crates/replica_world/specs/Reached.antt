@@ -71,4 +71,5 @@ pub record AnswersTwice (base : List ℕ) (count : ℕ) (commands : List Command
 -- what is written is the reply to the request of the state and the stamps that the replica's merges made
 abbrev pub WritesReplyOf : List ℕ → Replica → Request → List ℕ → Type 0
 WritesReplyOf base r q text =
-    (s : StampedState) × IsStamped r.merges s × (s.incarnation ≡ r.incarnation) × (text ≡ reply_text (reply_of base s q))
+    (s : StampedState) × IsStamped r.merges s × (s.incarnation ≡ r.incarnation)
+    × (text ≡ reply_text (reply_of base s q))

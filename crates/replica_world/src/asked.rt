@@ -18,7 +18,7 @@ pub struct Asked {
 }
 
 /// Runs these events in a new world, and then asks two replicas the same. Where both have learnt the same harvests and
-/// no delta is asked for, their replies are the same: the headline, through the code.
+/// no delta is asked for, their replies are the same: what `replicas_agree` says of worlds, said of the code.
 pub fn asked_after(
     alloc: Global,
     replicas: usize,

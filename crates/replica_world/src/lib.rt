@@ -1,8 +1,9 @@
 //! A Memento aggregator of several replicas in one memory: replicas take harvests, send each other what they have
 //! taken, restart, and are asked.
 //!
-//! `World` runs the events of `replica_events`, and so has its laws: replicas that have learnt the same harvests reply
-//! alike. `replay` runs a script of commands over a world, and writes their output.
+//! `World` runs the events of `replica_events`, so the laws there hold of it: replicas that have learnt the same
+//! harvests give the same replies, except for deltas. `replay` runs a script of commands over a world, and writes their
+//! output.
 #![tactic(auto)]
 
 mod asked;

@@ -13,8 +13,8 @@ ghost use Rattle.timemap_writer.specs.Pages.{numbers, stretch, index_text, page_
 ghost use Rattle.replica_world.specs.ReadBack.{AreOnWeb, page_of, index_of};
 
 /// A TimeMap of at most 8,388,608 bytes, whose mementos have addresses that begin with `http://` or `https://`, may be
-/// answered as a page of just these mementos, whatever http or https URL it was fetched from: so one aggregator can
-/// harvest another. No other page may be answered, by `one_page`, and no fault but NoMemory, by
+/// read as a page of just these mementos, whatever http or https URL it was fetched from: so one aggregator can harvest
+/// another. `read_page` may give no other page of it, by `one_page`, and no fault but NoMemory, by
 /// `no_fault_beside_a_page`.
 pub fn timemaps_are_pages()
     ensures { (base original address : List ℕ) (url : Parts) (mementos : List Memento)
@@ -23,10 +23,10 @@ pub fn timemaps_are_pages()
         → IsAnswer address (timemap_text base original mementos) (Ok (page_of mementos)) }
 {}
 
-/// The index of a TimeMap, and each page, which always is short enough, may be answered as pages of an archive too. The
-/// index, of an original as `read_original` writes it, is one of no mementos whose further TimeMaps are just the pages,
-/// in order, with nothing left out; page K is one of the mementos of its stretch of the list. And the stretches, in
-/// order, are the list: whoever reads the index and then what it names has just the list's mementos.
+/// The index of a TimeMap and each of its pages may be read as pages of an archive too. A page is always short enough.
+/// The index, of an original as `read_original` writes it, has no mementos, and its further TimeMaps are just the
+/// pages, in order, with nothing left out. Page K has the mementos of its stretch of the list. The stretches, in order,
+/// are the list: whoever reads the index and then the pages that it names has just the list's mementos.
 pub fn paged_timemaps_are_pages()
     ensures index { (base original address : List ℕ) (url : Parts) (mementos : List Memento)
         → IsBase base → IsFollowed base → IsOriginal original → IsFollowed original

@@ -40,7 +40,7 @@ impl Model for World {
     } };
 }
 
-// The place of a number that counts from 1.
+/// The place of a number that counts from 1.
 fn place_of(number: usize, count: usize) -> Option<usize>
     ensures found { IfSome result (IsPlaceOf number count) }
     ensures none { IfNone result (IsNoNumber number count) }
@@ -196,7 +196,7 @@ impl World {
         Ok(Said::Replied(reply))
     }
 
-    // The place of the replica with this number.
+    /// The place of the replica with this number.
     fn replica_place(&self, number: usize) -> Result<usize, Refused>
         ensures found { IfOk result (IsPlaceOf number (length self.now.replicas)) }
         ensures none { IfErr result
@@ -205,7 +205,7 @@ impl World {
         place_of(number, self.replicas.len()).ok_or(Refused::NoReplica)
     }
 
-    // What is kept of the message with this number.
+    /// What is kept of the message with this number.
     fn message(&self, number: usize) -> Result<&SentMessage, Refused>
         ensures found { IfOk result (λ message. numbered self.now.messages number ≡ Some message.now) }
         ensures none { IfErr result
@@ -217,7 +217,7 @@ impl World {
         }
     }
 
-    // Merges into one replica.
+    /// Merges into one replica.
     fn absorb(&mut self, place: usize, merge: &Merge) -> Result<(), StampFault>
         requires { place < length self.old.replicas }
         ensures ok { OnOk result
@@ -230,7 +230,7 @@ impl World {
         Ok(())
     }
 
-    // Joins a delta of a peer to one replica.
+    /// Joins a delta of a peer to one replica.
     fn join(&mut self, place: usize, peer: u64, delta: Delta) -> Result<(), Refused>
         requires { place < length self.old.replicas }
         ensures fits { OnOk result (fits (fmap.get (kept_at self.old place).cursors peer) delta ≡ true) }
@@ -242,7 +242,7 @@ impl World {
         self.replicas[place].join(peer, delta)
     }
 
-    // Adds a message, and counts them all.
+    /// Adds a message, and counts them all.
     fn push_message(&mut self, sender: usize, text: Vec<u8>) -> Result<usize, NoMemory>
         ensures base { self.new.base ≡ self.old.base }
         ensures replicas { self.new.replicas ≡ self.old.replicas }

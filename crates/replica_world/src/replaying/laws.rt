@@ -16,7 +16,7 @@ ghost use Rattle.replica_world.specs.Output.{IsOutput, Performs, Says, reply_tex
 
 use timemap_reader::one_page;
 
-/// A script has one output. That it has one is said as: it is not so that it has none, since no law here says which
+/// A script has one output. That it has one is said as "it isn't so that it has none", since no law here decides which
 /// bytes are a state.
 pub fn one_output()
     ensures once { (script output other : List ℕ) → IsOutput script output → IsOutput script other → output ≡ other }
@@ -26,7 +26,7 @@ pub fn one_output()
 }
 
 /// What is found in a script is what is laid out there: lines, blocks, the first line, and each command by the text of
-/// its line. Commands are read one behind the other, to the end or to the first bad line.
+/// its line. Commands are read one after the other, to the end or to the first bad line.
 pub fn script_is_its_layout()
     ensures line { (text : List ℕ) → Finds (line_of text) (IsLine text) }
     ensures start { (text : List ℕ) → Finds (start_at text) (λ s. IsStartAt text s.0 s.1) }
@@ -36,10 +36,10 @@ pub fn script_is_its_layout()
     ensures commands { (text : List ℕ) → IsReadAs text (commands_of text).list (commands_of text).bad }
 {}
 
-/// The commands of a script come to events, these lead to its world, and what it writes are their answers. So what
-/// holds of all replicas of a world holds of those of a script, whatever has happened in it: each question, also one
-/// for a delta, writes the reply of what its replica's merges made (`replies`); and where the script ends in one
-/// request to two replicas that have learnt the same harvests, and for no delta, it ends in one reply, written twice
+/// The commands of a script come to events, these lead to its world, and what it writes are their answers (`runs`). So
+/// what holds of all replicas of a world holds of those of a script, whatever has happened in it. Each question, also
+/// one for a delta, writes the reply of what its replica's merges made (`replies`). Where the script ends in one
+/// request, for no delta, to two replicas that have learnt the same harvests, it ends in one reply, written twice
 /// (`twice`).
 pub fn scripts_are_runs()
     ensures runs { (base : List ℕ) (world : World) (commands : List Command) (text : List ℕ) (end : World) →
