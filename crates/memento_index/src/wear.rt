@@ -8,9 +8,10 @@ use memento_time::Memento;
 // How much of other lists' addresses a list may keep beside its own.
 //
 // Buffers are kept as long as one address in them, so a list may keep the bytes of those that began or ceased to be
-// shown since it was packed, and no others. It is packed anew once these are more than its own. That is looked at
-// whenever half as many bytes came as it had at the last look, and more than `FEW`. So it keeps at most four times as
-// many bytes as it has, and three times `FEW`, and the looks take time in what comes.
+// shown since it was packed. It is packed anew once these are more than its own. That is looked at whenever half as
+// many bytes came as it had at the last look, and more than `FEW`. So it keeps at most four times as many bytes as it
+// has, and three times `FEW`, and the looks take time in what comes. A list that was copied from an entry of several
+// revisions also keeps these revisions' buffers until it is packed.
 #[derive(Clone, Copy, Debug)]
 pub struct Wear {
     moved: usize,

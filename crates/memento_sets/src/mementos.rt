@@ -170,12 +170,13 @@ fn copy_missing(
     Ok(rest.build(alloc)?)
 }
 
-/// Copies whose addresses share one buffer that has nothing else: they are *packed*. `NoMemory` also where the addresses
-/// would have 4 GiB.
+/// Copies whose addresses share one buffer that has nothing else: they are *packed*. `NoMemory` also where the
+/// addresses would have 4 GiB.
 ///
 /// An address is a range of a buffer, and keeps all of it. So a list is packed where a part of it stays longer than the
 /// rest: a harvest's, and that of a revision that is read, since a page or a text has more than them; what one list has
-/// and another lacks (`Mementos::without`); and a list that has seen as many addresses come and go as it has.
+/// and another lacks (`Mementos::without`); what an entry of several revisions shows; and a list of an index in which
+/// more addresses began and ceased than it has.
 pub fn packed(alloc: Global, list: &[Memento]) -> Result<Vec<Memento>, NoMemory>
     ensures { IfOk result (λ copies. copies.items ≡ list.now) }
 {
