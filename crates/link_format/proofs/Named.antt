@@ -46,7 +46,8 @@ first_from : (name : List ℕ) (found : Option ParamSpan) (params : List Param)
 first_from name None params = refl
 first_from name (Some p) params = elim (cases_Bool (same_name p.name.now name)) [ inl is ↦ rw is refl | inr not ↦ rw not refl ]
 
--- what is held and the parameters that are left give the first value of a name, before a parameter is found and after it
+-- what is held and the parameters that are left give the first value of a name, before a parameter is found and after
+-- it
 pub first_stays : (name : List ℕ) (held kept found : Option ParamSpan) (rest after : List Param) (value : Option (List ℕ))
     → rest ≡ params_from found ++ after → value_from kept ≡ option_or (value_from held) (first_value name (params_from found))
     → option_or (value_from held) (first_value name rest) ≡ value → option_or (value_from kept) (first_value name after) ≡ value

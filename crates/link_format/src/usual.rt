@@ -1,5 +1,5 @@
-//! What nearly every link of a TimeMap says: the relation type `memento`, and a datetime (RFC 7089, section 5). Where its
-//! parameters begin with these two, they are read by their words.
+//! What nearly every link of a TimeMap says: the relation type `memento`, and a datetime (RFC 7089, section 5). Where
+//! its parameters begin with these two, they are read by their words.
 ghost use Rattle.std.specs.Prelude.{◌≡◌, ◌+◌, ◌≤◌, ◌++◌, length, codes, IfSome, Some};
 ghost use Rattle.link_format.specs.Scan.{behind_params, params_of};
 ghost use Rattle.link_format.specs.Spans.{value_from};
