@@ -32,7 +32,8 @@ either_way : (b : Bool) (v : Option ℕ) → v ≡ cond b v v
 either_way true v = refl
 either_way false v = refl
 
-pub restamped_push : (keys : List Key) (key : Key) (number : ℕ) (k : Key) (was : Option ℕ) → restamped (keys ++ key ∷ []) number k was ≡ cond (eq_by_cmp key_cmp k key) (Some number) (restamped keys number k was)
+pub restamped_push : (keys : List Key) (key : Key) (number : ℕ) (k : Key) (was : Option ℕ)
+    → restamped (keys ++ key ∷ []) number k was ≡ cond (eq_by_cmp key_cmp k key) (Some number) (restamped keys number k was)
 restamped_push [] key number k was =
     elim (eq_by_cmp key_cmp k key) as (λ b. cond (b || false) (Some number) was ≡ cond b (Some number) was) [ true ↦ refl | false ↦ refl ]
 restamped_push (q ∷ keys) key number k was =
@@ -69,10 +70,12 @@ module _ (x y news : Entries) (is : IsNews x y news) where
 among_rows : (rows : List Row) (k : Key) → is_among (map row_key rows) k ≡ is_some (fmap.find key_cmp k (map row_entry rows))
 among_rows [] k = refl
 among_rows (row ∷ rows) k =
-    elim (eq_by_cmp key_cmp k (row_key row)) as (λ b. (b || is_among (map row_key rows) k) ≡ is_some (cond b (Some (row_entry row).1) (fmap.find key_cmp k (map row_entry rows)))) [ true ↦ refl | false ↦ among_rows rows k ]
+    elim (eq_by_cmp key_cmp k (row_key row)) as (λ b. (b || is_among (map row_key rows) k) ≡ is_some (cond b (Some (row_entry row).1) (fmap.find key_cmp k (map row_entry rows))))
+    [ true ↦ refl | false ↦ among_rows rows k ]
 
 -- the stamps change just where the entries do
-pub absorbed : (s t : StampedState) (m : Merge) (news : Entries) (rows : List Row) (keys : List Key) → IsNews s.entries (lat (adds_of m)) news → map row_entry rows ≡ fmap.entries news → keys ≡ map row_key rows
+pub absorbed : (s t : StampedState) (m : Merge) (news : Entries) (rows : List Row) (keys : List Key) → IsNews s.entries (lat (adds_of m)) news
+    → map row_entry rows ≡ fmap.entries news → keys ≡ map row_key rows
     → t.entries ≡ join s.entries news → ((k : Key) → fmap.get t.stamps k ≡ restamped keys t.number k (fmap.get s.stamps k)) → t.number ≡ s.number + 1 → t.incarnation ≡ s.incarnation → IsAbsorbed s m t
 absorbed s t m news rows keys is listed of_rows entries stamps number incarnation = record {
   entries = joins;
@@ -98,7 +101,8 @@ absorbed s t m news rows keys is listed of_rows entries stamps number incarnatio
     at k (Some e) here = inr (λ same. changed s.entries (lat (adds_of m)) news is k e here (sym (now k) ∙ same), stamp k (Some e) here)
 
 -- the stamps in slots that were made and then filled for these rows
-pub get-restamped : (was : Stamps) (keys : List Key) (number : ℕ) (old made new : Shelves) → stamps_in old ≡ was → IsOrdered text_cmp old → IsOrdered text_cmp new → ((k : Key) → filled (slot made k) ≡ filled (slot old k))
+pub get-restamped : (was : Stamps) (keys : List Key) (number : ℕ) (old made new : Shelves) → stamps_in old ≡ was → IsOrdered text_cmp old → IsOrdered text_cmp new
+    → ((k : Key) → filled (slot made k) ≡ filled (slot old k))
     → ((k : Key) → filled (slot new k) ≡ restamped keys number k (filled (slot made k))) → (k : Key) → fmap.get (stamps_in new) k ≡ restamped keys number k (fmap.get was k)
 get-restamped was keys number old made new view h g same stamped k =
     get-stamps_in new g k ∙ (stamped k ∙ ap (restamped keys number k) (same k ∙ (sym (get-stamps_in old h k) ∙ ap (λ (s : Stamps). fmap.get s k) view)))

@@ -78,7 +78,9 @@ module _ (text left : List ℕ) (front : text ≡ codes "from " ++ left) where
             let all = seq_found (number 32) start_and_end left left_1 rest incarnation (start, end) first two in
             record {
               is = ((first.is, order), third.is);
-              whole = front ∙ (ap (λ (u : List ℕ). codes "from " ++ u) all.whole ∙ (sym (append_assoc (codes "from ") (numbers.spelled (incarnation, (start, end))) rest) ∙ ap (λ (u : List ℕ). u ++ rest) (sym (span_parts (incarnation, (start, end))))));
+              whole = front ∙ (ap (λ (u : List ℕ). codes "from " ++ u) all.whole
+                  ∙ (sym (append_assoc (codes "from ") (numbers.spelled (incarnation, (start, end))) rest)
+                  ∙ ap (λ (u : List ℕ). u ++ rest) (sym (span_parts (incarnation, (start, end))))));
             }
 
         -- a start after the end stands in no delta
@@ -93,7 +95,8 @@ pub span_once : Once span
 span_once text x y r u bx by =
     let left : List ℕ = numbers.spelled y ++ u in
     let front = span_whole text u y by in
-    let same = seq_once (number 32) start_and_end (number_once 32 (omega arith)) (seq_once (number 32) (number 10) (number_once 32 (omega arith)) (number_once 10 (omega arith))) left x y r u (span_numbers text left front x r bx) (span_numbers text left front y u by) in
+    let same = seq_once (number 32) start_and_end (number_once 32 (omega arith)) (seq_once (number 32) (number 10) (number_once 32 (omega arith)) (number_once 10 (omega arith)))
+    left x y r u (span_numbers text left front x r bx) (span_numbers text left front y u by) in
     (same.0, same.1)
 
 -- ---- a delta

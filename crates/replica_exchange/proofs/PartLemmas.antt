@@ -24,7 +24,7 @@ use Rattle.harvest_lattice.proofs.Made.{kept_of_its_own}
 use Rattle.replica_exchange.specs.declared.format.Format.{Format}
 use Rattle.replica_exchange.specs.declared.format.Format.TheVariants.{One, Two}
 use Rattle.replica_exchange.specs.StateText.{memento_lines, line_of_entry, whole_field, entry_line, part_line, part_text, old_entry_line, old_part_text}
-use Rattle.replica_exchange.specs.StateText.{IsPart, IsEntry, IsWholeAlone}
+use Rattle.replica_exchange.specs.StateText.{IsPart, IsEntry}
 use Rattle.replica_exchange.specs.Spelling.{Spelling, Begins, ended, field, number}
 use Rattle.replica_exchange.specs.Parts.{memento, IsWholeField, line_with, head, old_head, set_of, part_head, part, new_entry, old_entry, entry, many}
 use Rattle.replica_exchange.proofs.SpellingLemmas.{Once, number_once, whole_once, archive_once, original_once, uri_once}
@@ -61,7 +61,8 @@ memento_leaves_uri text mid second first m rest begins = (m.uri, rest, (second_i
 pub memento_too_late : (text mid : List ℕ) (second : ℕ) → Begins (number 32) text second mid → ¬ IsSecond second → (m : Memento) (rest : List ℕ) → ¬ Begins memento text m rest
 memento_too_late text mid second first late m rest begins = late (subst IsSecond (second_is text mid rest second m first begins).0 begins.is.at)
 
-pub memento_found : (text mid rest uri : List ℕ) (at : ℕ) → IsSecond at → Begins (number 32) text at mid → Begins (field IsClean 10) mid uri rest → Begins memento text (record { at = at; uri = uri }) rest
+pub memento_found : (text mid rest uri : List ℕ) (at : ℕ) → IsSecond at → Begins (number 32) text at mid → Begins (field IsClean 10) mid uri rest
+    → Begins memento text (record { at = at; uri = uri }) rest
 memento_found text mid rest uri at second first then =
     let both = seq_found (number 32) (field IsClean 10) text mid rest at uri first then in
     record {

@@ -41,7 +41,8 @@ find_shelf a o (e ∷ es) h =
         | false ↦ λ _. refl
       ] refl
       | Some v ↦ ap (λ b. cond b (Some v) (fmap.find key_cmp (a, o) (shelf_rows a es))) (tie a o e.0)
-          ∙ elim (eq_by_cmp text_cmp o e.0) as (λ b. cond b (Some v) (fmap.find key_cmp (a, o) (shelf_rows a es)) ≡ filled (cond b (Some (Some v)) (fmap.find text_cmp o es))) [ true ↦ refl | false ↦ rest ]
+          ∙ elim (eq_by_cmp text_cmp o e.0) as (λ b. cond b (Some v) (fmap.find key_cmp (a, o) (shelf_rows a es)) ≡ filled (cond b (Some (Some v)) (fmap.find text_cmp o es)))
+          [ true ↦ refl | false ↦ rest ]
     ]
 
 -- another archive's rows don't
@@ -60,10 +61,12 @@ find_all k [] h = refl
 find_all k (s ∷ ss) h =
     let rest = find_all k ss h.1 in
     find_both k (shelf_rows s.0 (fmap.entries s.1)) (all_rows ss)
-    ∙ elim (eq_by_cmp text_cmp k.0 s.0) as (λ b. eq_by_cmp text_cmp k.0 s.0 ≡ b → option_or (fmap.find key_cmp k (shelf_rows s.0 (fmap.entries s.1))) (fmap.find key_cmp k (all_rows ss)) ≡ filled (slot_of (cond b (Some s.1) (lookup (is_at (text_cmp k.0)) ss)) k.1)) [
+    ∙ elim (eq_by_cmp text_cmp k.0 s.0) as (λ b. eq_by_cmp text_cmp k.0 s.0 ≡ b → option_or (fmap.find key_cmp k (shelf_rows s.0 (fmap.entries s.1)))
+    (fmap.find key_cmp k (all_rows ss)) ≡ filled (slot_of (cond b (Some s.1) (lookup (is_at (text_cmp k.0)) ss)) k.1)) [
       | true ↦ λ t.
           let here : k.0 ≡ s.0 = same_text k.0 s.0 t in
-          let none : fmap.find key_cmp k (all_rows ss) ≡ None = rest ∙ ap (λ o. filled (slot_of o k.1)) (none_after k.0 ss (subst (λ a. AllByRecursion (λ b. text_cmp a b ≡ Less) (keys_of ss)) (sym here) h.0)) in
+          let none : fmap.find key_cmp k (all_rows ss) ≡ None = rest
+          ∙ ap (λ o. filled (slot_of o k.1)) (none_after k.0 ss (subst (λ a. AllByRecursion (λ b. text_cmp a b ≡ Less) (keys_of ss)) (sym here) h.0)) in
           ap (option_or (fmap.find key_cmp k (shelf_rows s.0 (fmap.entries s.1)))) none
           ∙ (or_none (fmap.find key_cmp k (shelf_rows s.0 (fmap.entries s.1)))
           ∙ (ap (λ a. fmap.find key_cmp (a, k.1) (shelf_rows s.0 (fmap.entries s.1))) here
@@ -81,7 +84,8 @@ same_stamps m n h g same = fmap.same_map key_cmp_total key_cmp_exact _ _ (λ k. 
 -- ---- slots made and filled
 
 -- an archive's slots in its place, which hold the same
-pub same_shelf : (m n : Shelves) (a : List ℕ) (w : Slots) → ((q : List ℕ) → tree.get text_cmp n q ≡ cond (eq_by_cmp text_cmp a q) (Some w) (tree.get text_cmp m q)) → ((o : List ℕ) → filled (fmap.get w o) ≡ filled (slot_of (tree.get text_cmp m a) o)) → (k : Key) → filled (slot n k) ≡ filled (slot m k)
+pub same_shelf : (m n : Shelves) (a : List ℕ) (w : Slots) → ((q : List ℕ) → tree.get text_cmp n q ≡ cond (eq_by_cmp text_cmp a q) (Some w) (tree.get text_cmp m q))
+    → ((o : List ℕ) → filled (fmap.get w o) ≡ filled (slot_of (tree.get text_cmp m a) o)) → (k : Key) → filled (slot n k) ≡ filled (slot m k)
 same_shelf m n a w put same k =
     ap (λ s. filled (slot_of s k.1)) (put k.0)
     ∙ elim (eq_by_cmp text_cmp a k.0) as (λ b. eq_by_cmp text_cmp a k.0 ≡ b → filled (slot_of (cond b (Some w) (tree.get text_cmp m k.0)) k.1) ≡ filled (slot m k)) [
@@ -90,7 +94,8 @@ same_shelf m n a w put same k =
     ] refl
 
 -- an archive's slots in its place, where those that were there stay
-pub slots_stay : (m n : Shelves) (a : List ℕ) (w : Slots) → ((q : List ℕ) → tree.get text_cmp n q ≡ cond (eq_by_cmp text_cmp a q) (Some w) (tree.get text_cmp m q)) → ((o : List ℕ) → IsSome (slot_of (tree.get text_cmp m a) o) → IsSome (fmap.get w o)) → (k : Key) → IsSome (slot m k) → IsSome (slot n k)
+pub slots_stay : (m n : Shelves) (a : List ℕ) (w : Slots) → ((q : List ℕ) → tree.get text_cmp n q ≡ cond (eq_by_cmp text_cmp a q) (Some w) (tree.get text_cmp m q))
+    → ((o : List ℕ) → IsSome (slot_of (tree.get text_cmp m a) o) → IsSome (fmap.get w o)) → (k : Key) → IsSome (slot m k) → IsSome (slot n k)
 slots_stay m n a w put stay k had =
     subst (λ s. IsSome (slot_of s k.1)) (sym (put k.0))
     (elim (eq_by_cmp text_cmp a k.0) as (λ b. eq_by_cmp text_cmp a k.0 ≡ b → IsSome (slot_of (cond b (Some w) (tree.get text_cmp m k.0)) k.1)) [
@@ -99,10 +104,13 @@ slots_stay m n a w put stay k had =
     ] refl)
 
 -- an archive's slots in its place with one more filled
-pub one_filled : (m n : Shelves) (a o : List ℕ) (s : Slots) (v : ℕ) → ((q : List ℕ) → tree.get text_cmp n q ≡ cond (eq_by_cmp text_cmp a q) (Some (fmap.insert s o (Some v))) (tree.get text_cmp m q)) → tree.get text_cmp m a ≡ Some s → (k : Key) → slot n k ≡ cond (eq_by_cmp key_cmp k (a, o)) (Some (Some v)) (slot m k)
+pub one_filled : (m n : Shelves) (a o : List ℕ) (s : Slots) (v : ℕ)
+    → ((q : List ℕ) → tree.get text_cmp n q ≡ cond (eq_by_cmp text_cmp a q) (Some (fmap.insert s o (Some v))) (tree.get text_cmp m q)) → tree.get text_cmp m a ≡ Some s → (k : Key)
+    → slot n k ≡ cond (eq_by_cmp key_cmp k (a, o)) (Some (Some v)) (slot m k)
 one_filled m n a o s v put was k =
     ap (λ t. slot_of t k.1) (put k.0)
-    ∙ elim (eq_by_cmp text_cmp a k.0) as (λ b. eq_by_cmp text_cmp a k.0 ≡ b → slot_of (cond b (Some (fmap.insert s o (Some v))) (tree.get text_cmp m k.0)) k.1 ≡ cond (eq_by_cmp key_cmp k (a, o)) (Some (Some v)) (slot m k)) [
+    ∙ elim (eq_by_cmp text_cmp a k.0) as (λ b. eq_by_cmp text_cmp a k.0 ≡ b → slot_of (cond b (Some (fmap.insert s o (Some v))) (tree.get text_cmp m k.0)) k.1 ≡ cond
+    (eq_by_cmp key_cmp k (a, o)) (Some (Some v)) (slot m k)) [
       | true ↦ λ t.
           let here : a ≡ k.0 = same_text a k.0 t in
           fmap.get-insert nat_list_cmp_total s o (Some v) k.1
@@ -117,10 +125,12 @@ pub get-slots : (es : List (List ℕ × Option ℕ)) (o : List ℕ) → fmap.get
 get-slots es o = fmap.get-from_entries nat_list_cmp_total es o ∙ sym (lookup-find text_cmp o es)
 
 -- a slot with another value
-pub slot_put : (es fs : List (List ℕ × Option ℕ)) (o : List ℕ) (w : Option ℕ) (now : Slots) → fmap.from_entries es ≡ now → ((q : List ℕ) → lookup (is_at (text_cmp q)) fs ≡ cond (is_at (text_cmp o) q) (Some w) (lookup (is_at (text_cmp q)) es)) → fmap.from_entries fs ≡ fmap.insert now o w
+pub slot_put : (es fs : List (List ℕ × Option ℕ)) (o : List ℕ) (w : Option ℕ) (now : Slots) → fmap.from_entries es ≡ now
+    → ((q : List ℕ) → lookup (is_at (text_cmp q)) fs ≡ cond (is_at (text_cmp o) q) (Some w) (lookup (is_at (text_cmp q)) es)) → fmap.from_entries fs ≡ fmap.insert now o w
 slot_put es fs o w now view put =
     fmap.same_map nat_list_cmp_total text_exact (fmap.from_entries fs) (fmap.insert (fmap.from_entries es) o w) (λ q.
-    get-slots fs q ∙ (put q ∙ ((λ i. cond ((eq_by_cmp_equiv nat_list_cmp_total).symm o q i) (Some w) (sym (get-slots es q) i)) ∙ sym (fmap.get-insert nat_list_cmp_total (fmap.from_entries es) o w q))))
+    get-slots fs q ∙ (put q ∙ ((λ i. cond ((eq_by_cmp_equiv nat_list_cmp_total).symm o q i) (Some w) (sym (get-slots es q) i))
+    ∙ sym (fmap.get-insert nat_list_cmp_total (fmap.from_entries es) o w q))))
     ∙ ap (λ (s : Slots). fmap.insert s o w) view
 
 pub not_some : {A : Type 0} (o : Option A) → o ≡ None → IsSome o → ⊥
@@ -150,7 +160,8 @@ slot_made x a v =
 
 -- ---- a shelf made
 
-pub new_shelf_same : (m n : Shelves) (a : List ℕ) (w : Slots) → w ≡ fmap.empty → is_some (tree.get text_cmp m a) ≡ false → ((q : List ℕ) → tree.get text_cmp n q ≡ cond (eq_by_cmp text_cmp a q) (Some w) (tree.get text_cmp m q)) → (k : Key) → filled (slot n k) ≡ filled (slot m k)
+pub new_shelf_same : (m n : Shelves) (a : List ℕ) (w : Slots) → w ≡ fmap.empty → is_some (tree.get text_cmp m a) ≡ false
+    → ((q : List ℕ) → tree.get text_cmp n q ≡ cond (eq_by_cmp text_cmp a q) (Some w) (tree.get text_cmp m q)) → (k : Key) → filled (slot n k) ≡ filled (slot m k)
 new_shelf_same m n a w is none put =
     same_shelf m n a w put (λ o. ap filled (ap (λ (s : Slots). fmap.get s o) is ∙ fmap.get-empty text_cmp o) ∙ sym (ap (λ s. filled (slot_of s o)) (no_shelf (tree.get text_cmp m a) none)))
   where
@@ -158,7 +169,8 @@ new_shelf_same m n a w is none put =
     no_shelf None h = refl
     no_shelf (Some s) h = absurd (true≢false h)
 
-pub new_shelf_stay : (m n : Shelves) (a : List ℕ) (w : Slots) → is_some (tree.get text_cmp m a) ≡ false → ((q : List ℕ) → tree.get text_cmp n q ≡ cond (eq_by_cmp text_cmp a q) (Some w) (tree.get text_cmp m q)) → (k : Key) → IsSome (slot m k) → IsSome (slot n k)
+pub new_shelf_stay : (m n : Shelves) (a : List ℕ) (w : Slots) → is_some (tree.get text_cmp m a) ≡ false
+    → ((q : List ℕ) → tree.get text_cmp n q ≡ cond (eq_by_cmp text_cmp a q) (Some w) (tree.get text_cmp m q)) → (k : Key) → IsSome (slot m k) → IsSome (slot n k)
 new_shelf_stay m n a w none put = slots_stay m n a w put (λ o had. absurd (no_slot (tree.get text_cmp m a) none o had))
   where
     no_slot : (s : Option Slots) → is_some s ≡ false → (o : List ℕ) → IsSome (slot_of s o) → ⊥
@@ -171,7 +183,9 @@ slot_stays_filled m n q v after k had = subst IsSome (sym (after k)) (elim (eq_b
 -- ---- a slot that is taken out
 
 -- the slots where one was taken out
-pub slot_removed : (es fs : List (List ℕ × Option ℕ)) (o : List ℕ) (now : Slots) → fmap.from_entries es ≡ now → ((q : List ℕ) → lookup (is_at (text_cmp q)) fs ≡ cond (is_at (text_cmp o) q) None (lookup (is_at (text_cmp q)) es)) → (q : List ℕ) → fmap.get (fmap.from_entries {R = text_cmp} fs) q ≡ cond (eq_by_cmp text_cmp o q) None (fmap.get now q)
+pub slot_removed : (es fs : List (List ℕ × Option ℕ)) (o : List ℕ) (now : Slots) → fmap.from_entries es ≡ now
+    → ((q : List ℕ) → lookup (is_at (text_cmp q)) fs ≡ cond (is_at (text_cmp o) q) None (lookup (is_at (text_cmp q)) es)) → (q : List ℕ)
+    → fmap.get (fmap.from_entries {R = text_cmp} fs) q ≡ cond (eq_by_cmp text_cmp o q) None (fmap.get now q)
 slot_removed es fs o now view put q = get-slots fs q ∙ (put q ∙ ap (λ (v : Option (Option ℕ)). cond (eq_by_cmp text_cmp o q) None v) (sym (get-slots es q) ∙ ap (λ (s : Slots). fmap.get s q) view))
 
 module _ (x y : Slots) (a : List ℕ) (put : (q : List ℕ) → fmap.get y q ≡ cond (eq_by_cmp text_cmp a q) None (fmap.get x q)) where
@@ -195,7 +209,8 @@ module _ (x y : Slots) (a : List ℕ) (put : (q : List ℕ) → fmap.get y q ≡
       none-some None (sym (put a ∙ ap (λ r. cond (is_eq r) None (fmap.get x a)) (tied_itself nat_list_cmp_total a)) ∙ is)
 
 -- an archive's slots in its place, of which no more are empty
-pub no_more_empty : (m n : Shelves) (a : List ℕ) (w : Slots) → ((q : List ℕ) → tree.get text_cmp n q ≡ cond (eq_by_cmp text_cmp a q) (Some w) (tree.get text_cmp m q)) → ((o : List ℕ) → ¬ (slot_of (tree.get text_cmp m a) o ≡ Some None) → ¬ (fmap.get w o ≡ Some None)) → (k : Key) → ¬ (slot m k ≡ Some None) → ¬ (slot n k ≡ Some None)
+pub no_more_empty : (m n : Shelves) (a : List ℕ) (w : Slots) → ((q : List ℕ) → tree.get text_cmp n q ≡ cond (eq_by_cmp text_cmp a q) (Some w) (tree.get text_cmp m q))
+    → ((o : List ℕ) → ¬ (slot_of (tree.get text_cmp m a) o ≡ Some None) → ¬ (fmap.get w o ≡ Some None)) → (k : Key) → ¬ (slot m k ≡ Some None) → ¬ (slot n k ≡ Some None)
 no_more_empty m n a w put others k was =
     subst (λ s. ¬ (slot_of s k.1 ≡ Some None)) (sym (put k.0))
     (elim (eq_by_cmp text_cmp a k.0) as (λ b. eq_by_cmp text_cmp a k.0 ≡ b → ¬ (slot_of (cond b (Some w) (tree.get text_cmp m k.0)) k.1 ≡ Some None)) [

@@ -55,7 +55,8 @@ module _ {A : Type 0} (Is : A → Type 0) (written : A → List ℕ) (byte : ℕ
 
   module _ (lack : (v : A) → Is v → Lacks byte (written v)) where
     -- a field that is no written value is refused
-    pub ended_refused : (text front rest : List ℕ) → text ≡ front ++ byte ∷ rest → Lacks byte front → ((v : A) → Is v → ¬ (front ≡ written v)) → (v : A) (r : List ℕ) → ¬ Begins (ended Is written byte) text v r
+    pub ended_refused : (text front rest : List ℕ) → text ≡ front ++ byte ∷ rest → Lacks byte front → ((v : A) → Is v → ¬ (front ≡ written v)) → (v : A) (r : List ℕ)
+        → ¬ Begins (ended Is written byte) text v r
     ended_refused text front rest whole lacks other v r begins =
         let once = one_split byte front (written v) rest r lacks (lack v begins.is) (sym whole ∙ regrouped text v r begins) in
         other v begins.is once.0

@@ -1,5 +1,6 @@
 -- The one stamp of a key, what another merge does to it, and the entries above a number.
-use Rattle.std.proofs.Common.{◌≡◌, ℕ, zero, suc, ◌+◌, ◌<◌, ◌≤◌, Bool, true, false, cond, List, [], ◌∷◌, ◌++◌, length, take, drop, take_all, Option, Some, None, refl, sym, ap, subst, ◌∙◌, append-nil, inl, inr, ◌⊎◌, arith}
+use Rattle.std.proofs.Common.{◌≡◌, ℕ, zero, suc, ◌+◌, ◌<◌, ◌≤◌, Bool, true, false, cond, List, [], ◌∷◌, ◌++◌, length, take, drop, take_all, Option, Some, None, refl, sym, ap}
+use Rattle.std.proofs.Common.{subst, ◌∙◌, append-nil, inl, inr, ◌⊎◌, arith}
 use Rattle.std.specs.Prelude.{IsSome, nat_lt}
 use Rattle.std.specs.List.{flat_map, filter}
 use Rattle.std.specs.FinMap.Entries.{same_entries, where_key, is_sorted-where_key, find-where_key}
@@ -116,7 +117,8 @@ module _ (ms : List Merge) (m : Merge) (k : Key) where
       shortest : (other : ℕ) → IsSettled (ms ++ m ∷ []) other k → (length ms < other) ⊎ (other ≤ length ms) → length ms + 1 ≤ other
       shortest other so (inl over) = omega (arith, over)
       shortest other so (inr within) =
-          absurd (changed (sym (ap (λ (l : List Merge). map.get (state_after l) k) (sym (take-append-le (length ms) ms (m ∷ []) (omega arith) ∙ take_all (length ms) ms (omega arith))) ∙ so (length ms) within)))
+          absurd (changed (sym (ap (λ (l : List Merge). map.get (state_after l) k)
+          (sym (take-append-le (length ms) ms (m ∷ []) (omega arith) ∙ take_all (length ms) ms (omega arith))) ∙ so (length ms) within)))
 
 -- what absorbs one merge more is what one more made
 pub absorbed_is_stamped : (ms : List Merge) (m : Merge) (s t : StampedState) → IsStamped ms s → IsAbsorbed s m t → IsStamped (ms ++ m ∷ []) t
@@ -142,7 +144,8 @@ absorbed_is_stamped ms m s t is a = record {
     -- what is kept at a key is never lost
     kept : (k : Key) → ¬ (map.get t.entries k ≡ map.get s.entries k) → IsSome (map.get t.entries k)
     kept k changed =
-        some (map.get s.entries k) (map.get t.entries k) (subst (λ (e : Entries). join_values join_kept (map.get s.entries k) (map.get e k) ≡ map.get e k) (sym a.entries) (at_key s.entries (join s.entries (lat (adds_of m))) k (at_most_left s.entries (lat (adds_of m))))) changed
+        some (map.get s.entries k) (map.get t.entries k) (subst (λ (e : Entries). join_values join_kept (map.get s.entries k) (map.get e k) ≡ map.get e k) (sym a.entries)
+        (at_key s.entries (join s.entries (lat (adds_of m))) k (at_most_left s.entries (lat (adds_of m))))) changed
       where
         some : (was now : Option Kept) → join_values join_kept was now ≡ now → ¬ (now ≡ was) → IsSome now
         some None None grows other = absurd (other refl)

@@ -12,13 +12,17 @@ returns-in_err-row-clause-refused c =
     let text = c.args.text.now in
     let so_far = map row_entry c.loop.rows.items in
     passed_on (many c.args.count (entry c.args.format)) text c.from_residual.result c.in_err-row.field-0.0 c.from_residual.ensures.1
-    (refused_with (entry c.args.format) (many c.args.count (entry c.args.format)) text c.loop.rest.now (many_leaves (entry c.args.format) (entry_once c.args.format) c.args.count c.loop.counter text c.loop.rest.now so_far c.loop-test.true c.loop.invariant.lines) c.in_err-row.field-0.0 c.in_err-row.ensures.refused)
+    (refused_with (entry c.args.format) (many c.args.count (entry c.args.format)) text c.loop.rest.now
+    (many_leaves (entry c.args.format) (entry_once c.args.format) c.args.count c.loop.counter text c.loop.rest.now so_far c.loop-test.true c.loop.invariant.lines)
+    c.in_err-row.field-0.0 c.in_err-row.ensures.refused)
 
 pub loop-preserved : goal.loop-preserved
 loop-preserved c =
     let row = c.in_ok-row.row in
-    let pushed : map row_entry c.push.new.self.items ≡ map row_entry c.loop.rows.items ++ row_entry row ∷ [] = ap (map row_entry) c.in_ok-push.ensures.items ∙ map_push row_entry c.loop.rows.items row in
+    let pushed : map row_entry c.push.new.self.items ≡ map row_entry c.loop.rows.items ++ row_entry row ∷ [] = ap (map row_entry) c.in_ok-push.ensures.items
+    ∙ map_push row_entry c.loop.rows.items row in
     record {
-      lines = rw pushed (many_more (entry c.args.format) c.loop.counter c.args.text.now c.loop.rest.now _ (map row_entry c.loop.rows.items) (row_entry row) c.loop.invariant.lines c.in_ok-row.ensures.found);
+      lines = rw pushed (many_more (entry c.args.format) c.loop.counter c.args.text.now c.loop.rest.now _ (map row_entry c.loop.rows.items) (row_entry row) c.loop.invariant.lines
+          c.in_ok-row.ensures.found);
       end = end_after (entry c.args.format) _ _ _ _ c.loop.invariant.end c.in_ok-row.ensures.found;
     }

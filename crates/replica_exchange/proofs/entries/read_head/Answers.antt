@@ -19,35 +19,45 @@ returns-in_err-name-clause-refused c =
     let text = c.args.text.now in
     let cut = c.in_err-name.ensures.refused in
     passed_on head text c.from_residual-in_err-name.result c.in_err-name.field-0.0 c.from_residual-in_err-name.ensures.1
-    (malformed head text c.in_err-name.field-0.0 cut.0 (line_without_archive IsWholeField whole_field text c.in_ok-rest.rest.now c.in_ok-rest.ensures.found (ended_none IsArchiveName (λ text. text) 32 c.in_ok-rest.rest.now cut.1)))
+    (malformed head text c.in_err-name.field-0.0 cut.0 (line_without_archive IsWholeField whole_field text c.in_ok-rest.rest.now c.in_ok-rest.ensures.found
+    (ended_none IsArchiveName (λ text. text) 32 c.in_ok-rest.rest.now cut.1)))
 
 pub returns-in_default-clause-refused : goal.returns-in_default-clause-refused
 returns-in_default-clause-refused c =
     let name = c.in_ok-name.ensures in
-    line_without_archive IsWholeField whole_field c.args.text.now c.in_ok-rest.rest.now c.in_ok-rest.ensures.found (field_refused IsArchiveName 32 name_lacks _ _ _ name.found name.first (λ is. c.in_default.ensures is))
+    line_without_archive IsWholeField whole_field c.args.text.now c.in_ok-rest.rest.now c.in_ok-rest.ensures.found
+    (field_refused IsArchiveName 32 name_lacks _ _ _ name.found name.first (λ is. c.in_default.ensures is))
 
 pub returns-in_err-whole-clause-refused : goal.returns-in_err-whole-clause-refused
 returns-in_err-whole-clause-refused c =
     let text = c.args.text.now in
-    let archive = ended_found IsArchiveName (λ text. text) 32 c.in_ok-rest.rest.now c.in_ok-name.name.now c.in_ok-name.rest.now c.in-Some.archive c.in_ok-name.ensures.found (sym c.in-Some.ensures.1) (subst IsArchiveName (sym c.in-Some.ensures.1) c.in-Some.ensures.0) in
+    let archive = ended_found IsArchiveName (λ text. text) 32 c.in_ok-rest.rest.now c.in_ok-name.name.now c.in_ok-name.rest.now c.in-Some.archive c.in_ok-name.ensures.found
+    (sym c.in-Some.ensures.1) (subst IsArchiveName (sym c.in-Some.ensures.1) c.in-Some.ensures.0) in
     passed_on head text c.from_residual-in_err-whole.result c.in_err-whole.field-0.0 c.from_residual-in_err-whole.ensures.1
-    (refused_with (ended IsWholeField whole_field 32) head text _ (line_leaves_field IsWholeField whole_field text _ c.in_ok-rest.ensures.found _ _ archive) c.in_err-whole.field-0.0 c.in_err-whole.ensures.refused)
+    (refused_with (ended IsWholeField whole_field 32) head text _ (line_leaves_field IsWholeField whole_field text _ c.in_ok-rest.ensures.found _ _ archive)
+    c.in_err-whole.field-0.0 c.in_err-whole.ensures.refused)
 
 pub returns-in_err-revisions-clause-refused : goal.returns-in_err-revisions-clause-refused
 returns-in_err-revisions-clause-refused c =
     let text = c.args.text.now in
-    let archive = ended_found IsArchiveName (λ text. text) 32 c.in_ok-rest.rest.now c.in_ok-name.name.now c.in_ok-name.rest.now c.in-Some.archive c.in_ok-name.ensures.found (sym c.in-Some.ensures.1) (subst IsArchiveName (sym c.in-Some.ensures.1) c.in-Some.ensures.0) in
+    let archive = ended_found IsArchiveName (λ text. text) 32 c.in_ok-rest.rest.now c.in_ok-name.name.now c.in_ok-name.rest.now c.in-Some.archive c.in_ok-name.ensures.found
+    (sym c.in-Some.ensures.1) (subst IsArchiveName (sym c.in-Some.ensures.1) c.in-Some.ensures.0) in
     passed_on head text c.from_residual-in_err-revisions.result c.in_err-revisions.field-0.0 c.from_residual-in_err-revisions.ensures.1
-    (refused_with (number 32) head text _ (line_leaves_number IsWholeField whole_field text _ c.in_ok-rest.ensures.found _ _ archive whole_once _ _ c.in_ok-whole.ensures.found) c.in_err-revisions.field-0.0 c.in_err-revisions.ensures.refused)
+    (refused_with (number 32) head text _ (line_leaves_number IsWholeField whole_field text _ c.in_ok-rest.ensures.found _ _ archive whole_once _ _ c.in_ok-whole.ensures.found)
+    c.in_err-revisions.field-0.0 c.in_err-revisions.ensures.refused)
 
 pub returns-in_err-original-clause-refused : goal.returns-in_err-original-clause-refused
 returns-in_err-original-clause-refused c =
     let text = c.args.text.now in
-    let archive = ended_found IsArchiveName (λ text. text) 32 c.in_ok-rest.rest.now c.in_ok-name.name.now c.in_ok-name.rest.now c.in-Some.archive c.in_ok-name.ensures.found (sym c.in-Some.ensures.1) (subst IsArchiveName (sym c.in-Some.ensures.1) c.in-Some.ensures.0) in
+    let archive = ended_found IsArchiveName (λ text. text) 32 c.in_ok-rest.rest.now c.in_ok-name.name.now c.in_ok-name.rest.now c.in-Some.archive c.in_ok-name.ensures.found
+    (sym c.in-Some.ensures.1) (subst IsArchiveName (sym c.in-Some.ensures.1) c.in-Some.ensures.0) in
     passed_on head text c.from_residual-in_err-original.result c.in_err-original.field-0.0 c.from_residual-in_err-original.ensures.1
-    (refused_with (field IsOriginal 10) head text _ (line_leaves_original IsWholeField whole_field text _ c.in_ok-rest.ensures.found _ _ archive whole_once _ _ c.in_ok-whole.ensures.found _ _ c.in_ok-revisions.ensures.found) c.in_err-original.field-0.0 c.in_err-original.ensures.refused)
+    (refused_with (field IsOriginal 10) head text _ (line_leaves_original IsWholeField whole_field text _ c.in_ok-rest.ensures.found _ _ archive whole_once _ _
+    c.in_ok-whole.ensures.found _ _ c.in_ok-revisions.ensures.found) c.in_err-original.field-0.0 c.in_err-original.ensures.refused)
 
 pub returns-clause-found : goal.returns-clause-found
 returns-clause-found c =
-    let archive = ended_found IsArchiveName (λ text. text) 32 c.in_ok-rest.rest.now c.in_ok-name.name.now c.in_ok-name.rest.now c.in-Some.archive c.in_ok-name.ensures.found (sym c.in-Some.ensures.1) (subst IsArchiveName (sym c.in-Some.ensures.1) c.in-Some.ensures.0) in
-    line_found IsWholeField whole_field c.args.text.now _ c.in_ok-rest.ensures.found _ _ archive whole_once _ _ c.in_ok-whole.ensures.found _ _ c.in_ok-revisions.ensures.found _ _ c.in_ok-original.ensures.found
+    let archive = ended_found IsArchiveName (λ text. text) 32 c.in_ok-rest.rest.now c.in_ok-name.name.now c.in_ok-name.rest.now c.in-Some.archive c.in_ok-name.ensures.found
+    (sym c.in-Some.ensures.1) (subst IsArchiveName (sym c.in-Some.ensures.1) c.in-Some.ensures.0) in
+    line_found IsWholeField whole_field c.args.text.now _ c.in_ok-rest.ensures.found _ _ archive whole_once _ _ c.in_ok-whole.ensures.found _ _ c.in_ok-revisions.ensures.found _ _
+    c.in_ok-original.ensures.found

@@ -8,7 +8,9 @@ pub returns-in_err-memento-clause-refused : goal.returns-in_err-memento-clause-r
 returns-in_err-memento-clause-refused c =
     let text = c.args.text.now in
     passed_on (many c.args.count memento) text c.from_residual.result c.in_err-memento.field-0.0 c.from_residual.ensures.1
-    (refused_with memento (many c.args.count memento) text c.loop.rest.now (many_leaves memento memento_once c.args.count c.loop.counter text c.loop.rest.now c.loop.mementos.items c.loop-test.true c.loop.invariant.lines) c.in_err-memento.field-0.0 c.in_err-memento.ensures.refused)
+    (refused_with memento (many c.args.count memento) text c.loop.rest.now
+    (many_leaves memento memento_once c.args.count c.loop.counter text c.loop.rest.now c.loop.mementos.items c.loop-test.true c.loop.invariant.lines) c.in_err-memento.field-0.0
+    c.in_err-memento.ensures.refused)
 
 pub loop-preserved : goal.loop-preserved
 loop-preserved c = record {

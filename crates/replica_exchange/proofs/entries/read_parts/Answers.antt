@@ -8,7 +8,9 @@ pub returns-in_err-part-clause-refused : goal.returns-in_err-part-clause-refused
 returns-in_err-part-clause-refused c =
     let text = c.args.text.now in
     passed_on (many c.args.count part) text c.from_residual.result c.in_err-part.field-0.0 c.from_residual.ensures.1
-    (refused_with part (many c.args.count part) text c.loop.rest.now (many_leaves part part_once c.args.count c.loop.counter text c.loop.rest.now c.loop.parts.items c.loop-test.true c.loop.invariant.lines) c.in_err-part.field-0.0 c.in_err-part.ensures.refused)
+    (refused_with part (many c.args.count part) text c.loop.rest.now
+    (many_leaves part part_once c.args.count c.loop.counter text c.loop.rest.now c.loop.parts.items c.loop-test.true c.loop.invariant.lines) c.in_err-part.field-0.0
+    c.in_err-part.ensures.refused)
 
 pub loop-preserved : goal.loop-preserved
 loop-preserved c = record {

@@ -10,13 +10,17 @@ pub overflow_sub-read : goal.overflow_sub-read
 overflow_sub-read c = rw (c.as_slice.ensures.value, c.deref.ensures) (text_within _ _ c.requires.end)
 
 pub overflow_cast-start : goal.overflow_cast-start
-overflow_cast-start c = rw (c.as_slice.ensures.value, c.deref.ensures) (omega (arith, (line_fits (arc_value c.args.buffer.now).items c.args.text.now c.args.line.now c.requires.line.0 c.requires.end c.requires.line.1).0))
+overflow_cast-start c = rw (c.as_slice.ensures.value, c.deref.ensures)
+    (omega (arith, (line_fits (arc_value c.args.buffer.now).items c.args.text.now c.args.line.now c.requires.line.0 c.requires.end c.requires.line.1).0))
 
 pub overflow_cast-len : goal.overflow_cast-len
 overflow_cast-len c = omega (arith, (line_fits (arc_value c.args.buffer.now).items c.args.text.now c.args.line.now c.requires.line.0 c.requires.end c.requires.line.1).1)
 
 pub part-requires : goal.part-requires
-part-requires c = record { within = rw (c.as_slice.ensures.value, c.deref.ensures) (line_within (arc_value c.args.buffer.now).items c.args.text.now c.args.line.now c.requires.line.0 c.requires.end c.requires.line.1) }
+part-requires c = record {
+  within = rw (c.as_slice.ensures.value, c.deref.ensures)
+      (line_within (arc_value c.args.buffer.now).items c.args.text.now c.args.line.now c.requires.line.0 c.requires.end c.requires.line.1);
+}
 
 pub returns-clause-ok : goal.returns-clause-ok
 returns-clause-ok c =

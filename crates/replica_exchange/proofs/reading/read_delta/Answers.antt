@@ -23,14 +23,17 @@ pub returns-in_err-state-clause-cause : goal.returns-in_err-state-clause-cause
 returns-in_err-state-clause-cause c =
     let text = c.args.text.now in
     delta_cause_passed text c.from_residual-in_err-state.result c.in_err-state.field-0.0 c.from_residual-in_err-state.ensures.1
-    (delta_refused c.in_ok-format.format text c.in_ok-format.line.now c.in_ok-format.ensures.found _ c.in_ok-span.entries.now c.in_ok-span.ensures.found c.if-text-gt-MAX_LEN.false c.in_err-state.field-0.0 c.in_err-state.ensures.refused)
+    (delta_refused c.in_ok-format.format text c.in_ok-format.line.now c.in_ok-format.ensures.found _ c.in_ok-span.entries.now c.in_ok-span.ensures.found c.if-text-gt-MAX_LEN.false
+    c.in_err-state.field-0.0 c.in_err-state.ensures.refused)
 
 pub read_entries_of_state-requires : goal.read_entries_of_state-requires
 read_entries_of_state-requires c =
     rw (c.in_ok-buffer.ensures.ok, c.in_ok-copy.ensures.items)
     (end_after span _ _ _ _
-    (end_behind c.args.text.now c.args.text.now (first_line (codes "memento-delta") c.in_ok-format.format) _ (whole_end c.args.text.now (omega (arith, c.if-text-gt-MAX_LEN.false))) c.in_ok-format.ensures.found) c.in_ok-span.ensures.found)
+    (end_behind c.args.text.now c.args.text.now (first_line (codes "memento-delta") c.in_ok-format.format) _
+    (whole_end c.args.text.now (omega (arith, c.if-text-gt-MAX_LEN.false))) c.in_ok-format.ensures.found) c.in_ok-span.ensures.found)
 
 pub returns-clause-found : goal.returns-clause-found
 returns-clause-found c =
-    delta_found c.in_ok-format.format c.args.text.now c.in_ok-format.line.now c.in_ok-format.ensures.found _ c.in_ok-span.entries.now c.in_ok-span.ensures.found c.in_ok-state.state c.in_ok-state.ensures.found
+    delta_found c.in_ok-format.format c.args.text.now c.in_ok-format.line.now c.in_ok-format.ensures.found _ c.in_ok-span.entries.now c.in_ok-span.ensures.found
+    c.in_ok-state.state c.in_ok-state.ensures.found

@@ -27,9 +27,11 @@ pub returns-in_err-end-clause-refused : goal.returns-in_err-end-clause-refused
 returns-in_err-end-clause-refused c =
     let text = c.args.text.now in
     passed_on span text c.from_residual-in_err-end.result c.in_err-end.field-0.0 c.from_residual-in_err-end.ensures.1
-    (refused_with (number 10) span text _ (span_leaves_end text _ c.in_ok-rest.ensures.found _ _ c.in_ok-incarnation.ensures.found _ _ c.in_ok-start.ensures.found) c.in_err-end.field-0.0 c.in_err-end.ensures.refused)
+    (refused_with (number 10) span text _ (span_leaves_end text _ c.in_ok-rest.ensures.found _ _ c.in_ok-incarnation.ensures.found _ _ c.in_ok-start.ensures.found)
+    c.in_err-end.field-0.0 c.in_err-end.ensures.refused)
 
 pub returns-then-start-end-clause-refused : goal.returns-then-start-end-clause-refused
 returns-then-start-end-clause-refused c =
     let after = c.if-start-end.true in
-    span_backwards c.args.text.now _ c.in_ok-rest.ensures.found _ _ c.in_ok-incarnation.ensures.found _ _ c.in_ok-start.ensures.found _ _ c.in_ok-end.ensures.found (λ order. omega (arith, after, order))
+    span_backwards c.args.text.now _ c.in_ok-rest.ensures.found _ _ c.in_ok-incarnation.ensures.found _ _ c.in_ok-start.ensures.found _ _ c.in_ok-end.ensures.found
+    (λ order. omega (arith, after, order))

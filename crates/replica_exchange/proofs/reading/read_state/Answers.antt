@@ -25,4 +25,5 @@ returns-clause-found c = state_found c.in_ok-format.format c.args.text.now c.in_
 pub read_entries_of_state-requires : goal.read_entries_of_state-requires
 read_entries_of_state-requires c =
     rw (c.in_ok-buffer.ensures.ok, c.in_ok-copy.ensures.items)
-    (end_behind c.args.text.now c.args.text.now (first_line (codes "memento-state") c.in_ok-format.format) _ (whole_end c.args.text.now (omega (arith, c.if-text-gt-MAX_LEN.false))) c.in_ok-format.ensures.found)
+    (end_behind c.args.text.now c.args.text.now (first_line (codes "memento-state") c.in_ok-format.format) _
+    (whole_end c.args.text.now (omega (arith, c.if-text-gt-MAX_LEN.false))) c.in_ok-format.ensures.found)

@@ -18,4 +18,5 @@ returns-clause-after c =
     (λ q. put q ∙ ap (λ (s : Slots). cond (eq_by_cmp text_cmp a q) (Some s) (tree.get text_cmp m q)) c.fill.ensures) there
 
 pub returns-in_default-clause-after : goal.returns-in_default-clause-after
-returns-in_default-clause-after c = absurd (not_some (slot c.args.shelves.now (c.args.archive, c.args.original.now)) (ap (λ s. slot_of s c.args.original.now) (sym c.get_mut.ensures.value ∙ ap option_copied_mut c.in_default.is)) c.requires.room)
+returns-in_default-clause-after c = absurd (not_some (slot c.args.shelves.now (c.args.archive, c.args.original.now))
+    (ap (λ s. slot_of s c.args.original.now) (sym c.get_mut.ensures.value ∙ ap option_copied_mut c.in_default.is)) c.requires.room)

@@ -30,15 +30,18 @@ loop-key-preserved c =
     ap (map key_of) (take_more keys i key c.loop-key-test.true ∙ ap (λ (q : ChangedKey). take i keys ++ q ∷ []) (sym c.key-item.is)) ∙ map_push key_of (take i keys) key in
     let after : (k : Key) → slot c.fill.new.shelves k ≡ cond (eq_by_cmp key_cmp k (key_of key)) (Some (Some c.args.stamp)) (slot c.loop-key.shelves k) = c.fill.ensures.after in
     record {
-      stamps = one_more (map key_of (take i keys)) (map key_of (take (i + 1) keys)) (key_of key) c.args.stamp c.args.shelves.now c.loop-key.shelves c.fill.new.shelves more c.loop-key.invariant.stamps after;
-      room = All-weaker (λ (q : ChangedKey). IsSome (slot c.loop-key.shelves (key_of q))) (λ (q : ChangedKey). IsSome (slot c.fill.new.shelves (key_of q))) (λ q. slot_stays_filled c.loop-key.shelves c.fill.new.shelves (key_of key) c.args.stamp after (key_of q)) keys c.loop-key.invariant.room;
+      stamps = one_more (map key_of (take i keys)) (map key_of (take (i + 1) keys)) (key_of key) c.args.stamp c.args.shelves.now c.loop-key.shelves c.fill.new.shelves more
+          c.loop-key.invariant.stamps after;
+      room = All-weaker (λ (q : ChangedKey). IsSome (slot c.loop-key.shelves (key_of q))) (λ (q : ChangedKey). IsSome (slot c.fill.new.shelves (key_of q)))
+          (λ q. slot_stays_filled c.loop-key.shelves c.fill.new.shelves (key_of key) c.args.stamp after (key_of q)) keys c.loop-key.invariant.room;
       ordered = c.fill.ensures.ordered;
     }
 
 pub fill-requires-clause-room : goal.fill-requires-clause-room
 fill-requires-clause-room c =
     let key : ChangedKey = c.key-item.result in
-    let here : IsSome (slot c.loop-key.shelves (key_of (get_or c.args.keys.now c.loop-key.key-index key))) = All-get_or (λ (q : ChangedKey). IsSome (slot c.loop-key.shelves (key_of q))) c.args.keys.now c.loop-key.key-index key c.loop-key-test.true c.loop-key.invariant.room in
+    let here : IsSome (slot c.loop-key.shelves (key_of (get_or c.args.keys.now c.loop-key.key-index key))) = All-get_or
+    (λ (q : ChangedKey). IsSome (slot c.loop-key.shelves (key_of q))) c.args.keys.now c.loop-key.key-index key c.loop-key-test.true c.loop-key.invariant.room in
     subst (λ (q : ChangedKey). IsSome (slot c.loop-key.shelves (key_of q))) (sym c.key-item.is) here
 
 pub returns-clause-stamps : goal.returns-clause-stamps

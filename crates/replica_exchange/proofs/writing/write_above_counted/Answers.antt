@@ -1,4 +1,4 @@
-use Rattle.std.proofs.Common.{ℕ, ◌<◌, ◌^◌, subst, ◌∙◌}
+use Rattle.std.proofs.Common.{ℕ, ◌<◌, ◌^◌, subst}
 use Rattle.std.specs.FinMap as fmap
 use Rattle.replica_exchange.specs.Stamps.{entries_above}
 use Rattle.replica_exchange.proofs.WritingLemmas.{counted_written, written_well}

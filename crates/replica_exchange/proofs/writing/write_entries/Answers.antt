@@ -12,7 +12,8 @@ pub loop-archive-preserved : goal.loop-archive-preserved
 loop-archive-preserved c =
     let entry = c.in_ok-write_entry.ensures in
     rw (map_push lent_entry c.loop-archive.yielded ((c.in-Some.archive, c.in-Some.original), c.in-Some.entry))
-    (more IsEntry entry_text c.args.out.now.items c.loop-archive.out.items c.write_entry.new.out.items (map lent_entry c.loop-archive.yielded) ((c.in-Some.archive, c.in-Some.original.now), c.in-Some.entry.now) c.loop-archive.invariant entry.written entry.fits)
+    (more IsEntry entry_text c.args.out.now.items c.loop-archive.out.items c.write_entry.new.out.items (map lent_entry c.loop-archive.yielded)
+    ((c.in-Some.archive, c.in-Some.original.now), c.in-Some.entry.now) c.loop-archive.invariant entry.written entry.fits)
 
 pub returns-clause-written : goal.returns-clause-written
 returns-clause-written c =

@@ -1,4 +1,4 @@
-use Rattle.std.proofs.Common.{◌≡◌, ℕ, ◌≤◌, ◌++◌, List, length, take, take_all, append-nil, sym, ap, subst, ◌∙◌, arith}
+use Rattle.std.proofs.Common.{◌≡◌, ℕ, ◌≤◌, ◌++◌, List, length, take_all, append-nil, sym, ap, subst, ◌∙◌, arith}
 use Rattle.std.specs.Prelude.{All}
 use Rattle.std.specs.List.{flat_map}
 use Rattle.std.specs.FinMap as map
@@ -14,7 +14,8 @@ loop-k-init c = record { text = sym (append-nil c.args.out.now.items); fits = Al
 pub loop-k-preserved : goal.loop-k-preserved
 loop-k-preserved c =
     let part = c.in_ok-write_part.ensures in
-    more_parts (map.entries c.args.entry.now.revisions) c.args.out.now.items c.loop-k.out.items c.write_part.new.out.items c.loop-k.k c.revision.result c.mementos.result.now c.revision.ensures c.mementos.ensures
+    more_parts (map.entries c.args.entry.now.revisions) c.args.out.now.items c.loop-k.out.items c.write_part.new.out.items c.loop-k.k c.revision.result c.mementos.result.now
+    c.revision.ensures c.mementos.ensures
     c.loop-k.invariant part.written part.fits.0 part.fits.1
 
 pub returns-clause-written : goal.returns-clause-written

@@ -1,4 +1,4 @@
-use Rattle.std.proofs.Common.{◌≡◌, ℕ, ◌+◌, ◌++◌, List, map, take, take_all, refl, sym, ap, ◌∙◌}
+use Rattle.std.proofs.Common.{◌++◌, List, map, take, take_all, refl, sym, ap, ◌∙◌}
 use Rattle.std.proofs.lemmas.List.{append-nil}
 use Rattle.replica_exchange.specs.declared.stamps.ChangedKey.{ChangedKey}
 use Rattle.replica_exchange.specs.StampOrder.{given_at, order_of}

@@ -10,7 +10,8 @@ use Rattle.replica_exchange.proofs.stamped.Stamped.new.Goals as goal
 pub returns-clause-stands : goal.returns-clause-stands
 returns-clause-stands c =
     let none : stamps_in c.new-2.result ≡ map.empty = ap (λ (ss : List (List ℕ × Slots)). let s : Stamps = map.from_entries (all_rows ss) in s) c.new-2.ensures.empty in
-    let is : (let s : StampedState = record { entries = c.new.result; stamps = stamps_in c.new-2.result; number = 0; incarnation = c.args.incarnation } in s) ≡ record { entries = map.empty; stamps = map.empty; number = 0; incarnation = c.args.incarnation } =
+    let is : (let s : StampedState = record { entries = c.new.result; stamps = stamps_in c.new-2.result; number = 0; incarnation = c.args.incarnation } in s) ≡ record
+    { entries = map.empty; stamps = map.empty; number = 0; incarnation = c.args.incarnation } =
     λ i. record { entries = c.new.ensures i; stamps = none i; number = 0; incarnation = c.args.incarnation } in
     subst (IsStamped []) (sym is) (stamped_at_first c.args.incarnation)
 

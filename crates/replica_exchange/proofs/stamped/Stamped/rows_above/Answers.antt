@@ -1,4 +1,4 @@
-use Rattle.std.proofs.Common.{◌≡◌, ℕ, List, map, take, take_all, refl, sym, ap, ◌∙◌}
+use Rattle.std.proofs.Common.{◌≡◌, ℕ, List, map, take, take_all, sym, ap, ◌∙◌}
 use Rattle.std.specs.FinMap as fmap
 use Rattle.std.specs.List.{flat_map}
 use Rattle.harvest_lattice.specs.Lattice.{Key}

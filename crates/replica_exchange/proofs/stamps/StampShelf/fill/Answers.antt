@@ -18,5 +18,6 @@ returns c =
 pub returns-in_default : goal.returns-in_default
 returns-in_default c =
     let o = c.args.original.now in
-    let none : map.get c.args.self.now o ≡ None = ap (λ (s : Slots). map.get s o) (sym c.self.view_is) ∙ (get-slots c.self.inside.slots.entries o ∙ (sym c.get_mut.ensures.value ∙ ap option_copied_mut c.in_default.is)) in
+    let none : map.get c.args.self.now o ≡ None = ap (λ (s : Slots). map.get s o) (sym c.self.view_is)
+    ∙ (get-slots c.self.inside.slots.entries o ∙ (sym c.get_mut.ensures.value ∙ ap option_copied_mut c.in_default.is)) in
     absurd (not_some (map.get c.args.self.now o) none c.requires)
