@@ -1,10 +1,9 @@
-//! Tests of `memento_index`.
+//! Tests of `memento_index`. Courses of harvests stand in `examples` and `tests/scripts`, at the repository's top.
 ghost use Rattle.std.specs.Prelude.{◌≡◌, ◌<◌};
 ghost use Rattle.std.specs.List.Sorted.{IsStrictlySortedBy};
 ghost use Rattle.memento_time.specs.Mementos.{memento_cmp};
 
 use crate::captures::{Capture, FIRST, ROOT, SECOND, THIRD, are, root};
-use crate::lattice::shows;
 use crate::makers::{harvest, merge, part_harvest, part_merge};
 use crate::plain::Plain;
 use anyhow::{Context, Result};
@@ -82,57 +81,6 @@ const MIDDLE: u64 = 946_771_200;
 // The last second of the year 9999.
 const LAST: u64 = 253_402_300_799;
 
-#[test]
-fn only_the_greatest_whole_revision_counts(rt: HostRuntime) -> Result<()> {
-    let alloc = rt.alloc();
-    let mut index = indexed(alloc, &[(b"a1", 7, &[FIRST]), (b"a1", 3, &[SECOND])])?;
-    assert!(rt; lists(alloc, &index, &[FIRST])?);
-    assert!(rt; is_nearest(alloc, &index, MIDDLE, Some(FIRST))?);
-    take(alloc, &mut index, b"a1", 8, &[])?;
-    assert!(rt; lists(alloc, &index, &[])?);
-    assert!(rt; is_nearest(alloc, &index, MIDDLE, None)?);
-    assert!(rt; is_latest(alloc, &index, None)?);
-    Ok(())
-}
-
-#[test]
-fn harvests_of_one_revision_are_united(rt: HostRuntime) -> Result<()> {
-    let alloc = rt.alloc();
-    let one = indexed(alloc, &[(b"a1", 1, &[FIRST]), (b"a1", 1, &[THIRD, SECOND])])?;
-    assert!(rt; lists(alloc, &one, &[FIRST, SECOND, THIRD])?);
-    let other = indexed(alloc, &[(b"a1", 1, &[THIRD, SECOND]), (b"a1", 1, &[FIRST])])?;
-    assert!(rt; lists(alloc, &other, &[FIRST, SECOND, THIRD])?);
-    Ok(())
-}
-
-#[test]
-fn an_archive_counts_once_in_two_revisions(rt: HostRuntime) -> Result<()> {
-    let alloc = rt.alloc();
-    let mut index = indexed(alloc, &[(b"a1", 1, &[FIRST])])?;
-    take_part(alloc, &mut index, 2, &[FIRST])?;
-    assert!(rt; lists(alloc, &index, &[FIRST])?);
-    take(alloc, &mut index, b"a1", 3, &[])?;
-    assert!(rt; lists(alloc, &index, &[])?);
-    assert!(rt; is_nearest(alloc, &index, MIDDLE, None)?);
-    assert!(rt; is_latest(alloc, &index, None)?);
-    Ok(())
-}
-
-// The same, where the part comes first, and another archive shows the memento too.
-#[test]
-fn another_archive_counts_beside_two_revisions(rt: HostRuntime) -> Result<()> {
-    let alloc = rt.alloc();
-    let mut index = indexed(alloc, &[(b"b1", 1, &[FIRST])])?;
-    take_part(alloc, &mut index, 2, &[FIRST])?;
-    take(alloc, &mut index, b"a1", 1, &[FIRST, SECOND])?;
-    assert!(rt; lists(alloc, &index, &[FIRST, SECOND])?);
-    take(alloc, &mut index, b"a1", 3, &[])?;
-    assert!(rt; lists(alloc, &index, &[FIRST])?);
-    take(alloc, &mut index, b"b1", 2, &[])?;
-    assert!(rt; lists(alloc, &index, &[])?);
-    Ok(())
-}
-
 // Takes one of five harvests of archive a1.
 fn take_one_of_five(alloc: Global, index: &mut Index, which: u64) -> Result<()> {
     match which {
@@ -142,24 +90,6 @@ fn take_one_of_five(alloc: Global, index: &mut Index, which: u64) -> Result<()> 
         3 => take_part(alloc, index, 4, &[FIRST]),
         _ => take(alloc, index, b"a1", 8, &[]),
     }
-}
-
-#[test]
-fn parts_are_listed_beside_the_whole(rt: HostRuntime) -> Result<()> {
-    let alloc = rt.alloc();
-    let mut index = Index::new(alloc);
-    let courses: [(u64, &[Capture]); 5] = [
-        (0, &[FIRST]),
-        (1, &[FIRST, SECOND]),
-        (2, &[SECOND, THIRD]),
-        (3, &[SECOND, THIRD]),
-        (4, &[]),
-    ];
-    for (which, listed) in courses {
-        take_one_of_five(alloc, &mut index, which)?;
-        assert!(rt; lists(alloc, &index, listed)?, "after {which}");
-    }
-    Ok(())
 }
 
 // An index of the five harvests in the order that the digits of a number name, in base five: none where it names one
@@ -193,63 +123,6 @@ fn every_order_of_wholes_and_parts_ends_the_same(rt: HostRuntime) -> Result<()> 
         }
     }
     assert!(rt; orders == 120);
-    Ok(())
-}
-
-#[test]
-fn parts_alone_are_listed(rt: HostRuntime) -> Result<()> {
-    let alloc = rt.alloc();
-    let mut index = Index::new(alloc);
-    take_part(alloc, &mut index, 3, &[FIRST])?;
-    take_part(alloc, &mut index, 2, &[SECOND])?;
-    assert!(rt; lists(alloc, &index, &[FIRST, SECOND])?);
-    assert!(rt; copy_shows(alloc, index.state(), &[FIRST, SECOND])?);
-    assert!(rt; is_nearest(alloc, &index, 0, Some(FIRST))?);
-    assert!(rt; is_latest(alloc, &index, Some(SECOND))?);
-    Ok(())
-}
-
-fn copy_shows(alloc: Global, state: &State, captures: &[Capture]) -> Result<bool> {
-    let copy = state.try_clone()?;
-    shows(alloc, &copy, captures)
-}
-
-#[test]
-fn another_archive_still_shows_it(rt: HostRuntime) -> Result<()> {
-    let alloc = rt.alloc();
-    let mut index = indexed(
-        alloc,
-        &[(b"a1", 1, &[FIRST]), (b"b1", 1, &[FIRST]), (b"a1", 2, &[])],
-    )?;
-    assert!(rt; lists(alloc, &index, &[FIRST])?);
-    assert!(rt; copy_shows(alloc, index.state(), &[FIRST])?);
-    take(alloc, &mut index, b"b1", 2, &[])?;
-    assert!(rt; lists(alloc, &index, &[])?);
-    Ok(())
-}
-
-#[test]
-fn archives_are_listed_as_one(rt: HostRuntime) -> Result<()> {
-    let alloc = rt.alloc();
-    let index = indexed(
-        alloc,
-        &[(b"b1", 1, &[FIRST, SECOND]), (b"a1", 1, &[FIRST, THIRD])],
-    )?;
-    assert!(rt; lists(alloc, &index, &[FIRST, SECOND, THIRD])?);
-    Ok(())
-}
-
-#[test]
-fn a_list_of_one_archive_changes_with_the_next(rt: HostRuntime) -> Result<()> {
-    let alloc = rt.alloc();
-    let mut index = indexed(
-        alloc,
-        &[(b"a1", 1, &[FIRST, SECOND]), (b"b1", 1, &[SECOND, THIRD])],
-    )?;
-    assert!(rt; lists(alloc, &index, &[FIRST, SECOND, THIRD])?);
-    take(alloc, &mut index, b"a1", 2, &[])?;
-    assert!(rt; lists(alloc, &index, &[SECOND, THIRD])?);
-    assert!(rt; copy_shows(alloc, index.state(), &[SECOND, THIRD])?);
     Ok(())
 }
 
@@ -356,19 +229,6 @@ fn probe(alloc: Global, index: &Index, second: u64) -> Result<(Option<usize>, u6
     let mut probed = unseen(index, &root);
     let place = nearest_in(&mut probed, asked);
     Ok((place, probed.probes()))
-}
-
-#[test]
-fn nearest_in_asks_few_datetimes(rt: HostRuntime) -> Result<()> {
-    let alloc = rt.alloc();
-    let (place, probes) = probe(alloc, &Index::new(alloc), MIDDLE)?;
-    assert!(rt; place.is_none() && probes <= 2);
-    let index = indexed(alloc, &[(b"a1", 1, &[FIRST, SECOND, THIRD])])?;
-    for (second, named) in [(SECOND.0, 1), (MIDDLE, 0)] {
-        let (place, probes) = probe(alloc, &index, second)?;
-        assert!(rt; place == Some(named) && probes <= 6, "at {second}");
-    }
-    Ok(())
 }
 
 // How many datetimes were asked for once a list of two was asked for its first memento, and then for its second.

@@ -1,4 +1,4 @@
-//! Tests of `harvest_lattice`.
+//! Tests of `harvest_lattice`. Courses of part harvests stand in `tests/scripts`, at the repository's top.
 use crate::captures::{Capture, FIRST, ROOT, SECOND, THIRD, are, root};
 use crate::makers;
 use anyhow::{Context, Result};
@@ -43,8 +43,8 @@ fn take_part(
     merge(state, &part)
 }
 
-/// Whether the state shows these of the root.
-pub fn shows(alloc: Global, state: &State, captures: &[Capture]) -> Result<bool> {
+// Whether the state shows these of the root.
+fn shows(alloc: Global, state: &State, captures: &[Capture]) -> Result<bool> {
     let root = root(alloc)?;
     let shown = state.shown(&root)?;
     are(alloc, &shown, captures)
@@ -96,42 +96,11 @@ fn the_greatest_whole_revision_stays(rt: HostRuntime) -> Result<()> {
     Ok(())
 }
 
-#[test]
-fn parts_stand_beside_the_whole(rt: HostRuntime) -> Result<()> {
-    let alloc = rt.alloc();
-    let mut state = State::new(alloc);
-    take(alloc, &mut state, b"a1", 5, &[FIRST])?;
-    take_part(alloc, &mut state, b"a1", 7, &[SECOND])?;
-    assert!(rt; shows(alloc, &state, &[FIRST, SECOND])?);
-    take(alloc, &mut state, b"a1", 6, &[THIRD])?;
-    assert!(rt; shows(alloc, &state, &[SECOND, THIRD])?);
-    take_part(alloc, &mut state, b"a1", 4, &[FIRST])?;
-    assert!(rt; shows(alloc, &state, &[SECOND, THIRD])?);
-    take(alloc, &mut state, b"a1", 8, &[])?;
-    assert!(rt; shows(alloc, &state, &[])?);
-    assert!(rt; holds(alloc, &state, b"a1", 8, &[])?);
-    Ok(())
-}
-
 // The entry of archive a1 for the root.
 fn entry_of_root(alloc: Global, state: &State) -> Result<Entry> {
     let root = root(alloc)?;
     let entry = state.entry(archive(b"a1")?, &root).context("no entry")?;
     Ok(entry.try_clone()?)
-}
-
-#[test]
-fn parts_alone_are_shown(rt: HostRuntime) -> Result<()> {
-    let alloc = rt.alloc();
-    let mut state = State::new(alloc);
-    take_part(alloc, &mut state, b"a1", 3, &[FIRST])?;
-    take_part(alloc, &mut state, b"a1", 2, &[SECOND])?;
-    assert!(rt; shows(alloc, &state, &[FIRST, SECOND])?);
-    let entry = entry_of_root(alloc, &state)?;
-    assert!(rt; entry.whole().is_none() && entry.revisions() == 2);
-    assert!(rt; entry.revision(0) == 2 && are(alloc, entry.mementos(0), &[SECOND])?);
-    assert!(rt; entry.revision(1) == 3 && are(alloc, entry.mementos(1), &[FIRST])?);
-    Ok(())
 }
 
 #[test]

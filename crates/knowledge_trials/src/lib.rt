@@ -17,8 +17,6 @@ mod index;
 mod lattice;
 pub mod makers;
 #[cfg(test)]
-mod pages;
-#[cfg(test)]
 mod plain;
 #[cfg(test)]
 mod sets;
