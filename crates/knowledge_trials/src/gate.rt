@@ -1,5 +1,5 @@
-//! Tests of `timegate`, where nothing is shown. Other replies, refusals and targets that lead nowhere stand in `examples`
-//! and `tests/scripts`, at the repository's top.
+//! Tests of `timegate`, where nothing is shown. Other replies, refusals and targets that lead nowhere stand in
+//! `examples` and `tests/scripts`, at the repository's top.
 use crate::captures::{Capture, FIRST, ROOT, SECOND};
 use crate::makers::{merge, request};
 use anyhow::{Result, bail};
