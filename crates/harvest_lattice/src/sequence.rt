@@ -92,8 +92,8 @@ impl Sequence {
         (self.is_whole, self.first)
     }
 
-    // The mementos of all revisions, each once. Those of a revision that has all of them are shared and not copied; else
-    // they are packed, so that none keeps a revision's buffer.
+    // The mementos of all revisions, each once. Those of a revision that has all of them are shared and not copied;
+    // else they are packed, so that none keeps a revision's buffer.
     pub fn shown(&self) -> Result<Arc<Mementos>, NoMemory>
         ensures { IfOk result (λ list. arc_value list ≡ mementos_of self.now) }
     {

@@ -15,7 +15,8 @@ use memento_time::NoMemory;
 use std::alloc::Global;
 use std::sync::Arc;
 
-// One revision alone, whole or not, as most entries have it, takes no memory beside its list: the entry has three words.
+// One revision alone, whole or not, as most entries have it, takes no memory beside its list: the entry has three
+// words.
 #[derive(Debug, Drop)]
 pub enum Shape {
     One(bool, Part),

@@ -17,8 +17,8 @@
 //! REVISIONS revisions, one at least, each greater than the one before. WHOLE is the revision of the entry's whole
 //! harvest, and then it is the first of these; it is `-` where all are of parts. A revision is one `at` line and then
 //! COUNT lines of mementos, by SECONDS and then by URI, none twice. Texts are compared by their bytes. N, WHOLE,
-//! REVISIONS, REVISION, COUNT and SECONDS are decimals of 64 bits with no zero in front; SECONDS count from the start of
-//! 1970 and lie before the year 10000.
+//! REVISIONS, REVISION, COUNT and SECONDS are decimals of 64 bits with no zero in front; SECONDS count from the start
+//! of 1970 and lie before the year 10000.
 //!
 //! Format 1 is still read. It has an entry's whole revision alone, in the `entry` line, and its mementos right below:
 //!

@@ -60,8 +60,8 @@ impl From<NoMemory> for StampFault {
     }
 }
 
-/// Makes room for the stamps of the keys, and has the index take the changes. Where memory is refused, the index and the
-/// stamps are as they were, and slots may have been made that are empty, and rows added to the order.
+/// Makes room for the stamps of the keys, and has the index take the changes. Where memory is refused, the index and
+/// the stamps are as they were, and slots may have been made that are empty, and rows added to the order.
 fn put_with_room(
     index: &mut Index,
     stamps: &mut StampShelves,
