@@ -2,8 +2,8 @@
 //!
 //!     links TIMES < PAGE
 //!
-//! reads the page that many times, and prints for each how many links it has, the bytes of their targets, their
-//! parameters, and the bytes of the first values of `rel` and `datetime`.
+//! reads the page that many times, and prints for each how many links it has, the bytes of their targets, and the bytes
+//! of the first values of `rel` and `datetime`.
 mod scanner;
 
 use scanner::{Fault, Links};
@@ -13,7 +13,6 @@ use std::io::Read;
 struct Counts {
     links: usize,
     targets: usize,
-    params: usize,
     rel: usize,
     datetime: usize,
 }
@@ -24,7 +23,6 @@ fn counts_of(page: &[u8]) -> Result<Counts, Fault> {
         let link = link?;
         counts.links += 1;
         counts.targets += link.target.len();
-        counts.params += link.count;
         counts.rel += link.rel.map_or(0, |value| value.len());
         counts.datetime += link.datetime.map_or(0, |value| value.len());
     }
@@ -37,8 +35,8 @@ fn main() -> std::io::Result<()> {
     std::io::stdin().read_to_end(&mut page)?;
     for _ in 0..times.unwrap_or(1) {
         match counts_of(&page) {
-            Ok(Counts { links, targets, params, rel, datetime }) => {
-                println!("{links} {targets} {params} {rel} {datetime}")
+            Ok(Counts { links, targets, rel, datetime }) => {
+                println!("{links} {targets} {rel} {datetime}")
             }
             Err(fault) => println!("refused: {fault:?}"),
         }
