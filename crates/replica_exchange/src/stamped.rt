@@ -150,7 +150,7 @@ impl Stamped {
     ///
     /// It has all its memory before the first change. Besides what `Index::absorb` takes, it takes time in the size of
     /// the merge, and for each entry that changes logarithmic in the number of keys. After as many changes as there are
-    /// keys it looks up every stamp once.
+    /// keys it looks up the stamp of every row, of which there are then two for each key.
     pub fn absorb(&mut self, merge: &Merge) -> Result<(), StampFault>
         ensures ok { OnOk result (IsAbsorbed self.old merge.now self.new) }
         ensures stands { (merges : List Merge) → IsStamped merges self.old
