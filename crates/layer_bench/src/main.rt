@@ -8,6 +8,11 @@
 //! - `layer_bench memory COUNT`: fills an index with COUNT mementos, ten of each original.
 //! - `layer_bench spread COUNT`: fills an index with 1,000,000 mementos of one archive, as many of each of COUNT
 //!   originals.
+//! - `layer_bench at_once COUNT`: fills an index with COUNT mementos of each of ten originals, beside another
+//!   archive's, in one merge of each.
+//! - `layer_bench rounds COUNT`: fills it with these in COUNT revisions, each of which has one memento more.
+//! - `layer_bench repeats COUNT`: fills it with these in one revision that comes COUNT times, each time with one more.
+//! - `layer_bench texts COUNT`: fills an index from COUNT texts of states, each of which has one key more.
 //! - `layer_bench stamped COUNT`: takes these mementos with a replica that stamps its entries.
 //! - `layer_bench last COUNT`, `layer_bench all COUNT`: takes them too, and writes ten times the delta with the last
 //!   merge, or with all merges.
@@ -19,6 +24,7 @@
 #![tactic(auto)]
 
 mod deltas;
+mod growth;
 mod hostile;
 mod keys;
 mod links;
@@ -46,6 +52,10 @@ fn measure(rt: &HostRuntime, kind: &str, count: u32) -> Result<()> {
         "hostile" => hostile::read_and_absorb(rt, &input(rt)?, count),
         "memory" => memory::fill(rt, count),
         "spread" => memory::spread(rt, count),
+        "at_once" => growth::take_at_once(rt, count),
+        "rounds" => growth::take_rounds(rt, count),
+        "repeats" => growth::take_repeats(rt, count),
+        "texts" => growth::take_texts(rt, count),
         "stamped" => deltas::fill(rt, count),
         "last" => deltas::write_last(rt, count),
         "all" => deltas::write_all(rt, count),

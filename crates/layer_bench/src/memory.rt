@@ -8,7 +8,7 @@ use std::alloc::Global;
 const ARCHIVES: [&str; 3] = ["one.example", "other.example", "third.example"];
 
 /// `count` mementos from a number on, with addresses of 60 bytes.
-fn mementos(alloc: Global, first: u32, count: u32) -> Result<Vec<Memento>> {
+pub(crate) fn mementos(alloc: Global, first: u32, count: u32) -> Result<Vec<Memento>> {
     let mut list = Vec::new(alloc);
     for number in first..first.saturating_add(count) {
         let text = format!(in alloc;
