@@ -32,14 +32,14 @@ fn write<R: Print + AllocGlobal>(
     Ok(())
 }
 
-/// Fills a replica, and writes ten times the delta with its last merge.
+/// Fills a replica, and writes 10,000 times the delta with its last merge.
 pub(crate) fn write_last<R: Print + AllocGlobal>(rt: &R, count: u32) -> Result<()> {
     let stamped = filled(rt.alloc(), count)?;
     let cursor = Cursor {
         incarnation: INCARNATION,
         number: stamped.number().saturating_sub(1),
     };
-    write(rt, &stamped, Some(cursor), 10)
+    write(rt, &stamped, Some(cursor), 10_000)
 }
 
 /// Fills a replica, and writes ten times the delta with all that it has.

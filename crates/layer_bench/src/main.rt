@@ -14,8 +14,8 @@
 //! - `layer_bench repeats COUNT`: fills it with these in one revision that comes COUNT times, each time with one more.
 //! - `layer_bench texts COUNT`: fills an index from COUNT texts of states, each of which has one key more.
 //! - `layer_bench stamped COUNT`: takes these mementos with a replica that stamps its entries.
-//! - `layer_bench last COUNT`, `layer_bench all COUNT`: takes them too, and writes ten times the delta with the last
-//!   merge, or with all merges.
+//! - `layer_bench last COUNT`, `layer_bench all COUNT`: takes them too, and writes 10,000 times the delta with the last
+//!   merge, or ten times that with all merges.
 //! - `layer_bench walk COUNT`: walks over 64 pages of 1,500 mementos each, COUNT times.
 //! - `layer_bench read COUNT`: fetches and reads these pages COUNT times, and does no more with them.
 //! - `layer_bench round WORKERS`: a round of 1,000 jobs, each of a page that takes a millisecond.
