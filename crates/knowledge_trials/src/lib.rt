@@ -17,6 +17,8 @@ mod index;
 mod lattice;
 pub mod makers;
 #[cfg(test)]
-mod plain;
+mod rule;
 #[cfg(test)]
 mod sets;
+#[cfg(test)]
+mod walks;
