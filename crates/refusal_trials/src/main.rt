@@ -10,7 +10,10 @@
 
 mod calls;
 mod exchange;
+mod lattice;
+mod replicas;
 mod replies;
+mod services;
 mod texts;
 mod walks;
 
@@ -92,7 +95,10 @@ fn main(rt: HostRuntime) -> Result<()> {
     let alloc = rt.alloc();
     if asks_for_calls(&rt).or_else(|_| asks_for_calls(&rt))? {
         texts::perform(&rt, alloc)?;
-        return calls::perform(&rt, alloc);
+        lattice::perform(&rt, alloc)?;
+        replicas::perform(&rt, alloc)?;
+        calls::insist(&rt, walks::Adding::MemoryFetchAdd, || walks::try_add(&rt))?;
+        return services::perform(&rt, alloc);
     }
     perform_exchange(&rt, alloc)?;
     let archive = walks::make_archive(alloc).or_else(|_| walks::make_archive(alloc))?;
