@@ -60,7 +60,14 @@ fn make_known(alloc: Global) -> Option<Known> {
         alloc,
         archive: archive(b"a1").ok()?,
         original: original(alloc, ROOT).ok()?,
-        harvest: harvest(alloc, b"a1", ROOT, 7, mementos(alloc, &[(THIRD_DAY, FIRST)]).ok()?).ok()?,
+        harvest: harvest(
+            alloc,
+            b"a1",
+            ROOT,
+            7,
+            mementos(alloc, &[(THIRD_DAY, FIRST)]).ok()?,
+        )
+        .ok()?,
         standing: read_state(alloc, STANDING).ok()?,
         coming: read_state(alloc, COMING).ok()?,
     })

@@ -4,9 +4,7 @@ use crate::lattice::STANDING;
 use anyhow::Result;
 use knowledge_trials::makers::{get, merge};
 use memento_index::Merge;
-use replica_exchange::{
-    Cursors, Delta, Stamped, read_delta, read_state, write_delta, write_state,
-};
+use replica_exchange::{Cursors, Delta, Stamped, read_delta, read_state, write_delta, write_state};
 use replica_world::{Event, World, asked_after};
 use std::alloc::Global;
 use text_trials::makers::{FIRST_DAY, service};

@@ -132,9 +132,13 @@ fn try_open<R: Wait>(rt: &R, alloc: Global) -> Option<Tried> {
 /// Asks a gate, with something to do before its entry ends: it is done once, and not where the reply is refused.
 fn answer_and_count(gate: &mut Gate, question: &Request) -> Tried {
     let done = AtomicU64::new(0);
-    let is_answered = gate.answer_then(question, || done.store(1, Ordering::SeqCst)).is_ok();
+    let is_answered = gate
+        .answer_then(question, || done.store(1, Ordering::SeqCst))
+        .is_ok();
     let is_as_before = done.load(Ordering::SeqCst) == 0;
-    let is_repeated = gate.answer_then(question, || done.store(2, Ordering::SeqCst)).is_ok()
+    let is_repeated = gate
+        .answer_then(question, || done.store(2, Ordering::SeqCst))
+        .is_ok()
         && done.load(Ordering::SeqCst) == 2;
     Tried::of_change(is_answered, is_as_before, is_repeated)
 }
@@ -229,12 +233,19 @@ fn try_respond<R: Wait + Clone + Drop>(rt: &R, alloc: Global) -> Option<Tried> {
 }
 
 /// Makes each call, and names it.
-pub(crate) fn perform<R: Wait + Print + Eprint + Clone + Drop>(rt: &R, alloc: Global) -> Result<()> {
+pub(crate) fn perform<R: Wait + Print + Eprint + Clone + Drop>(
+    rt: &R,
+    alloc: Global,
+) -> Result<()> {
     for call in ON_EDGE {
         insist(rt, call, || try_on_edge(alloc, call))?;
     }
     for call in ON_GATES {
         insist(rt, call, || try_on_gate(rt, alloc, call))?;
     }
-    insist(rt, Responding::GateServiceRespond, || try_respond(rt, alloc))
+    insist(
+        rt,
+        Responding::GateServiceRespond,
+        || try_respond(rt, alloc),
+    )
 }

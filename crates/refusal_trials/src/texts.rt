@@ -2,8 +2,8 @@
 use crate::calls::{Tried, insist, share};
 use anyhow::Result;
 use link_format::{
-    LinkFault, LinkReader, is_name, is_target, is_value, read_links, write_param, write_plain_param,
-    write_target,
+    LinkFault, LinkReader, is_name, is_target, is_value, read_links, write_param,
+    write_plain_param, write_target,
 };
 use memento_time::{Clean, MementosBuilder, Original};
 use std::alloc::Global;
@@ -239,7 +239,11 @@ fn copy(alloc: Global, call: Copying) -> Option<Tried> {
         Copying::CleanTryClone => clean.try_clone().is_ok(),
         Copying::CleanWithoutFragment => clean.without_fragment().is_ok(),
         Copying::OriginalTryClone => original(alloc, ROOT).ok()?.try_clone().is_ok(),
-        Copying::MementoTryClone => mementos(alloc, &[(FIRST_DAY, URI)]).ok()?.first()?.try_clone().is_ok(),
+        Copying::MementoTryClone => mementos(alloc, &[(FIRST_DAY, URI)])
+            .ok()?
+            .first()?
+            .try_clone()
+            .is_ok(),
         Copying::ServiceTryClone => service(alloc).ok()?.try_clone().is_ok(),
     };
     Some(Tried::of(is_answered))
