@@ -1,9 +1,9 @@
-//! The table of public calls that can be refused memory. Each is named as it is made. Where it is refused its name is told on
-//! standard error, what it was called on has to be as it was before, and the same call again has to succeed.
+//! The table of public calls that can be refused memory. Each is named as it is made. Where it is refused its name is
+//! told on standard error, what it was called on has to be as it was before, and the same call again has to succeed.
 //!
-//! A call's row is a case of an enum, whose name is the call's: `State::merge` is `StateMerge`, `read_url` is `ReadUrl`.
-//! `tests/memory/calls` finds the calls in the sources, so that none is without a row. An attempt gives `None` where what
-//! the call is made on was refused.
+//! A call's row is a case of an enum, whose name is the call's: `State::merge` is `StateMerge`, `read_url` is
+//! `ReadUrl`. `tests/memory/calls` finds the calls in the sources, so that none is without a row. An attempt gives
+//! `None` where what the call is made on was refused.
 ghost use Rattle.std.specs.Fn.{FnReturnsAt};
 
 use anyhow::{Result, bail};
@@ -30,8 +30,8 @@ impl Tried {
         }
     }
 
-    /// What came of a call that changes something: whether it was answered, whether all was as before where it wasn't, and
-    /// whether it was answered then.
+    /// What came of a call that changes something: whether it was answered, whether all was as before where it wasn't,
+    /// and whether it was answered then.
     pub(crate) fn of_change(is_answered: bool, is_as_before: bool, is_repeated: bool) -> Tried {
         if is_answered {
             Tried::Answered
