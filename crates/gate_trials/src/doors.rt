@@ -1,5 +1,6 @@
 //! Gates over sockets of this machine: two that are served at once, one whose client doesn't read its reply, and one
 //! that may be refused memory.
+use crate::runtimes::SocketRuntime;
 use anyhow::{Result, bail};
 use crossbeam_channel::{Receiver, Sender, bounded};
 use hyper_edge::{Answers, GateService, bind, serve_gate};
@@ -88,13 +89,7 @@ fn wait_for(rt: &impl Clock, flag: &AtomicU64) -> bool {
 /// Serves so many connections, at a port that it tells, and counts those that ended with a fault.
 fn serve<R, G>(rt: &R, answers: G, port: &Sender<u16>, connections: u64) -> Option<u64>
 where
-    R: Wait
-        + Clock
-        + Net<Listener = TcpListener, Stream = TcpStream>
-        + RandomSource
-        + AllocGlobal
-        + Clone
-        + Drop,
+    R: SocketRuntime + Clone + Drop,
     G: Answers,
 {
     let own = rt.clone().ok()?;
@@ -155,15 +150,7 @@ where
 /// fault, where each client got what it read.
 fn serve_and_ask<R, G>(rt: &R, answers: G, counts: &[usize]) -> Option<u64>
 where
-    R: Wait
-        + Clock
-        + Net<Listener = TcpListener, Stream = TcpStream>
-        + RandomSource
-        + AllocGlobal
-        + Threads
-        + Sync
-        + Clone
-        + Drop,
+    R: SocketRuntime + Threads + Sync + Clone + Drop,
     G: Answers + Send,
 {
     let (port_to, port_from) = bounded(rt.alloc(), 1).ok()?;
@@ -246,13 +233,7 @@ where
 /// memory ends is made again, on the same socket.
 fn serve_on<R>(rt: &R, port: &Sender<u16>, is_over: &AtomicU64) -> bool
 where
-    R: Wait
-        + Clock
-        + Net<Listener = TcpListener, Stream = TcpStream>
-        + RandomSource
-        + AllocGlobal
-        + Clone
-        + Drop,
+    R: SocketRuntime + Clone + Drop,
 {
     let steady = Steady { alloc: rt.alloc() };
     let own: Result<R, _> = rt.clone();
@@ -305,15 +286,7 @@ where
 /// Two replies of a gate that may be refused memory once. `None` where the refusal let nothing begin.
 fn try_to_reply<R>(rt: &R) -> Option<bool>
 where
-    R: Wait
-        + Clock
-        + Net<Listener = TcpListener, Stream = TcpStream>
-        + RandomSource
-        + AllocGlobal
-        + Threads
-        + Sync
-        + Clone
-        + Drop,
+    R: SocketRuntime + Threads + Sync + Clone + Drop,
 {
     let is_over = AtomicU64::new(0);
     let (port_to, port_from) = bounded(rt.alloc(), 1).ok()?;

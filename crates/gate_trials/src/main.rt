@@ -22,6 +22,7 @@ mod harvests;
 mod refusals;
 mod replies;
 mod rounds;
+mod runtimes;
 mod speeds;
 
 use anyhow::{Context, Result, bail};
