@@ -50,7 +50,7 @@ impl Mixed {
         self.sequence.reading()
     }
 
-    // A copy of the revisions, which shares the lists.
+    /// A copy of the revisions, which shares the lists.
     pub fn sequence(&self) -> Result<Sequence, NoMemory>
         ensures { IfOk result (λ sequence. sequence ≡ self.now) }
     {
@@ -58,7 +58,7 @@ impl Mixed {
         Ok(sequence)
     }
 
-    // The mementos of all revisions, shared and not copied.
+    /// The mementos of all revisions, shared and not copied.
     pub fn shown(&self) -> Result<Arc<Mementos>, NoMemory>
         ensures { IfOk result (λ list. arc_value list ≡ mementos_of self.now) }
     {
@@ -66,7 +66,7 @@ impl Mixed {
         Ok(list)
     }
 
-    // Joins a revision beside which all others stay. Where memory is refused, nothing has changed.
+    /// Joins a revision beside which all others stay. Where memory is refused, nothing has changed.
     pub fn join(&mut self, is_whole: bool, part: Part) -> Result<(), NoMemory>
         requires { AllStay self.old (kept_in is_whole part []) }
         ensures ok { OnOk result (self.new ≡ join_kept self.old (kept_in is_whole part [])) }

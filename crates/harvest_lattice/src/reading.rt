@@ -79,7 +79,7 @@ impl<'a> Reading<'a> {
         }
     }
 
-    // Appends copies of the mementos of each revision. After an error some may stand in the list.
+    /// Appends copies of the mementos of each revision. After an error some may stand in the list.
     pub fn append_all(&self, list: &mut Vec<Memento>) -> Result<(), NoMemory>
         ensures { OnOk result (list.new.items ≡ list.old.items ++ items_of (map.entries self.now.revisions)) }
     {
@@ -87,7 +87,7 @@ impl<'a> Reading<'a> {
         append_parts(list, self.later)
     }
 
-    // What is kept of a revision.
+    /// What is kept of a revision.
     fn at(&self, revision: u64) -> Option<&'a Part>
         ensures { found_set (option_copied result) ≡ held self.now revision }
     {
@@ -97,7 +97,7 @@ impl<'a> Reading<'a> {
         find(self.later, revision)
     }
 
-    // Whether a revision is older than the whole one or stands here with each memento.
+    /// Whether a revision is older than the whole one or stands here with each memento.
     fn covers(&self, part: &Part) -> bool
         ensures { IsTrue result ↔ PartWithin self.now part.now }
     {
@@ -133,7 +133,7 @@ impl<'a> Reading<'a> {
         other.covers_all(self.later)
     }
 
-    // Whether no revision of either is older than the other's whole one.
+    /// Whether no revision of either is older than the other's whole one.
     pub fn stays_with(&self, other: &Reading<'_>) -> bool
         ensures { IsTrue result → AllStay self.now other.now }
     {
@@ -143,7 +143,7 @@ impl<'a> Reading<'a> {
         is_not_before(self.whole(), other.first.revision())
     }
 
-    // The revisions that aren't older than a whole one.
+    /// The revisions that aren't older than a whole one.
     pub fn current(&self, whole: Option<u64>) -> Result<Vec<Part>, NoMemory>
         ensures { IfOk result (λ parts. parts.items ≡ current whole (map.entries self.now.revisions)) }
     {
@@ -154,7 +154,7 @@ impl<'a> Reading<'a> {
         Ok(parts)
     }
 
-    // Of another's revisions those that aren't older than the whole one here, each with what is lacking here.
+    /// Of another's revisions those that aren't older than the whole one here, each with what is lacking here.
     pub fn lacking(&self, other: &Reading<'_>) -> Result<Vec<Part>, NoMemory>
         ensures { IfOk result (λ parts. parts.items ≡ lacking self.now (map.entries other.now.revisions)) }
     {
@@ -164,7 +164,7 @@ impl<'a> Reading<'a> {
         Ok(parts)
     }
 
-    // Appends what is lacking here of a revision, unless that is older than the whole one.
+    /// Appends what is lacking here of a revision, unless that is older than the whole one.
     fn push_lack(&self, parts: &mut Vec<Part>, part: &Part) -> Result<(), NoMemory>
         ensures { OnOk result (parts.new.items ≡ parts.old.items ++ lacking self.now (part.now ∷ [])) }
     {
@@ -215,7 +215,7 @@ fn is_no_later(left: Option<u64>, right: Option<u64>) -> bool
     }
 }
 
-// Appends a copy of a part, unless that is older than a whole one.
+/// Appends a copy of a part, unless that is older than a whole one.
 fn push_current(parts: &mut Vec<Part>, whole: Option<u64>, part: &Part) -> Result<(), NoMemory>
     ensures { OnOk result (parts.new.items ≡ parts.old.items ++ current whole (part.now ∷ [])) }
 {

@@ -40,7 +40,7 @@ impl Model for Sequence {
 }
 
 impl Sequence {
-    // One revision alone.
+    /// One revision alone.
     pub fn of_part(is_whole: bool, first: Part) -> Sequence
         ensures { result ≡ kept_in is_whole first [] }
     {
@@ -51,7 +51,7 @@ impl Sequence {
         }
     }
 
-    // These revisions, if there are any.
+    /// These revisions, if there are any.
     pub fn of(
         alloc: Global,
         is_whole: bool,
@@ -84,7 +84,7 @@ impl Sequence {
         self.later.is_empty()
     }
 
-    // Of one revision, whether it is whole, and its part.
+    /// Of one revision, whether it is whole, and its part.
     pub fn into_only(self) -> (bool, Part)
         requires { map.len self.revisions ≡ 1 }
         ensures { kept_in result.0 result.1 [] ≡ self }
@@ -92,8 +92,8 @@ impl Sequence {
         (self.is_whole, self.first)
     }
 
-    // The mementos of all revisions, each once. Those of a revision that has all of them are shared and not copied;
-    // else they are packed, so that none keeps a revision's buffer.
+    /// The mementos of all revisions, each once. Those of a revision that has all of them are shared and not copied;
+    /// else they are packed, so that none keeps a revision's buffer.
     pub fn shown(&self) -> Result<Arc<Mementos>, NoMemory>
         ensures { IfOk result (λ list. arc_value list ≡ mementos_of self.now) }
     {
@@ -108,7 +108,7 @@ impl Sequence {
         Ok(list)
     }
 
-    // Joins one revision. Where memory is refused, nothing has changed.
+    /// Joins one revision. Where memory is refused, nothing has changed.
     pub fn join(&mut self, is_whole: bool, part: Part) -> Result<(), NoMemory>
         ensures ok { OnOk result (self.new ≡ join_kept self.old (kept_in is_whole part [])) }
         ensures err { OnErr result (self.new ≡ self.old) }
@@ -143,7 +143,7 @@ impl Sequence {
 impl Clone for Sequence {
     ghost is_clone = { λ sequence copy. copy ≡ sequence };
 
-    // The lists are shared.
+    /// The lists are shared.
     fn clone(&self) -> Result<Sequence, AllocError> {
         let first = self.first.clone()?;
         let later = self.later.clone()?;

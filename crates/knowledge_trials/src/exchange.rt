@@ -5,11 +5,11 @@ use replica_exchange::{Cursor, Cursors, StateFault, TakeFault, read_delta, read_
 use std::alloc::Global;
 use std::test::*;
 
-// What follows on two merges.
+/// What follows on two merges.
 const THIRD_MERGE: &[u8] =
     b"memento-delta 2\nfrom 1 2 3\nentries 1\nentry a1 3 1 http://a.example/\nat 3 0\nend\n";
 
-// The same in format 1.
+/// The same in format 1.
 const OLD_THIRD_MERGE: &[u8] =
     b"memento-delta 1\nfrom 1 2 3\nentries 1\nentry a1 3 0 http://a.example/\nend\n";
 
@@ -22,7 +22,7 @@ fn at(number: u64) -> Option<Cursor> {
     })
 }
 
-// Whether a delta is taken from a peer, as is told before.
+/// Whether a delta is taken from a peer, as is told before.
 fn takes(alloc: Global, cursors: &mut Cursors, peer: u64, text: &[u8]) -> Result<bool> {
     let delta = read_delta(alloc, text)?;
     let fits = cursors.fits(peer, &delta);
@@ -72,7 +72,7 @@ fn without_last(text: &[u8]) -> &[u8] {
     }
 }
 
-// A text of one byte more is refused as too long, and not as a text that is none.
+/// A text of one byte more is refused as too long, and not as a text that is none.
 #[test]
 fn texts_have_at_most_268_435_456_bytes(rt: HostRuntime) -> Result<()> {
     let alloc = rt.alloc();

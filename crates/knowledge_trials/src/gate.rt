@@ -8,7 +8,7 @@ use std::test::*;
 use text_trials::makers::service;
 use timegate::answer;
 
-// How a replica that knows nothing answers.
+/// How a replica that knows nothing answers.
 fn status_of(alloc: Global, target: &str) -> Result<u16> {
     let request = get(alloc, target.as_bytes())?;
     let reply = answer(alloc, &service(alloc)?, &Stamped::new(alloc, 1), &request)?;

@@ -13,7 +13,7 @@ use std::alloc::Global;
 use std::test::*;
 use text_trials::makers::{memento, moment};
 
-// Takes what an archive had of the root.
+/// Takes what an archive had of the root.
 fn take(
     alloc: Global,
     index: &mut Index,
@@ -25,14 +25,14 @@ fn take(
     Ok(())
 }
 
-// An index of these of the root.
+/// An index of these of the root.
 fn indexed(alloc: Global, captures: &[Capture]) -> Result<Index> {
     let mut index = Index::new(alloc);
     take(alloc, &mut index, b"a1", u64::MAX, captures)?;
     Ok(index)
 }
 
-// Whether the index lists these of the root.
+/// Whether the index lists these of the root.
 fn lists(alloc: Global, index: &Index, captures: &[Capture]) -> Result<bool> {
     let root = root(alloc)?;
     are(alloc, index.list(&root), captures)
@@ -42,7 +42,7 @@ fn is_found(alloc: Global, found: Option<&Memento>, wanted: Capture) -> Result<b
     Ok(found == Some(&memento(alloc, wanted.0, wanted.1)?))
 }
 
-// Whether this is the memento of the root that is nearest to a second.
+/// Whether this is the memento of the root that is nearest to a second.
 fn is_nearest(alloc: Global, index: &Index, second: u64, wanted: Capture) -> Result<bool> {
     let root = root(alloc)?;
     is_found(alloc, index.nearest(&root, moment(second)?), wanted)
@@ -53,10 +53,10 @@ fn is_latest(alloc: Global, index: &Index, wanted: Capture) -> Result<bool> {
     is_found(alloc, index.latest(&root), wanted)
 }
 
-// The second in the middle of the first memento and the second.
+/// The second in the middle of the first memento and the second.
 const MIDDLE: u64 = 946_771_200;
 
-// The last second of the year 9999.
+/// The last second of the year 9999.
 const LAST: u64 = 253_402_300_799;
 
 #[test]
@@ -81,13 +81,13 @@ fn the_ends_of_revisions_and_seconds(rt: HostRuntime) -> Result<()> {
     Ok(())
 }
 
-// Takes what another archive had of the root, and tells whether memory for the merge was given.
+/// Takes what another archive had of the root, and tells whether memory for the merge was given.
 fn is_taken(alloc: Global, index: &mut Index) -> Result<bool> {
     let merge = merge(alloc, b"b1", ROOT, 2, &[SECOND])?;
     Ok(index.absorb(&merge).is_ok())
 }
 
-// To be run with each allocation of the merge refused in turn.
+/// To be run with each allocation of the merge refused in turn.
 #[test]
 fn a_refused_merge_changes_nothing(rt: HostRuntime) -> Result<()> {
     let alloc = rt.alloc();
@@ -100,7 +100,7 @@ fn a_refused_merge_changes_nothing(rt: HostRuntime) -> Result<()> {
     Ok(())
 }
 
-// The list of an original, of which nothing was seen yet.
+/// The list of an original, of which nothing was seen yet.
 fn unseen<'a>(index: &'a Index, original: &Original) -> Probed<'a>
     ensures in_order { IsStrictlySortedBy memento_cmp result.list }
     ensures unseen { result.probes ≡ 0 }
@@ -108,7 +108,7 @@ fn unseen<'a>(index: &'a Index, original: &Original) -> Probed<'a>
     Probed::new(index.list(original))
 }
 
-// The place in the list of the root that is nearest to a second, and how many datetimes were asked for.
+/// The place in the list of the root that is nearest to a second, and how many datetimes were asked for.
 fn probe(alloc: Global, index: &Index, second: u64) -> Result<(Option<usize>, u64)> {
     let asked = moment(second)?;
     let root = root(alloc)?;
@@ -117,7 +117,7 @@ fn probe(alloc: Global, index: &Index, second: u64) -> Result<(Option<usize>, u6
     Ok((place, probed.probes()))
 }
 
-// So many mementos, at the even seconds from the start of 1970 on.
+/// So many mementos, at the even seconds from the start of 1970 on.
 fn at_even_seconds(alloc: Global, count: u64) -> Result<Index> {
     let mut list = Vec::new(alloc);
     for place in 0..count {
@@ -129,7 +129,7 @@ fn at_even_seconds(alloc: Global, count: u64) -> Result<Index> {
     Ok(index)
 }
 
-// An odd second lies in the middle of two mementos, of which the earlier counts.
+/// An odd second lies in the middle of two mementos, of which the earlier counts.
 #[test]
 fn nearest_in_asks_few_datetimes(rt: HostRuntime) -> Result<()> {
     let alloc = rt.alloc();
@@ -147,7 +147,7 @@ fn nearest_in_asks_few_datetimes(rt: HostRuntime) -> Result<()> {
     Ok(())
 }
 
-// How many datetimes were asked for once a list of two was asked for its first memento, and then for its second.
+/// How many datetimes were asked for once a list of two was asked for its first memento, and then for its second.
 fn probes_of_two(alloc: Global, list: &Index) -> Result<Option<(u64, u64)>> {
     let first = moment(FIRST.0)?;
     let second = moment(SECOND.0)?;

@@ -9,12 +9,12 @@ use std::alloc::Global;
 use std::test::*;
 use text_trials::makers::{archive, memento, mementos};
 
-// All that an archive had of the root.
+/// All that an archive had of the root.
 fn whole(alloc: Global, name: &[u8], revision: u64, captures: &[Capture]) -> Result<Harvest> {
     harvest(alloc, name, ROOT, revision, mementos(alloc, captures)?)
 }
 
-// A part of what archive a1 had of the root.
+/// A part of what archive a1 had of the root.
 fn part(alloc: Global, revision: u64, captures: &[Capture]) -> Result<Harvest> {
     part_harvest(alloc, b"a1", ROOT, revision, mementos(alloc, captures)?)
 }
@@ -24,7 +24,7 @@ fn take(state: &mut State, harvest: &Harvest) -> Result<()> {
     Ok(())
 }
 
-// The entry of archive a1 for the root.
+/// The entry of archive a1 for the root.
 fn entry_of_root(alloc: Global, state: &State) -> Result<Entry> {
     let root = root(alloc)?;
     let entry = state.entry(archive(b"a1")?, &root).context("no entry")?;
@@ -46,8 +46,8 @@ fn harvests_of_one_revision_are_united(rt: HostRuntime) -> Result<()> {
     Ok(())
 }
 
-// Takes a part harvest with no mementos at each of these revisions: from the least on, or in steps that leave gaps and
-// come back between them.
+/// Takes a part harvest with no mementos at each of these revisions: from the least on, or in steps that leave gaps and
+/// come back between them.
 fn take_empty_parts(alloc: Global, state: &mut State, count: u64, step: u64) -> Result<()> {
     for k in 0..count {
         take(state, &part(alloc, k.wrapping_mul(step) % count, &[])?)?;
@@ -55,14 +55,14 @@ fn take_empty_parts(alloc: Global, state: &mut State, count: u64, step: u64) -> 
     Ok(())
 }
 
-// Joins another state: whether this one wasn't below it, and it is below this one now.
+/// Joins another state: whether this one wasn't below it, and it is below this one now.
 fn grows_above(state: &mut State, other: &State) -> Result<bool> {
     let was_below = state.le(other);
     state.join(other)?;
     Ok(!was_below && other.le(state))
 }
 
-// Joins a state of so many parts into another, which has none of their revisions between 0 and the last.
+/// Joins a state of so many parts into another, which has none of their revisions between 0 and the last.
 fn joins_all(alloc: Global, count: u64, step: u64) -> Result<bool> {
     let mut state = State::new(alloc);
     take_empty_parts(alloc, &mut state, count, step)?;
@@ -83,7 +83,7 @@ fn ten_thousand_revisions_are_joined(rt: HostRuntime) -> Result<()> {
     Ok(())
 }
 
-// Takes what another state has, and tells how many rows of it were news.
+/// Takes what another state has, and tells how many rows of it were news.
 fn take_changes(state: &mut State, other: &State) -> Result<usize> {
     let changes = state.changes(other)?;
     let count = changes.rows().len();
@@ -111,7 +111,7 @@ fn changes_are_what_is_news(rt: HostRuntime) -> Result<()> {
     Ok(())
 }
 
-// A row of one whole revision of the root.
+/// A row of one whole revision of the root.
 fn row(alloc: Global, name: &[u8], revision: u64) -> Result<Row> {
     let parts = vec![in alloc; part_of(alloc, revision)?]?;
     Ok(Row {
@@ -121,13 +121,13 @@ fn row(alloc: Global, name: &[u8], revision: u64) -> Result<Row> {
     })
 }
 
-// A part of an entry.
+/// A part of an entry.
 fn part_of(alloc: Global, revision: u64) -> Result<Part> {
     let mementos = mementos(alloc, &[FIRST])?;
     Ok(Part::new(revision, Mementos::of(mementos))?)
 }
 
-// Whether two parts of these revisions make an entry with this whole revision.
+/// Whether two parts of these revisions make an entry with this whole revision.
 fn makes_entry(alloc: Global, whole: Option<u64>, first: u64, second: u64) -> Result<bool> {
     let first = part_of(alloc, first)?;
     let second = part_of(alloc, second)?;
@@ -150,13 +150,13 @@ fn parts_in_order_make_an_entry(rt: HostRuntime) -> Result<()> {
     Ok(())
 }
 
-// The state of these rows, of which copies are made.
+/// The state of these rows, of which copies are made.
 fn state_of(alloc: Global, first: &Row, second: &Row) -> Result<State> {
     let rows = vec![in alloc; first.try_clone()?, second.try_clone()?]?;
     State::of_rows(alloc, rows)?.context("no state")
 }
 
-// Whether the first key of a state is of the root and this archive.
+/// Whether the first key of a state is of the root and this archive.
 fn begins_with(alloc: Global, state: &State, name: &[u8]) -> Result<bool> {
     let archive = archive(name)?;
     let root = root(alloc)?;
@@ -176,7 +176,7 @@ fn rows_make_states_that_are_joined(rt: HostRuntime) -> Result<()> {
     Ok(())
 }
 
-// Mementos of the first seconds of 1970, the first one twice.
+/// Mementos of the first seconds of 1970, the first one twice.
 fn captures_of_seconds(alloc: Global, seconds: u64) -> Result<Vec<Memento>> {
     let mut list = mementos(alloc, &[(0, FIRST.1)])?;
     for second in 0..seconds {
@@ -185,7 +185,7 @@ fn captures_of_seconds(alloc: Global, seconds: u64) -> Result<Vec<Memento>> {
     Ok(list)
 }
 
-// A harvest of the first seconds of 1970: how many mementos it has, or why it is none.
+/// A harvest of the first seconds of 1970: how many mementos it has, or why it is none.
 fn count_of_seconds(alloc: Global, seconds: u64) -> Result<Result<usize, HarvestFault>> {
     let archive = archive(b"a1")?;
     let root = root(alloc)?;

@@ -49,7 +49,7 @@ pub fn harvest_of(alloc: Global, taken: Taken) -> Result<Harvest> {
     }
 }
 
-// Whether the one harvest is whole and of a greater revision of what the other is of.
+/// Whether the one harvest is whole and of a greater revision of what the other is of.
 fn replaces(one: Taken, other: Taken) -> bool {
     one.is_whole
         && one.revision > other.revision

@@ -11,7 +11,7 @@ fn set(alloc: Global, captures: &[Capture]) -> Result<Mementos> {
     Ok(Mementos::of(mementos(alloc, captures)?))
 }
 
-// Whether these are what a set has and another hasn't.
+/// Whether these are what a set has and another hasn't.
 fn is_rest(alloc: Global, set: &Mementos, other: &Mementos, captures: &[Capture]) -> Result<bool> {
     let rest = set.without(other)?;
     are(alloc, rest.as_slice(), captures)

@@ -10,14 +10,14 @@ use std::alloc::Global;
 use std::test::*;
 use text_trials::makers::original;
 
-// Takes a copy of a merge.
+/// Takes a copy of a merge.
 fn take_copy(index: &mut Index, merge: &Merge) -> Result<()> {
     let copy = merge.try_clone()?;
     index.absorb(&copy)?;
     Ok(())
 }
 
-// Whether the index lists these mementos of one of the originals, and its state shows them.
+/// Whether the index lists these mementos of one of the originals, and its state shows them.
 fn is_listed(alloc: Global, index: &Index, original_number: u64, bits: u64) -> Result<bool> {
     let original = original(alloc, ORIGINALS[(original_number % 2) as usize])?;
     let wanted = mementos_of(alloc, bits)?;
@@ -25,12 +25,12 @@ fn is_listed(alloc: Global, index: &Index, original_number: u64, bits: u64) -> R
     Ok(is_listed && index.state().shown(&original)? == wanted)
 }
 
-// Whether the index lists what the rule says once all of these were taken.
+/// Whether the index lists what the rule says once all of these were taken.
 fn lists(alloc: Global, index: &Index, all: &[Taken]) -> Result<bool> {
     Ok(is_listed(alloc, index, 0, listed(all, 0))? && is_listed(alloc, index, 1, listed(all, 1))?)
 }
 
-// A state that takes all of these in the opposite order.
+/// A state that takes all of these in the opposite order.
 fn state_of_last_first(alloc: Global, all: &[Taken]) -> Result<State> {
     let mut state = State::new(alloc);
     for taken in all.iter().rev() {
@@ -39,7 +39,7 @@ fn state_of_last_first(alloc: Global, all: &[Taken]) -> Result<State> {
     Ok(state)
 }
 
-// Whether the opposite order makes the same state.
+/// Whether the opposite order makes the same state.
 fn is_reversible(alloc: Global, index: &Index, all: &[Taken]) -> Result<bool> {
     let other = state_of_last_first(alloc, all)?;
     Ok(other.le(index.state()) && index.state().le(&other))
@@ -55,8 +55,8 @@ fn harvested(is_whole: bool, revision: u64, mementos: u64) -> Taken {
     }
 }
 
-// One of six harvests of one archive: whole ones and parts below and above them, two of one revision, and a last whole
-// one of nothing.
+/// One of six harvests of one archive: whole ones and parts below and above them, two of one revision, and a last whole
+/// one of nothing.
 fn one_of_six(number: u64) -> Taken {
     match number % 6 {
         0 => harvested(true, 5, 1),
@@ -68,7 +68,7 @@ fn one_of_six(number: u64) -> Taken {
     }
 }
 
-// Four of them, as the digits of a number in base six name them: one may come again.
+/// Four of them, as the digits of a number in base six name them: one may come again.
 fn four_of_six(alloc: Global, order: u64) -> Result<Vec<Taken>> {
     let mut all = Vec::new(alloc);
     let mut rest = order;
@@ -79,7 +79,7 @@ fn four_of_six(alloc: Global, order: u64) -> Result<Vec<Taken>> {
     Ok(all)
 }
 
-// An index that takes all of these, one after the other.
+/// An index that takes all of these, one after the other.
 fn index_of(alloc: Global, all: &[Taken]) -> Result<Index> {
     let mut index = Index::new(alloc);
     for taken in all {
@@ -88,7 +88,7 @@ fn index_of(alloc: Global, all: &[Taken]) -> Result<Index> {
     Ok(index)
 }
 
-// One that comes again changes nothing, so that each order of fewer is among these too.
+/// One that comes again changes nothing, so that each order of fewer is among these too.
 #[test]
 fn every_order_of_wholes_and_parts_is_listed(rt: HostRuntime) -> Result<()> {
     let alloc = rt.alloc();
@@ -101,14 +101,14 @@ fn every_order_of_wholes_and_parts_is_listed(rt: HostRuntime) -> Result<()> {
     Ok(())
 }
 
-// Numbers that are the same in each run.
+/// Numbers that are the same in each run.
 #[derive(Drop)]
 struct Generator {
     seed: u64,
 }
 
 impl Generator {
-    // One below a bound.
+    /// One below a bound.
     fn below(&mut self, bound: u64) -> u64
         requires { 0 < bound }
         ensures { result < bound }
@@ -131,14 +131,14 @@ impl Generator {
     }
 }
 
-// Some harvest, which is noted.
+/// Some harvest, which is noted.
 fn some_harvest(alloc: Global, numbers: &mut Generator, all: &mut Vec<Taken>) -> Result<Harvest> {
     let taken = numbers.taken();
     all.push(taken)?;
     harvest_of(alloc, taken)
 }
 
-// A harvest, or a state of two.
+/// A harvest, or a state of two.
 fn some_merge(alloc: Global, numbers: &mut Generator, all: &mut Vec<Taken>) -> Result<Merge> {
     if numbers.below(3) > 0 {
         return Ok(Merge::Harvest(some_harvest(alloc, numbers, all)?));
@@ -150,7 +150,7 @@ fn some_merge(alloc: Global, numbers: &mut Generator, all: &mut Vec<Taken>) -> R
     Ok(Merge::State(state))
 }
 
-// Whether a new index lists what the rule says after each of so many merges.
+/// Whether a new index lists what the rule says after each of so many merges.
 fn walks(alloc: Global, numbers: &mut Generator, merges: u64) -> Result<bool> {
     let mut index = Index::new(alloc);
     let mut all = Vec::new(alloc);
@@ -163,7 +163,7 @@ fn walks(alloc: Global, numbers: &mut Generator, merges: u64) -> Result<bool> {
     is_reversible(alloc, &index, &all)
 }
 
-// At the greatest revision little changes, so that most indexes take few merges.
+/// At the greatest revision little changes, so that most indexes take few merges.
 #[test]
 fn thousands_of_merges_are_listed(rt: HostRuntime) -> Result<()> {
     let mut numbers = Generator { seed: 7 };

@@ -64,7 +64,7 @@ fn measure(rt: &HostRuntime, kind: &str, count: u32) -> Result<()> {
     }
 }
 
-// Only `main` may wait and start threads.
+/// Only `main` may wait and start threads.
 fn main(rt: HostRuntime) -> Result<()> {
     let mut words = env::args(&rt)?.skip(1);
     let Some(kind) = words.next() else {

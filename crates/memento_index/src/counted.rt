@@ -1,4 +1,4 @@
-// Mementos with the numbers of archives that show them, and the steps of these numbers.
+//! Mementos with the numbers of archives that show them, and the steps of these numbers.
 ghost use Rattle.std.specs.Prelude.{◌≡◌, ◌++◌, IfOk, OnOk, length};
 ghost use Rattle.memento_index.specs.Lists.{each_step, steps_in};
 
@@ -6,22 +6,22 @@ use crate::replacement::Replacement;
 use memento_time::{Items, Memento, NoMemory};
 use std::alloc::Global;
 
-// A memento, and how many archives show it.
+/// A memento, and how many archives show it.
 #[derive(Debug, Drop)]
 pub struct Counted {
     pub memento: Memento,
     pub count: u64,
 }
 
-// One archive begins or ceases to show a memento.
+/// One archive begins or ceases to show a memento.
 #[derive(Debug, Drop, PartialEq, Eq, PartialOrd, Ord)]
 pub struct Step {
     pub memento: Memento,
     pub begins: bool,
 }
 
-// What begins and ceases to be shown of one original: all of its list is replaced by one that can be shared, or each
-// step alone.
+/// What begins and ceases to be shown of one original: all of its list is replaced by one that can be shared, or each
+/// step alone.
 #[derive(Debug, Drop)]
 pub enum Steps {
     All(Replacement),
@@ -38,7 +38,7 @@ impl Steps {
         }
     }
 
-    // The steps one by one, of a list that is replaced with copies of its mementos.
+    /// The steps one by one, of a list that is replaced with copies of its mementos.
     pub fn into_vec(self, alloc: Global) -> Result<Vec<Step>, NoMemory>
         ensures { IfOk result (λ steps. steps.items ≡ steps_in self) }
     {
@@ -54,7 +54,7 @@ impl Steps {
     }
 }
 
-// Adds a step of each memento.
+/// Adds a step of each memento.
 fn push_each(steps: &mut Vec<Step>, mementos: &[Memento], begins: bool) -> Result<(), NoMemory>
     ensures { OnOk result (steps.new.items ≡ steps.old.items ++ each_step begins mementos.now) }
 {

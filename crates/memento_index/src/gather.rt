@@ -1,4 +1,4 @@
-// What changes of a state begin and cease to show.
+//! What changes of a state begin and cease to show.
 ghost use Rattle.std.specs.Prelude.{◌≡◌, ℕ, List, [], false, cond, IsTrue, IfOk, OnOk, None};
 ghost use Rattle.std.specs.Arc.{arc_value};
 ghost use Rattle.std.specs.BTreeMap as tree;
@@ -20,7 +20,7 @@ use memento_time::{Items, NoMemory, Original};
 use std::alloc::Global;
 use std::collections::BTreeMap;
 
-// The steps of each original. Where a single row replaces all that is listed of it, it gives the new list.
+/// The steps of each original. Where a single row replaces all that is listed of it, it gives the new list.
 pub fn gather_steps(
     alloc: Global,
     state: &State,
@@ -38,7 +38,7 @@ pub fn gather_steps(
     Ok(all)
 }
 
-// Adds the steps of one row.
+/// Adds the steps of one row.
 fn gather_row(
     all: &mut StepLists,
     alloc: Global,
@@ -61,7 +61,7 @@ fn gather_row(
     Ok(())
 }
 
-// Takes out the steps of a row's original, and adds those of the row.
+/// Takes out the steps of a row's original, and adds those of the row.
 fn take_more_steps(
     all: &mut StepLists,
     alloc: Global,
@@ -87,7 +87,7 @@ fn take_more_steps(
     Ok(Steps::Each(Items::of(steps)))
 }
 
-// Whether just what is replaced is listed of an original, each by one archive.
+/// Whether just what is replaced is listed of an original, each by one archive.
 fn replaces_all(
     all: &StepLists,
     lists: &Lists,
@@ -107,7 +107,7 @@ fn replaces_all(
     }
 }
 
-// Takes out the steps of an original, one by one.
+/// Takes out the steps of an original, one by one.
 fn take_steps(
     all: &mut StepLists,
     alloc: Global,
@@ -123,7 +123,7 @@ fn take_steps(
     }
 }
 
-// Adds what an archive begins and ceases to show.
+/// Adds what an archive begins and ceases to show.
 fn push_steps(
     steps: &mut Vec<Step>,
     alloc: Global,

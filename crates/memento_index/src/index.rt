@@ -159,8 +159,8 @@ impl Index {
     }
 }
 
-// Makes the room for the steps, and has the state take the changes. Where memory is refused, the state is as it was,
-// and lists may have been made that are empty.
+/// Makes the room for the steps, and has the state take the changes. Where memory is refused, the state is as it was,
+/// and lists may have been made that are empty.
 fn put_with_room(
     state: &mut State,
     lists: &mut Lists,

@@ -30,7 +30,7 @@ pub fn last_in(list: &mut Probed<'_>) -> Option<usize>
     Some(first_from(list, len - 1, greatest))
 }
 
-// The memento of the greatest datetime, there that with the least URI.
+/// The memento of the greatest datetime, there that with the least URI.
 pub fn last_of(list: &[Memento]) -> Option<&Memento>
     requires { IsStrictlySortedBy memento_cmp list.now }
     ensures { option_copied result ≡ last (set.from_list list.now) }

@@ -1,4 +1,4 @@
-// The list of one original.
+//! The list of one original.
 ghost use Rattle.std.specs.Prelude.{◌≡◌, ◌+◌, ◌≤◌, [], IfOk, IsTrue, Some, length};
 ghost use Rattle.std.specs.Arc.{arc_value};
 ghost use Rattle.memento_sets.specs.Sets as set;
@@ -16,8 +16,8 @@ use std::alloc::Global;
 use std::marker::Model;
 use std::sync::Arc;
 
-// A list that one archive alone shows is the set of its entry, shared where that has one revision, and has no columns.
-// It gets columns of its own when another archive's mementos come beside it, or more of the same revision.
+/// A list that one archive alone shows is the set of its entry, shared where that has one revision, and has no columns.
+/// It gets columns of its own when another archive's mementos come beside it, or more of the same revision.
 #[derive(Debug, Drop)]
 pub struct Listing {
     shared: Option<Arc<Mementos>>,
@@ -38,7 +38,7 @@ impl Model for Listing {
 }
 
 impl Listing {
-    // No mementos. Takes no memory.
+    /// No mementos. Takes no memory.
     pub fn new(alloc: Global) -> Listing
         ensures { result.entries ≡ [] }
     {
@@ -49,7 +49,7 @@ impl Listing {
         }
     }
 
-    // The mementos, in order.
+    /// The mementos, in order.
     pub fn mementos(&self) -> &[Memento]
         ensures { result.now ≡ mementos_of self.now.entries }
     {
@@ -59,7 +59,7 @@ impl Listing {
         }
     }
 
-    // Whether these are the mementos, each shown by one archive.
+    /// Whether these are the mementos, each shown by one archive.
     pub fn has_just(&self, mementos: &[Memento]) -> bool
         ensures { IsTrue result → self.now.entries ≡ each_once mementos.now }
     {
@@ -69,7 +69,7 @@ impl Listing {
         }
     }
 
-    // Makes room for more mementos, and gives the length that the list may then have.
+    /// Makes room for more mementos, and gives the length that the list may then have.
     pub fn reserve(&mut self, more: usize) -> Result<usize, NoMemory>
         ensures entries { self.new.entries ≡ self.old.entries }
         ensures room { self.old.room ≤ self.new.room }
@@ -83,7 +83,7 @@ impl Listing {
         self.own.reserve(more)
     }
 
-    // Counts what archives begin and cease to show. Needs no memory: where it is refused, the list isn't packed.
+    /// Counts what archives begin and cease to show. Needs no memory: where it is refused, the list isn't packed.
     pub fn recount(&mut self, lifted: &mut Tally, steps: Steps)
         requires tally { IsTally self.old.entries }
         requires can { CanCount self.old.entries (steps_in steps) }
@@ -125,7 +125,7 @@ impl Listing {
     }
 }
 
-// Columns of these, each shown by one archive, with room for more.
+/// Columns of these, each shown by one archive, with room for more.
 fn count_each(alloc: Global, mementos: &[Memento], more: usize) -> Result<Tally, NoMemory>
     ensures { IfOk result (λ tally. tally.entries ≡ each_once mementos.now) }
 {

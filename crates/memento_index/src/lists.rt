@@ -1,4 +1,4 @@
-// The lists of an index.
+//! The lists of an index.
 ghost use Rattle.std.specs.Prelude.{◌≡◌, ◌↔◌, ◌+◌, ◌≤◌, ℕ, List, [], true, false, IsTrue, IfOk, IfSome, IsSome, OnOk};
 ghost use Rattle.std.specs.Prelude.{None, length};
 ghost use Rattle.std.specs.BTreeMap as tree;
@@ -17,12 +17,12 @@ use std::collections::BTreeMap;
 
 pub type Lists = BTreeMap<Original, Listing>;
 
-// What begins and ceases to be shown of each original.
+/// What begins and ceases to be shown of each original.
 pub type StepLists = BTreeMap<Original, Steps>;
 
-// Makes room in the list of each original for its steps, and room to lift the longest of these lists. A list that is
-// replaced wants no room. No count of the keys and the steps is too large. Where memory is refused, lists may
-// have been made that are empty.
+/// Makes room in the list of each original for its steps, and room to lift the longest of these lists. A list that is
+/// replaced wants no room. No count of the keys and the steps is too large. Where memory is refused, lists may
+/// have been made that are empty.
 pub fn make_rooms(
     lists: &mut Lists,
     lifted: &mut Tally,
@@ -72,7 +72,7 @@ fn make_room(
     Ok(())
 }
 
-// Gives an original an empty list where it has none.
+/// Gives an original an empty list where it has none.
 fn make_list(lists: &mut Lists, alloc: Global, original: &Original) -> Result<(), NoMemory>
     ensures grow { (o : List ℕ) → Grows (tree.get text_cmp lists.old o) (tree.get text_cmp lists.new o) }
     ensures others { (o : List ℕ) → eq_by_cmp text_cmp original.now o ≡ false
@@ -86,7 +86,7 @@ fn make_list(lists: &mut Lists, alloc: Global, original: &Original) -> Result<()
     Ok(())
 }
 
-// Makes room in the list of an original, and gives the length that it may then have.
+/// Makes room in the list of an original, and gives the length that it may then have.
 fn reserve(lists: &mut Lists, original: &Original, more: usize) -> Result<usize, NoMemory>
     ensures grow { (o : List ℕ) → Grows (tree.get text_cmp lists.old o) (tree.get text_cmp lists.new o) }
     ensures others { (o : List ℕ) → eq_by_cmp text_cmp original.now o ≡ false
@@ -101,7 +101,7 @@ fn reserve(lists: &mut Lists, original: &Original, more: usize) -> Result<usize,
     }
 }
 
-// Drops the lists of these originals that are empty. Takes no memory.
+/// Drops the lists of these originals that are empty. Takes no memory.
 pub fn drop_empty(lists: &mut Lists, all: &StepLists)
     ensures gone { (o : List ℕ) → IsSome (tree.get text_cmp all.now o) → IsListed (tree.get text_cmp lists.new o) }
     ensures tallies { (o : List ℕ) → tally_of lists.new o ≡ tally_of lists.old o }
@@ -124,7 +124,7 @@ fn drop_if_empty(lists: &mut Lists, original: &Original)
     }
 }
 
-// Whether an original has a list, and nothing is in it.
+/// Whether an original has a list, and nothing is in it.
 fn is_empty_at(lists: &Lists, original: &Original) -> bool
     ensures { IsTrue result ↔ ¬ (IsListed (tree.get text_cmp lists.now original.now)) }
 {
@@ -134,7 +134,7 @@ fn is_empty_at(lists: &Lists, original: &Original) -> bool
     }
 }
 
-// Counts the steps of each original in its list, and drops the lists that become empty.
+/// Counts the steps of each original in its list, and drops the lists that become empty.
 pub fn recount_all(lists: &mut Lists, lifted: &mut Tally, all: StepLists)
     requires tally { (o : List ℕ) → IsTally (tally_of lists.old o) }
     requires can { (o : List ℕ) → CanCount (tally_of lists.old o) (steps_of all o) }
@@ -168,7 +168,7 @@ fn recount_list(lists: &mut Lists, lifted: &mut Tally, original: &Original, step
     }
 }
 
-// Counts the steps, and tells whether nothing is left.
+/// Counts the steps, and tells whether nothing is left.
 fn recount_in_place(
     lists: &mut Lists,
     lifted: &mut Tally,

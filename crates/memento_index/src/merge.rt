@@ -32,7 +32,7 @@ impl Merge {
         }
     }
 
-    // What of this is news to a state.
+    /// What of this is news to a state.
     pub(crate) fn changes(&self, state: &State) -> Result<Changes, NoMemory>
         ensures { IfOk result (IsNews state.now (lat (adds_of self.now))) }
     {

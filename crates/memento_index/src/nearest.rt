@@ -11,7 +11,7 @@ ghost use Rattle.memento_index.specs.Probes.{datetimes, gap};
 use crate::probed::Probed;
 use memento_time::{Memento, Moment};
 
-// The first place below the end whose datetime isn't before the moment, or else the end.
+/// The first place below the end whose datetime isn't before the moment, or else the end.
 pub fn first_from(list: &mut Probed<'_>, end: usize, moment: Moment) -> usize
     requires in_order { IsNonDecreasing (datetimes list.old.list) }
     requires in_range { end ≤ length list.old.list }
@@ -35,7 +35,7 @@ pub fn first_from(list: &mut Probed<'_>, end: usize, moment: Moment) -> usize
     low
 }
 
-// Whether there is a memento at the place, nearer to the moment than one of this datetime.
+/// Whether there is a memento at the place, nearer to the moment than one of this datetime.
 fn is_nearer_than(list: &mut Probed<'_>, place: usize, other: Moment, moment: Moment) -> bool
     requires in_range { place ≤ length list.old.list }
     requires few { list.old.probes ≤ 2000000000 }
@@ -81,7 +81,7 @@ pub fn nearest_in(list: &mut Probed<'_>, moment: Moment) -> Option<usize>
     Some(first_from(list, place - 1, before))
 }
 
-// The memento at the least distance in seconds.
+/// The memento at the least distance in seconds.
 pub fn nearest_of(list: &[Memento], moment: Moment) -> Option<&Memento>
     requires { IsStrictlySortedBy memento_cmp list.now }
     ensures { option_copied result ≡ nearest (set.from_list list.now) moment }

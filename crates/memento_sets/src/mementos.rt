@@ -135,7 +135,7 @@ impl Clone for Mementos {
     }
 }
 
-// Whether each memento is below the next.
+/// Whether each memento is below the next.
 fn mementos_rise(list: &[Memento]) -> bool
     ensures { result ≡ mementos_rise list.now }
 {
@@ -153,7 +153,7 @@ fn all_in(list: &[Memento], others: &Mementos) -> bool
     list.iter().all(|memento| others.has(memento))
 }
 
-// Of a list those that a set lacks, packed.
+/// Of a list those that a set lacks, packed.
 fn copy_missing(
     alloc: Global,
     list: &[Memento],
@@ -187,7 +187,7 @@ pub fn packed(alloc: Global, list: &[Memento]) -> Result<Vec<Memento>, NoMemory>
     Ok(builder.build(alloc)?)
 }
 
-// Adds a memento, whose address is copied.
+/// Adds a memento, whose address is copied.
 fn append(builder: &mut MementosBuilder, memento: &Memento) -> Result<(), NoMemory>
     ensures { OnOk result (builder.new ≡ builder.old ++ memento.now ∷ []) }
 {
@@ -198,7 +198,7 @@ fn append(builder: &mut MementosBuilder, memento: &Memento) -> Result<(), NoMemo
     }
 }
 
-// How many of a list in order are below a memento.
+/// How many of a list in order are below a memento.
 fn count_below(list: &[Memento], memento: &Memento) -> usize
     requires { IsStrictlySortedBy memento_cmp list.now }
     ensures within { result ≤ length list.now }
@@ -210,8 +210,8 @@ fn count_below(list: &[Memento], memento: &Memento) -> usize
     }
 }
 
-// Adds mementos in order to others. Those behind the first of them are lifted off the list, the next one last, and come
-// back between them; where memory is refused, nothing has changed.
+/// Adds mementos in order to others. Those behind the first of them are lifted off the list, the next one last, and
+/// come back between them; where memory is refused, nothing has changed.
 fn unite(list: &mut Vec<Memento>, added: Vec<Memento>) -> Result<(), NoMemory>
     requires list_in_order { IsStrictlySortedBy memento_cmp list.old.items }
     requires added_in_order { IsStrictlySortedBy memento_cmp added.items }
@@ -232,7 +232,7 @@ fn unite(list: &mut Vec<Memento>, added: Vec<Memento>) -> Result<(), NoMemory>
     Ok(())
 }
 
-// Puts what was lifted and what is added behind a list, in order.
+/// Puts what was lifted and what is added behind a list, in order.
 fn merge(list: &mut Vec<Memento>, mut lifted: Vec<Memento>, added: Vec<Memento>)
     requires in_order { IsStrictlySortedBy memento_cmp (list.old.items ++ reverse lifted.items) }
     requires added_in_order { IsStrictlySortedBy memento_cmp (list.old.items ++ added.items) }
@@ -250,7 +250,7 @@ fn merge(list: &mut Vec<Memento>, mut lifted: Vec<Memento>, added: Vec<Memento>)
     settle(list, lifted);
 }
 
-// Puts back what is below a memento, and drops the memento itself, if it was lifted.
+/// Puts back what is below a memento, and drops the memento itself, if it was lifted.
 fn pass(list: &mut Vec<Memento>, lifted: &mut Vec<Memento>, memento: &Memento)
     requires in_order { IsStrictlySortedBy memento_cmp (list.old.items ++ reverse lifted.old.items) }
     requires below { IsStrictlySortedBy memento_cmp (list.old.items ++ memento.now ∷ []) }
@@ -275,7 +275,7 @@ fn pass(list: &mut Vec<Memento>, lifted: &mut Vec<Memento>, memento: &Memento)
     }
 }
 
-// Puts back all that was lifted.
+/// Puts back all that was lifted.
 fn settle(list: &mut Vec<Memento>, mut lifted: Vec<Memento>)
     requires { vec_len list.old + vec_len lifted ≤ vec_capacity list.old }
     ensures { list.new.items ≡ list.old.items ++ reverse lifted.items }

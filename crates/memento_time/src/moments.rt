@@ -125,7 +125,7 @@ fn is_day_name(name: [u8; 3]) -> bool
     DAY_NAMES.contains(&name)
 }
 
-// The date that the text shows under this day's name in place of its own. `httpdate` takes the right name only.
+/// The date that the text shows under this day's name in place of its own. `httpdate` takes the right name only.
 fn date_under(name: &[u8; 3], text: &[u8; 29]) -> Option<HttpDate>
     ensures shown { IfSome result (λ date. name.now ++ drop 3 text.now ≡ date_text date) }
     ensures none { IfNone result ((date : Date) → ¬ (name.now ++ drop 3 text.now ≡ date_text date)) }

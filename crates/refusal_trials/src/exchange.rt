@@ -8,7 +8,7 @@ use std::alloc::Global;
 use timegate::Request;
 use timemap_writer::Service;
 
-// A state of two entries, so that a refusal can fall between them.
+/// A state of two entries, so that a refusal can fall between them.
 const STATE: &[u8] = b"memento-state 1
 entries 2
 entry b1 1 1 http://a.example/
@@ -58,7 +58,7 @@ fn events(alloc: Global) -> Result<Vec<Event>> {
     ]?)
 }
 
-// What the archive a1 has of the original at a revision: one memento.
+/// What the archive a1 has of the original at a revision: one memento.
 fn harvest(alloc: Global, revision: u64, second: u64, uri: &[u8]) -> Result<Harvest> {
     let archive = ArchiveName::new(b"a1").context("no name")?;
     let original = Original::new(alloc, b"http://a.example/")?;

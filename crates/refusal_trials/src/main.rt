@@ -87,7 +87,7 @@ fn perform_exchange(rt: &HostRuntime, alloc: Global) -> Result<()> {
     Ok(())
 }
 
-// Only `main` may wait and start threads.
+/// Only `main` may wait and start threads.
 fn main(rt: HostRuntime) -> Result<()> {
     let alloc = rt.alloc();
     if asks_for_calls(&rt).or_else(|_| asks_for_calls(&rt))? {

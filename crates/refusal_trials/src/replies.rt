@@ -19,7 +19,7 @@ pub(crate) fn is_same(replies: &[Reply], others: &[Reply]) -> bool {
             .all(|(reply, other)| is_same_reply(reply, other))
 }
 
-// What one replica replies, at the second try where the first ran out of memory.
+/// What one replica replies, at the second try where the first ran out of memory.
 fn reply_of(world: &World, replica: usize, question: &Request) -> Result<Reply> {
     let answer = match world.ask(replica, question) {
         Err(Refused::NoMemory) => world.ask(replica, question),

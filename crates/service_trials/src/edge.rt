@@ -32,13 +32,13 @@ impl Answers for Spent {
     }
 }
 
-// The URL on the server behind a port.
+/// The URL on the server behind a port.
 fn url_at(alloc: Global, port: u16) -> Result<Clean> {
     let url = format!(in alloc; "http://127.0.0.1:{port}/x")?;
     clean(alloc, url.as_bytes())
 }
 
-// Serves one connection, and counts those that ended with a fault.
+/// Serves one connection, and counts those that ended with a fault.
 fn serve_one<R>(rt: &R, port: &Sender<u16>) -> Option<u64>
 where
     R: Wait
@@ -81,7 +81,7 @@ fn fault_is_503(rt: HostRuntime) -> Result<()> {
     Ok(())
 }
 
-// Reads the head of the request that came over a stream.
+/// Reads the head of the request that came over a stream.
 fn skip_head(alloc: Global, stream: &TcpStream) -> io::Result<()> {
     for line in BufReader::new(alloc, stream)?.lines(alloc) {
         if line?.is_empty() {
@@ -91,7 +91,7 @@ fn skip_head(alloc: Global, stream: &TcpStream) -> io::Result<()> {
     Ok(())
 }
 
-// Answers one connection with a body of a byte where two are said.
+/// Answers one connection with a body of a byte where two are said.
 fn answer_short(alloc: Global, listener: &TcpListener) -> io::Result<()> {
     let (mut stream, _peer) = listener.accept()?;
     skip_head(alloc, &stream)?;

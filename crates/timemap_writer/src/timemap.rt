@@ -105,8 +105,8 @@ pub fn write_index(
     Ok(text)
 }
 
-// What stands behind this path and lists these mementos of the original: whether the head is the first of all, and
-// whether more follow the last.
+/// What stands behind this path and lists these mementos of the original: whether the head is the first of all, and
+/// whether more follow the last.
 fn listing(
     alloc: Global,
     service: &Service,
@@ -138,7 +138,7 @@ pub fn pages(mementos: &[Memento]) -> usize
     mementos.len().div_ceil(PER_PAGE)
 }
 
-// The mementos on a page.
+/// The mementos on a page.
 fn stretch(mementos: &[Memento], page: usize) -> &[Memento]
     requires { IsPage mementos.now page }
     ensures { result.now ≡ stretch page mementos.now }
@@ -147,7 +147,7 @@ fn stretch(mementos: &[Memento], page: usize) -> &[Memento]
     &left[..left.len().min(PER_PAGE)]
 }
 
-// What the page's address has between the base and the original.
+/// What the page's address has between the base and the original.
 fn page_path(alloc: Global, page: usize) -> Result<Vec<u8>, NoMemory>
     ensures value { IfOk result (λ path. path.items ≡ page_path page) }
     ensures target { IfOk result (λ path. IsTarget path.items) }
@@ -159,7 +159,7 @@ fn page_path(alloc: Global, page: usize) -> Result<Vec<u8>, NoMemory>
     Ok(path)
 }
 
-// The lines at the head of a text that lists these mementos and stands behind this path.
+/// The lines at the head of a text that lists these mementos and stands behind this path.
 fn push_head(
     out: &mut Vec<u8>,
     alloc: Global,
@@ -183,7 +183,7 @@ fn push_head(
     Ok(())
 }
 
-// The index's line of a page, behind the comma and the end of the line before.
+/// The index's line of a page, behind the comma and the end of the line before.
 fn push_page(
     out: &mut Vec<u8>,
     alloc: Global,
@@ -206,7 +206,7 @@ fn push_page(
     Ok(())
 }
 
-// The lines of these mementos: whether the head is the first of all, and whether more follow the last.
+/// The lines of these mementos: whether the head is the first of all, and whether more follow the last.
 fn push_mementos(
     out: &mut Vec<u8>,
     dates: &mut DateWriter,
@@ -227,14 +227,14 @@ fn push_mementos(
     Ok(())
 }
 
-// Whether a memento is the last of all: none is left behind it in its stretch, and no more follow that.
+/// Whether a memento is the last of all: none is left behind it in its stretch, and no more follow that.
 fn is_last(more: bool, rest: &[Memento]) -> bool
     ensures { result ≡ (not more && (length rest.now == 0)) }
 {
     !more && rest.is_empty()
 }
 
-// The bytes of an index of so many pages, as far as a size can say them.
+/// The bytes of an index of so many pages, as far as a size can say them.
 fn index_size(service: &Service, original: &Original, pages: usize) -> usize {
     let addresses = service.base().len() + original.as_bytes().len();
     let head = LISTING_FRAME + 2 * service.base().len() + 3 * original.as_bytes().len();
@@ -243,7 +243,7 @@ fn index_size(service: &Service, original: &Original, pages: usize) -> usize {
         .saturating_add(head + TIMEMAP_PATH.len())
 }
 
-// The bytes of the text: memory is asked for once. Where they exceed every size, the allocator refuses.
+/// The bytes of the text: memory is asked for once. Where they exceed every size, the allocator refuses.
 fn listing_size(
     service: &Service,
     original: &Original,

@@ -6,7 +6,7 @@ use std::io;
 use std::io::{Error, ErrorKind, Read, Write};
 use std::test::*;
 
-// Lines that are empty stand between commands, and nothing ends the last one.
+/// Lines that are empty stand between commands, and nothing ends the last one.
 const SCRIPT: &[u8] = b"
 replicas 2 http://agg.example
 
@@ -106,7 +106,7 @@ impl Write for FailingWriter<'_> {
     }
 }
 
-// How the replay of a script ends, where just this is written.
+/// How the replay of a script ends, where just this is written.
 fn ended(alloc: Global, script: &[u8], wanted: &[u8]) -> Option<Result<(), ReplayFault>> {
     let mut reader = Watched::new(script);
     let mut writer = Watched::new(Vec::new(alloc));
@@ -125,7 +125,7 @@ fn scripts(rt: HostRuntime) {
     assert_eq!(rt; ended(alloc, SCRIPT, SAYS), Some(Ok(())));
 }
 
-// What is written before the bad line, and its number.
+/// What is written before the bad line, and its number.
 #[test]
 fn bad_lines(rt: HostRuntime) {
     let cases: [(&[u8], &[u8], u64); 7] = [
@@ -157,7 +157,7 @@ fn bad_lines(rt: HostRuntime) {
     }
 }
 
-// What a replay gives of a script that is read a byte at a time, with at most so many reads, and how much it writes.
+/// What a replay gives of a script that is read a byte at a time, with at most so many reads, and how much it writes.
 fn replay_by_bytes(alloc: Global, rest: &[u8], reads: usize) -> (Result<(), ReplayFault>, usize) {
     let mut reader = Watched::new(FailingReader { rest, reads });
     let mut writer = Watched::new(Vec::new(alloc));
@@ -165,7 +165,7 @@ fn replay_by_bytes(alloc: Global, rest: &[u8], reads: usize) -> (Result<(), Repl
     (result, writer.device().len())
 }
 
-// A reader may give a byte at a time for as long as it likes, below the limit of a thousand million reads.
+/// A reader may give a byte at a time for as long as it likes, below the limit of a thousand million reads.
 #[test]
 fn many_reads(rt: HostRuntime) -> Result<()> {
     let lines = vec![in rt.alloc(); b'\n'; 1_000_001]?;
@@ -183,7 +183,7 @@ fn failing_readers(rt: HostRuntime) {
     }
 }
 
-// Whether a replay to a writer that fails after so many bytes has written just these, and says whether that were all.
+/// Whether a replay to a writer that fails after so many bytes has written just these, and says whether that were all.
 fn is_cut_at(alloc: Global, script: &[u8], wanted: &[u8], writes: usize) -> bool {
     let mut reader = Watched::new(script);
     let mut output = Vec::new(alloc);

@@ -17,7 +17,7 @@ const FIRST: (u64, &[u8]) = (FIRST_DAY, b"http://m.example/1");
 
 const SECOND: (u64, &[u8]) = (THIRD_DAY, b"http://m.example/2");
 
-// How the TimeMap of both ends. The whole of it stands in `examples/two.expected`.
+/// How the TimeMap of both ends. The whole of it stands in `examples/two.expected`.
 const END: &[u8] =
     b"<http://m.example/2>; rel=\"last memento\"; datetime=\"Mon, 03 Jan 2000 00:00:00 GMT\"\n";
 
@@ -29,7 +29,7 @@ fn one_replica(alloc: Global) -> Result<World> {
     Ok(World::new(alloc, 1, service(alloc)?)?)
 }
 
-// A replica takes a whole harvest of the root by one archive.
+/// A replica takes a whole harvest of the root by one archive.
 fn take(alloc: Global, replica: usize, revision: u64, captures: &[(u64, &[u8])]) -> Result<Event> {
     let mementos = mementos(alloc, captures)?;
     Ok(Event::Take(replica, harvest(alloc, b"a1", ROOT, revision, mementos)?))
@@ -42,7 +42,7 @@ fn reply_of(answer: &Answer) -> Option<&Reply> {
     }
 }
 
-// Two replicas each take one memento and send it.
+/// Two replicas each take one memento and send it.
 fn sends(alloc: Global) -> Result<Vec<Event>> {
     let first = take(alloc, 1, 5, &[FIRST])?;
     let second = take(alloc, 2, 5, &[SECOND])?;
@@ -55,7 +55,7 @@ fn push_deliveries(events: &mut Vec<Event>) -> Result<()> {
     Ok(())
 }
 
-// Two replicas each take one memento, send it, and get what the other sent.
+/// Two replicas each take one memento, send it, and get what the other sent.
 fn exchange(alloc: Global) -> Result<Vec<Event>> {
     let mut events = sends(alloc)?;
     push_deliveries(&mut events)?;
@@ -91,7 +91,7 @@ fn replicas_with_one_state(rt: HostRuntime) -> Result<()> {
     Ok(())
 }
 
-// Whether the replica shows no memento of the original.
+/// Whether the replica shows no memento of the original.
 fn shows_nothing(alloc: Global, world: &World, replica: usize) -> Result<bool> {
     let answer = world.ask(replica, &get(alloc, MAP)?);
     Ok(match reply_of(&answer) {
@@ -104,7 +104,7 @@ fn shows_both(alloc: Global, world: &World, replica: usize) -> Result<bool> {
     Ok(is_timemap_of_both(&world.ask(replica, &get(alloc, MAP)?)))
 }
 
-// The length of the replica's TimeMap.
+/// The length of the replica's TimeMap.
 fn timemap_length(alloc: Global, world: &World, replica: usize) -> Result<usize> {
     let answer = world.ask(replica, &get(alloc, MAP)?);
     let reply = reply_of(&answer).context("no reply")?;
@@ -115,12 +115,12 @@ fn restarts(world: &mut World, replica: usize) -> bool {
     matches!(world.step(&Event::Restart(replica)), Ok(Said::Restarted))
 }
 
-// Whether replica 1 shows nothing once it restarts, while the other still shows something.
+/// Whether replica 1 shows nothing once it restarts, while the other still shows something.
 fn forgets_by_a_restart(alloc: Global, world: &mut World) -> Result<bool> {
     Ok(restarts(world, 1) && shows_nothing(alloc, world, 1)? && !shows_nothing(alloc, world, 2)?)
 }
 
-// Whether replica 1 gets back one memento by the other's message, and both by its own.
+/// Whether replica 1 gets back one memento by the other's message, and both by its own.
 fn learns_again(alloc: Global, world: &mut World) -> Result<bool> {
     world.step(&Event::Deliver(1, 2))?;
     let one = timemap_length(alloc, world, 1)?;
@@ -138,7 +138,7 @@ fn replicas_restart(rt: HostRuntime) -> Result<()> {
     Ok(())
 }
 
-// As a script writes them behind `refused`.
+/// As a script writes them behind `refused`.
 #[test]
 fn refusals_have_words(rt: HostRuntime) -> Result<()> {
     let held = Some(Cursor {
