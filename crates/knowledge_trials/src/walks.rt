@@ -167,7 +167,7 @@ fn walks(alloc: Global, numbers: &mut Generator, merges: u64) -> Result<bool> {
 #[test]
 fn thousands_of_merges_are_listed(rt: HostRuntime) -> Result<()> {
     let mut numbers = Generator { seed: 7 };
-    for (indexes, merges) in [(1, 200), (100, 25)] {
+    for (indexes, merges) in [(1, 1_000), (100, 25)] {
         for _ in 0..indexes {
             assert!(rt;
                 walks(rt.alloc(), &mut numbers, merges)?,
