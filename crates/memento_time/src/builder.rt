@@ -40,8 +40,8 @@ impl MementosBuilder {
         }
     }
 
-    /// Adds a memento, whose address is copied. `NotClean` where it isn't a clean text; `NoMemory` also where the
-    /// addresses would have 4 GiB.
+    /// Adds a memento and copies its address. `NotClean` if the address isn't a clean text; `NoMemory` also if the
+    /// addresses together would have 4 GiB.
     pub fn push(&mut self, at: Moment, uri: &[u8]) -> Result<(), CleanFault>
         ensures ok { OnOk result (self.new ≡ self.old ++ record { at = at; uri = uri.now } ∷ []) }
         ensures clean { OnOk result (IsClean uri.now) }
@@ -62,7 +62,7 @@ impl MementosBuilder {
         }
     }
 
-    /// The mementos, in the order in which they were added. Their addresses share one buffer without spare room.
+    /// The mementos, in the order in which they were added. Their addresses share one buffer that has no spare room.
     pub fn build(self, alloc: Global) -> Result<Vec<Memento>, AllocError>
         ensures { IfOk result (λ mementos. mementos.items ≡ self) }
     {

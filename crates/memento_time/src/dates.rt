@@ -1,4 +1,5 @@
-//! Rows of dates. Neighbours mostly share their day, so that a date is read and written by its clock alone.
+//! Reads and writes dates in a row. Neighbours mostly share their day, so only the clock of such a date has to be read
+//! or written.
 ghost use Rattle.std.specs.Prelude.{◌≡◌, ◌<◌, ◌≤◌, ◌*◌, drop, IfNone, IfSome, IsTrue};
 ghost use Rattle.memento_time.specs.Clock.{clock_text, day_of};
 ghost use Rattle.memento_time.specs.Second.{imf, Reads};
@@ -14,7 +15,8 @@ const EPOCH: &[u8; 29] = b"Thu, 01 Jan 1970 00:00:00 GMT";
 /// Where the clock begins in an IMF-fixdate.
 const CLOCK: usize = 17;
 
-/// Reads dates one after another, each as `Moment::read_imf` does: the day that it has read last only spares time.
+/// Reads dates one after another, each as `Moment::read_imf` does. It remembers the last day that it read, only to save
+/// time.
 #[derive(Debug, Drop)]
 pub struct DateReader {
     text: [u8; 29],
@@ -26,7 +28,7 @@ impl Model for DateReader {
     ghost use Rattle.memento_time.specs.Clock.{day_of};
     ghost use Rattle.memento_time.specs.Second.{Reads};
 
-    // The day that was read last, counted from 1 January 1970; 0 where none was.
+    // The day that was read last, counted from 1 January 1970; 0 if none was.
     ghost Value = { ℕ };
 
     ghost view = { λ reader. day_of reader.moment };
@@ -45,7 +47,7 @@ impl DateReader {
         }
     }
 
-    /// Reads an IMF-fixdate (RFC 9110, section 5.6.7). The name of the day needn't fit the date.
+    /// Reads an IMF-fixdate (RFC 9110, section 5.6.7). The name of the day doesn't have to fit the date.
     pub fn read(&mut self, text: &[u8]) -> Option<Moment>
         ensures read { result ≡ second_of text.now }
         ensures day { IfSome result (λ s. self.new ≡ day_of s) }
@@ -75,7 +77,8 @@ impl DateReader {
     }
 }
 
-/// Writes dates one after another, each as `Moment::to_imf` does: what it has written before only spares time.
+/// Writes dates one after another, each as `Moment::to_imf` does. It remembers the last day that it wrote, only to save
+/// time.
 #[derive(Debug, Drop)]
 pub struct DateWriter {
     text: [u8; 29],
@@ -87,7 +90,7 @@ impl Model for DateWriter {
     ghost use Rattle.memento_time.specs.Clock.{day_of};
     ghost use Rattle.memento_time.specs.Second.{imf};
 
-    // The day that was written last, counted from 1 January 1970; 0 where none was.
+    // The day that was written last, counted from 1 January 1970; 0 if none was.
     ghost Value = { ℕ };
 
     ghost view = { λ writer. day_of writer.moment };
@@ -123,7 +126,7 @@ impl DateWriter {
     }
 }
 
-/// The second of the day that the clock of a date shows.
+/// The second of the day that a date's clock shows.
 fn read_clock(text: &[u8; 29]) -> Option<u64>
     ensures { IfSome result (λ secs. (secs < 86400) × (drop 17 text.now ≡ clock_text secs)) }
 {
@@ -131,7 +134,7 @@ fn read_clock(text: &[u8; 29]) -> Option<u64>
     let minute = number(text[20], text[21]);
     let second = number(text[23], text[24]);
     let secs = hour * 3600 + minute * 60 + second;
-    // Whatever the bytes are: it is this second that they show, or none.
+    // Whatever the bytes are, they show this second or none.
     if secs < DAY && is_same(text.last_chunk()?, &to_clock(secs)) {
         Some(secs)
     } else {
@@ -139,7 +142,7 @@ fn read_clock(text: &[u8; 29]) -> Option<u64>
     }
 }
 
-/// Whether the bytes are the same. Looks at all of them: a loop without an exit compares many at once.
+/// Whether the bytes are the same. Looks at all of them, because a loop without an early exit compares many at once.
 #[inline(always)]
 fn is_same<const N: usize>(a: &[u8; N], b: &[u8; N]) -> bool
     ensures { IsTrue result → a.now ≡ b.now }
@@ -151,14 +154,14 @@ fn is_same<const N: usize>(a: &[u8; N], b: &[u8; N]) -> bool
     same
 }
 
-/// The number of these two digits; any where they are none.
+/// The number that these two digits write; any number if they aren't digits.
 fn number(tens: u8, ones: u8) -> u64
     ensures { result ≤ 11 * 255 }
 {
     u64::from(tens.wrapping_sub(b'0')) * 10 + u64::from(ones.wrapping_sub(b'0'))
 }
 
-/// The clock of a second, as `08:49:37 GMT`.
+/// The clock of a second, such as `08:49:37 GMT`.
 #[tactic(auto, unfolding(crate::specs::Clock::clock_text))]
 fn to_clock(secs: u64) -> [u8; 12]
     ensures { result ≡ clock_text secs }

@@ -1,10 +1,10 @@
-//! The form of an IMF-fixdate, and dates before 1970 in it.
+//! The form of an IMF-fixdate, and the dates before 1970 that have it.
 ghost use Rattle.std.specs.Prelude.{◌≡◌, length};
 ghost use Rattle.std.specs.List.{list_all, zip};
 ghost use Rattle.memento_time.specs.Names.{day_names, month_names};
 ghost use Rattle.memento_time.specs.BeforeEpoch as spec;
 
-/// A digit stands at each `0`, a name at the question marks, and the rest as it is.
+/// Each `0` stands for a digit and the question marks for a name; all other bytes stand for themselves.
 const FORM: [u8; 29] = *b"???, 00 ??? 0000 00:00:00 GMT";
 
 pub(crate) const DAY_NAMES: [[u8; 3]; 7] = [

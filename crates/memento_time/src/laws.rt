@@ -28,14 +28,15 @@ pub fn orders_are_plain()
     ensures mementos { ⟦<Memento as Ord>⟧.cmp ≡ memento_cmp }
 {}
 
-/// Of two mementos one comes first, unless both are one.
+/// Of two different mementos, exactly one comes before the other.
 pub fn mementos_are_ordered()
     ensures total { IsTotalOrder memento_cmp }
     ensures exact { (a b : Captured) → memento_cmp a b ≡ Equal → a ≡ b }
 {}
 
-/// The text of each second reads as that second, and no text reads as two. The functions that pages and requests are
-/// read by find these readings: `second_of` what a text reads as, `asked_of` what it asks for.
+/// The text of each second reads as that second, and no text reads as two seconds. The functions that read pages and
+/// requests find these readings: `second_of` finds the second that a text reads as, `asked_of` the one that it asks
+/// for.
 pub fn texts_are_read()
     ensures own { (s : ℕ) → IsSecond s → Reads (imf s) s }
     ensures one { (text : List ℕ) (s t : ℕ) → Reads text s → Reads text t → s ≡ t }
@@ -43,8 +44,8 @@ pub fn texts_are_read()
     ensures asked { (text : List ℕ) (s : ℕ) → (asked_of text ≡ Some s) ↔ Asks text s }
 {}
 
-/// The date of a second, counted day after day, is one of the calendar, and the days of whole years and months lead
-/// back from it to the second.
+/// The date of a second, counted day after day, is a date of the calendar, and counting the days of whole years and
+/// months leads back from it to the second.
 pub fn dates_are_of_the_calendar()
     ensures valid { (s : ℕ) → IsSecond s → IsValid (civil_time s) }
     ensures back { (s : ℕ) → IsSecond s → parts_secs (civil_time s) ≡ s }
@@ -52,12 +53,12 @@ pub fn dates_are_of_the_calendar()
     ensures of_rfc_9110 { imf 784111777 ≡ codes "Sun, 06 Nov 1994 08:49:37 GMT" }
 {}
 
-/// Trimming takes away such bytes alone, and all that stand at an end.
+/// Trimming removes only such bytes, and all of them that are at an end.
 pub fn blanks_are_cut()
     ensures { (test : ℕ → Bool) (text : List ℕ) → IsTrimmed test text (trim test text) }
 {}
 
-/// The dates before 1970, tested byte by byte, are the IMF-fixdates of those years.
+/// The texts that the test finds to be dates before 1970, byte by byte, are the IMF-fixdates of those years.
 pub fn early_dates_are_dates()
     ensures { (text : List ℕ) → IsTrue (is_before_epoch text) ↔ IsBeforeEpoch text }
 {}

@@ -34,7 +34,7 @@ impl Model for Moment {
 const LAST_SECOND: u64 = 253_402_300_799;
 
 impl Moment {
-    /// The moment of a second; None above 253402300799, the last second of the year 9999.
+    /// The moment at this second; `None` above 253402300799, the last second of the year 9999.
     pub fn from_secs(secs: u64) -> Option<Moment>
         ensures { SomeIff result (IsSecond secs) secs }
     {
@@ -60,7 +60,7 @@ impl Moment {
         HttpDate::from_unix_secs(self.secs).unwrap().to_bytes()
     }
 
-    /// Reads an IMF-fixdate (RFC 9110, section 5.6.7). The name of the day needn't fit the date.
+    /// Reads an IMF-fixdate (RFC 9110, section 5.6.7). The name of the day doesn't have to fit the date.
     pub fn read_imf(text: &[u8]) -> Option<Moment>
         ensures read { IfSome result (λ s. Reads text.now s) }
         ensures exact { (s : ℕ) → Reads text.now s → result ≡ Some s }
@@ -71,21 +71,21 @@ impl Moment {
         if !is_day_name(own_name) {
             return None;
         }
-        // Nearly every date bears the right name, so that one is tried before the seven.
+        // Nearly every date has the right name, so that name is tried before all seven.
         if let Some(date) = date_under(&own_name, bytes) {
             return Some(Moment {
                 secs: date.unix_secs(),
             });
         }
-        // Most texts that are no dates have another form, and are parsed no further.
+        // Most texts that aren't dates have another form, and aren't parsed any further.
         if !fits_form(bytes) {
             return None;
         }
         date_under_any_name(bytes)
     }
 
-    /// Reads the value of `Accept-Datetime` (RFC 7089, section 2.1.1): an IMF-fixdate, perhaps between spaces and tabs.
-    /// A date before 1970 asks for second 0, since no memento is earlier.
+    /// Reads the value of `Accept-Datetime` (RFC 7089, section 2.1.1): an IMF-fixdate, optionally between spaces and
+    /// tabs. A date before 1970 asks for second 0, since no memento is earlier.
     #[tactic(auto, unfolding(crate::specs::SecondOf::asked_of))]
     pub fn read_asked(text: &[u8]) -> Option<Moment>
         ensures asked { IfSome result (λ s. Asks text.now s) }
@@ -125,7 +125,7 @@ fn is_day_name(name: [u8; 3]) -> bool
     DAY_NAMES.contains(&name)
 }
 
-/// The date that the text shows under this day's name in place of its own. `httpdate` takes the right name only.
+/// The date that the text shows when this day's name replaces its own. `httpdate` accepts only the right name.
 fn date_under(name: &[u8; 3], text: &[u8; 29]) -> Option<HttpDate>
     ensures shown { IfSome result (λ date. name.now ++ drop 3 text.now ≡ date_text date) }
     ensures none { IfNone result ((date : Date) → ¬ (name.now ++ drop 3 text.now ≡ date_text date)) }
