@@ -1,4 +1,4 @@
-//! Usual bytes, which make up most of a text, are skipped sixteen at a time.
+//! Skips usual bytes, which make up most of a text, sixteen at a time.
 ghost use Rattle.std.specs.Prelude.{◌≡◌, ◌<◌, ◌≤◌, ℕ, length, slice_index, true};
 ghost use Rattle.link_format.specs.Bytes.{is_plain, is_target_byte, is_usual};
 ghost use Rattle.link_format.specs.Scan.{first_lane, past};
@@ -7,7 +7,7 @@ use std::simd::prelude::*;
 
 const LANES: usize = 16;
 
-/// The lane of the lowest bit that is set, or how many lanes there are.
+/// The lane of the lowest set bit, or the number of lanes if no bit is set.
 #[inline(always)]
 fn first_lane(mask: u64) -> usize
     ensures { result ≡ first_lane mask }
@@ -35,8 +35,8 @@ fn usual_run(text: &[u8]) -> usize
     first_lane(unusual.to_bitmask())
 }
 
-/// Cuts usual bytes from the front, perhaps not all of them. What comes after the target bytes at
-/// the front is the same before and after the cut, and so is what comes after the plain ones.
+/// Cuts usual bytes from the front, perhaps not all of them. The cut doesn't change what comes after the target bytes
+/// at the front, nor what comes after the plain bytes at the front.
 #[inline]
 pub(crate) fn skip_usual(text: &[u8]) -> &[u8]
     ensures target { past is_target_byte result.now ≡ past is_target_byte text.now }

@@ -41,7 +41,7 @@ fn is_same_name(a: &[u8], b: &[u8]) -> bool
     a.eq_ignore_ascii_case(b)
 }
 
-/// The bytes that a quoted text says, up to the closing quote.
+/// The bytes that a quoted text stands for, up to the closing quote.
 fn unquote(alloc: Global, text: &[u8]) -> Result<Vec<u8>, AllocError>
     ensures { IfOk result (λ v. v.items ≡ quoted_bytes false text.now) }
 {
@@ -63,7 +63,7 @@ fn unquote(alloc: Global, text: &[u8]) -> Result<Vec<u8>, AllocError>
     Ok(out)
 }
 
-/// The bytes that a value says: a part of the text, or a copy where something in it is escaped.
+/// The bytes that a value stands for: a slice of the text, or a copy if something in it is escaped.
 pub(crate) fn value_bytes(
     alloc: Global,
     value: Option<ValueSpan<'_>>,
@@ -94,7 +94,7 @@ pub(crate) fn find_param<'a>(text: &'a [u8], name: &[u8]) -> Option<ParamSpan<'a
     None
 }
 
-/// The one that is held, or else the next one, where it has the name.
+/// The parameter that is already held, or else the next one if it has the name.
 #[inline(always)]
 fn first_of<'a>(
     held: Option<ParamSpan<'a>>,
@@ -116,7 +116,7 @@ fn first_of<'a>(
     }
 }
 
-/// The one that is held, or else the one that was found, where it has the name.
+/// The parameter that is already held, or else the one that was found if it has the name.
 #[inline(always)]
 pub(crate) fn first_found<'a>(
     held: Option<ParamSpan<'a>>,

@@ -16,7 +16,7 @@ use crate::spans::LinkSpan;
 use std::alloc::Global;
 use std::marker::Model;
 
-/// The next link of a text, and what stands behind its comma; None where there is no more link.
+/// The next link of a text, and what follows its comma; `None` if there is no further link.
 #[inline(always)]
 fn next_span(text: &[u8]) -> Result<Option<(LinkSpan<'_>, Option<&[u8]>)>, usize>
     ensures some { IfOk result (λ found. IfSome found (λ x.
@@ -38,7 +38,7 @@ fn next_span(text: &[u8]) -> Result<Option<(LinkSpan<'_>, Option<&[u8]>)>, usize
     }
 }
 
-/// Whether a link that stands behind this many others passes no limit.
+/// Whether a link that follows this many others exceeds no limit.
 fn is_within(others: usize, link: LinkSpan<'_>) -> bool
     ensures { IsTrue result ↔ IsWithin others (link_of link.entry) }
 {
@@ -61,7 +61,7 @@ fn first_fault(alloc: Global, text: &[u8]) -> LinkFault
 pub struct LinkReader<'a> {
     alloc: Global,
     text: &'a [u8],
-    /// What follows the links that were read, and the comma behind them.
+    /// What follows the links that were read and the comma after them.
     rest: Option<&'a [u8]>,
     /// How many were read.
     count: usize,
@@ -91,15 +91,15 @@ impl<'a> LinkReader<'a> {
         }
     }
 
-    /// The next link; None where there is no more.
+    /// The next link; `None` if there are no more.
     ///
-    /// A link is given before what follows it is looked at. So it is a link of the text whether or not the text has a
-    /// reading: with those before it, it is the reading of a beginning that ends at a comma or with the text
-    /// (`begins`).
+    /// A link is given before anything after it is looked at. So it is a link of the text whether or not the whole text
+    /// has a reading: together with the links before it, it is the reading of a prefix that ends at a comma or with the
+    /// text (`begins`).
     ///
-    /// A fault is the text's, as `read_links` tells it, and leaves the reader as it was. It is told once reading comes
-    /// to it: the links before it are read. A link that passes a limit has the whole text read, to tell the first
-    /// fault.
+    /// A fault is the text's fault, as `read_links` reports it, and leaves the reader as it was. It is reported when
+    /// reading comes to it, so the links before it are still read. If a link exceeds a limit, the whole text is read to
+    /// find its first fault.
     pub fn read(&mut self) -> Result<Option<LinkRef<'a>>, LinkFault>
         ensures link { IfOk result (λ found. IfSome found (λ link.
             (links : List Link) → Reading self.old.text links → slice_get links self.old.count ≡ Some link)) }

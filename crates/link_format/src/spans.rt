@@ -8,7 +8,7 @@ ghost use Rattle.link_format.specs.Usual.{SaysMemento};
 pub(crate) enum ValueSpan<'a> {
     /// A token, or a quoted text without `\`: the bytes that are meant.
     Plain(&'a [u8]),
-    /// A quoted text with `\` in it: all that stands behind the opening quote.
+    /// A quoted text with `\` in it: everything after the opening quote.
     Escaped(&'a [u8]),
 }
 
@@ -22,11 +22,11 @@ pub(crate) struct ParamSpan<'a> {
 /// The parameters of a link, as they stand in the text.
 #[derive(Clone, Copy)]
 pub(crate) struct ParamsSpan<'a> {
-    /// All that stands behind the target's `>`, the parameters at the front.
+    /// Everything after the target's `>`, with the parameters at the front.
     pub text: &'a [u8],
-    /// How many they are.
+    /// How many parameters there are.
     pub count: usize,
-    /// The datetime of a memento; none also where a value has to be unescaped to know it.
+    /// The datetime of a memento; none also if a value has to be unescaped to know it.
     pub usual: Option<&'a [u8]>,
     ghost counted: { count ≡ length (params_of text.now) },
     ghost says: { (datetime : List ℕ) → option_map (λ u. u.now) usual ≡ Some datetime

@@ -1,5 +1,5 @@
-//! What nearly every link of a TimeMap says: the relation type `memento`, and a datetime (RFC 7089, section 5). Where
-//! its parameters begin with these two, they are read by their words.
+//! What nearly every link of a TimeMap says: the relation type `memento`, and a datetime (RFC 7089, section 5). If a
+//! link's parameters begin with these two, they are read word by word.
 ghost use Rattle.std.specs.Prelude.{◌≡◌, ◌+◌, ◌≤◌, ◌++◌, length, codes, IfSome, Some};
 ghost use Rattle.link_format.specs.Scan.{behind_params, params_of};
 ghost use Rattle.link_format.specs.Spans.{value_from};
@@ -22,13 +22,13 @@ fn skip_semicolon(text: &[u8]) -> Option<&[u8]>
     Some(skip_while(Class::Blank, rest))
 }
 
-/// What follows the word, where the text begins with it.
+/// What follows the word, if the text begins with it.
 #[inline(always)]
 fn skip_word<'a, const N: usize>(word: &[u8; N], text: &'a [u8]) -> Option<&'a [u8]>
     ensures { IfSome result (λ rest. text.now ≡ word.now ++ rest.now) }
 {
     let (front, rest) = text.split_first_chunk::<N>()?;
-    // A loop without an exit compares many bytes at once.
+    // A loop without an early exit compares many bytes at once.
     let mut same = true;
     for k in 0..N {
         same &= front[k] == word[k];
@@ -72,7 +72,7 @@ pub(crate) fn split_usual(text: &[u8]) -> Option<(&[u8], &[u8])>
     Some((datetime, rest))
 }
 
-/// The datetime, where the relation type is just `memento` and neither value has to be unescaped.
+/// The datetime, if the relation type is just `memento` and neither value has to be unescaped.
 #[inline(always)]
 pub(crate) fn memento_datetime<'a>(
     rel: Option<ParamSpan<'a>>,
