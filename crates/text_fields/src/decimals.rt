@@ -1,4 +1,4 @@
-//! Decimals of 64 bits.
+//! Decimals of 64-bit numbers.
 ghost use Rattle.std.specs.Prelude.{◌≡◌, ◌↔◌, ℕ, ◌+◌, ◌-◌, ◌*◌, ◌^◌, ◌<◌, ◌++◌, length};
 ghost use Rattle.std.specs.Prelude.{slice_index, IsTrue, IfSome, IfNone, OnOk, OnErr};
 ghost use Rattle.std.specs.Option.{SomeIff};
@@ -10,7 +10,7 @@ ghost use Rattle.text_fields.specs.Decimals.{IsDecimal, number_of};
 use itoa::Buffer;
 use std::alloc::AllocError;
 
-/// Writes a number's decimal behind what is there. After an error nothing is written.
+/// Appends a number's decimal. After an error nothing is written.
 pub fn write_decimal(out: &mut Vec<u8>, number: u64) -> Result<(), AllocError>
     ensures ok { OnOk result (out.new.items ≡ out.old.items ++ decimal number) }
     ensures err { OnErr result (out.new.items ≡ out.old.items) }
@@ -20,7 +20,7 @@ pub fn write_decimal(out: &mut Vec<u8>, number: u64) -> Result<(), AllocError>
     out.extend_from_slice(buffer.format(number).as_bytes())
 }
 
-/// The number with one more digit behind it.
+/// The number with one more digit at its end.
 fn append_digit(number: u64, digit: u8) -> Option<u64>
     ensures { let next = number * 10 + (digit - 48) in
         SomeIff result (IsInRange 48 57 digit × (next < 2 ^ 64)) next }
@@ -31,7 +31,7 @@ fn append_digit(number: u64, digit: u8) -> Option<u64>
     number.checked_mul(10)?.checked_add(u64::from(digit - b'0'))
 }
 
-/// The number that digits write, with any zeros in front.
+/// The number that digits write, however many zeros are in front.
 fn read_digits(digits: &[u8]) -> Option<u64>
     ensures { let value = digits_value 10 digits.now in
         SomeIff result (AllDigits 10 digits.now × (value < 2 ^ 64)) value }
@@ -43,7 +43,7 @@ fn read_digits(digits: &[u8]) -> Option<u64>
     Some(number)
 }
 
-/// Whether there are digits, and no zero in front of another.
+/// Whether there are digits, and no zero in front of another digit.
 fn has_decimal_front(digits: &[u8]) -> bool
     ensures { IsTrue result
         ↔ (0 < length digits.now) × (slice_index digits.now 0 ≡ 48 → length digits.now ≡ 1) }
@@ -55,7 +55,7 @@ fn has_decimal_front(digits: &[u8]) -> bool
     }
 }
 
-/// The number of 64 bits whose decimal this is.
+/// The 64-bit number whose decimal this is.
 pub fn read_decimal(digits: &[u8]) -> Option<u64>
     ensures found { IfSome result (IsDecimal digits.now) }
     ensures none { IfNone result ((n : ℕ) → ¬ IsDecimal digits.now n) }

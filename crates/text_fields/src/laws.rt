@@ -4,12 +4,12 @@ ghost use Rattle.text_fields.specs.Finds.{Finds};
 ghost use Rattle.text_fields.specs.Decimals.{IsDecimal, number_of};
 ghost use Rattle.text_fields.specs.Parts.{IsSplit, parts_at};
 
-/// Digits are read as the one number whose decimal they are.
+/// Digits are read as exactly the number whose decimal they are.
 pub fn decimals_are_read_back()
     ensures { (digits : List ℕ) → Finds (number_of digits) (IsDecimal digits) }
 {}
 
-/// A text is split where the byte stands between two parts of which the first lacks it.
+/// A text is split at the byte into two parts, the first of which doesn't have the byte.
 pub fn parts_are_read_back()
     ensures { (byte : ℕ) (text : List ℕ) → Finds (parts_at byte text) (IsSplit byte text) }
 {}

@@ -1,8 +1,8 @@
-//! The fields of a text's lines: what stands before a space or an LF, and decimals of 64 bits.
+//! The fields of a text's lines, which end at a space or an LF, and decimals of 64-bit numbers.
 //!
-//! `split_once` cuts a text at the first of a byte; `next_field` does so at a space and `next_line` at an LF.
-//! `read_decimal` reads just what `write_decimal` writes: the decimals of the numbers below 2^64, without a sign and
-//! with no zero in front of another digit.
+//! `split_once` splits a text at the first occurrence of a byte; `next_field` splits at a space and `next_line` at an
+//! LF. `read_decimal` reads exactly what `write_decimal` writes: the decimals of the numbers below 2^64, without a sign
+//! and with no zero in front of another digit.
 #![tactic(auto)]
 
 mod decimals;

@@ -1,11 +1,11 @@
-//! The parts of a text that a byte ends.
+//! Splits a text at a byte.
 ghost use Rattle.std.specs.Prelude.{◌≡◌, ◌++◌, ◌∷◌, IfSome, IfNone};
 ghost use Rattle.std.specs.Option.{option_map};
 ghost use Rattle.text_fields.specs.Parts.{Lacks, parts_at, space, line_end};
 
 use memchr::memchr;
 
-/// What stands before the first of a byte, and what stands behind it.
+/// What comes before the first occurrence of a byte, and what comes after it.
 pub fn split_once(text: &[u8], byte: u8) -> Option<(&[u8], &[u8])>
     ensures found { IfSome result (λ p. text.now ≡ p.0.now ++ byte ∷ p.1.now) }
     ensures first { IfSome result (λ p. Lacks byte p.0.now) }
@@ -16,7 +16,7 @@ pub fn split_once(text: &[u8], byte: u8) -> Option<(&[u8], &[u8])>
     Some((&text[..at], &text[at + 1..]))
 }
 
-/// The field that a space ends, and what stands behind the space.
+/// The field that ends at the first space, and what follows the space.
 pub fn next_field(text: &[u8]) -> Option<(&[u8], &[u8])>
     ensures found { IfSome result (λ p. text.now ≡ p.0.now ++ space ∷ p.1.now) }
     ensures first { IfSome result (λ p. Lacks space p.0.now) }
@@ -26,7 +26,7 @@ pub fn next_field(text: &[u8]) -> Option<(&[u8], &[u8])>
     split_once(text, b' ')
 }
 
-/// The line that an LF ends, and what stands behind the LF.
+/// The line that ends at the first LF, and what follows the LF.
 pub fn next_line(text: &[u8]) -> Option<(&[u8], &[u8])>
     ensures found { IfSome result (λ p. text.now ≡ p.0.now ++ line_end ∷ p.1.now) }
     ensures first { IfSome result (λ p. Lacks line_end p.0.now) }
