@@ -1,4 +1,5 @@
-//! Reads texts as URLs (the URL Standard, as the crate `url` has it), with one answer where memory is refused.
+//! Reads texts as URLs (the URL Standard, as the crate `url` implements it), with a single error for memory that is
+//! refused.
 #![tactic(auto)]
 
 mod reading;
