@@ -1,4 +1,4 @@
-//! Originals: the addresses that clients and archives are asked for.
+//! Originals: the addresses that clients ask for, and for which archives are asked.
 ghost use Rattle.std.specs.Prelude.{◌≡◌, ◌⊎◌, ◌<◌, Some, IfOk, IfErr, Ok, Err, length};
 ghost use Rattle.memento_time.specs.Text.{IsOriginal};
 ghost use Rattle.url_texts.specs.Followed.{IsFollowed};
@@ -16,7 +16,7 @@ use url_texts::read_url;
 /// Why a text names no original.
 #[derive(Clone, Copy, Debug, PartialEq, Eq)]
 pub enum OriginalFault {
-    /// It is no URL, as `url` reads it without a base.
+    /// The text isn't a URL that `url` reads without a base.
     NotUrl,
     /// The URL's scheme is neither `http` nor `https`.
     NotHttp,
@@ -52,7 +52,7 @@ impl From<AllocError> for OriginalFault {
     }
 }
 
-/// The original that is written so, once it is clean.
+/// The original that is written like this, once it has been made clean.
 fn clean_original(alloc: Global, written: &[u8]) -> Result<Original, OriginalFault>
     requires { 0 < length written.now }
     ensures read { IfOk result (λ original. within_limit (clean_text written.now) ≡ Ok original) }
@@ -60,7 +60,7 @@ fn clean_original(alloc: Global, written: &[u8]) -> Result<Original, OriginalFau
     ensures refused { IfErr result (λ fault.
         (within_limit (clean_text written.now) ≡ Err fault) ⊎ (fault ≡ OriginalFault.NoMemory)) }
 {
-    // Most are clean as they stand.
+    // Most are already clean.
     match Original::new(alloc, written) {
         Ok(original) => return Ok(original),
         Err(CleanFault::NotClean) => {}
@@ -73,12 +73,12 @@ fn clean_original(alloc: Global, written: &[u8]) -> Result<Original, OriginalFau
     }
 }
 
-/// Reads the original that a text names: an http or https URL as `url` reads it without a base and
-/// writes it, without its fragment. What is written is made clean: each byte that isn't a visible
-/// ASCII character, and each `<`, `>` and `"`, is written as `%` and two hexadecimal digits.
+/// Reads the original that a text names: an http or https URL, as `url` reads it without a base and writes it, without
+/// its fragment. What `url` writes is then made clean: each byte that isn't a visible ASCII character, and each `<`,
+/// `>` and `"`, is written as `%` and two hexadecimal digits.
 ///
-/// A text of more than 4,096 bytes is TooLong before it is looked at; so is, last of all, an original
-/// of more than 4,096 bytes.
+/// A text of more than 4,096 bytes is `TooLong`, and isn't looked at. As the last check, an original of more than 4,096
+/// bytes is `TooLong` as well.
 pub fn read_original(alloc: Global, text: &str) -> Result<Original, OriginalFault>
     ensures read { IfOk result (λ original. original_reading text.now ≡ Ok original) }
     // An original reads as itself.
@@ -87,7 +87,7 @@ pub fn read_original(alloc: Global, text: &str) -> Result<Original, OriginalFaul
     // It begins with `http://` or `https://`, and has no fragment.
     ensures followed { IfOk result IsFollowed }
     ensures too_long { 4096 < length text.now → result ≡ Err OriginalFault.TooLong }
-    // NoMemory may come at any later place.
+    // `NoMemory` can come at any later point.
     ensures refused { IfErr result (λ fault.
         (original_reading text.now ≡ Err fault) ⊎ (fault ≡ OriginalFault.NoMemory)) }
 {
