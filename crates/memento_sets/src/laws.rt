@@ -7,7 +7,7 @@ ghost use Rattle.memento_time.specs.declared.mementos.Memento.{Memento};
 ghost use Rattle.memento_sets.specs.Sets as set;
 ghost use Rattle.memento_sets.specs.MementoSets.{Mementos};
 
-/// A sorted list of the members of a set, each once, is the one that `items` gives.
+/// A sorted list that has each member of a set once is the list that `items` gives.
 pub fn one_list_of_a_set()
     ensures sorted { (mementos : Mementos) → IsStrictlySortedBy memento_cmp (set.items mementos) }
     ensures once { (list : List Memento) → IsStrictlySortedBy memento_cmp list

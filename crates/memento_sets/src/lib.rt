@@ -1,11 +1,12 @@
-//! Sets of mementos. What an archive has of an original is such a set, and so is what is shown of it.
+//! Sets of mementos. The mementos that an archive has of an original are such a set, and so are those that are shown of
+//! it.
 //!
-//! A `Mementos` is a list in order, each memento once: one of them is found in time logarithmic in their number, and to
-//! take in another set takes time in what comes, and in what stands behind the first of it. Contracts see the finite
-//! set.
+//! A `Mementos` is a list in order, with each memento once. Finding one of them takes time logarithmic in their number.
+//! Taking in another set takes time in the number of mementos that come, and of those that stand after the first that
+//! comes. Contracts see the finite set.
 //!
-//! Finite sets are defined in `specs/Sets.antt`, as finite maps that have nothing at each key, and in `specs/Maps.antt`
-//! what two finite maps make value by value. Crates above speak of other sets and maps in the same words.
+//! `specs/Sets.antt` defines finite sets, as finite maps that have nothing at each key. `specs/Maps.antt` defines what
+//! two finite maps make value by value. Crates above use the same definitions for other sets and maps.
 #![tactic(auto)]
 
 mod laws;

@@ -36,8 +36,8 @@ impl Model for Mementos {
 }
 
 impl Mementos {
-    /// The set of these, which may come in any order and more than once. Takes no memory, and no more than one walk
-    /// where they are in order already.
+    /// The set of these mementos, which may come in any order and more than once. Takes no memory, and only one walk if
+    /// they are already in order.
     pub fn of(mut mementos: Vec<Memento>) -> Mementos
         ensures { result ≡ set.from_list mementos.items }
     {
@@ -49,7 +49,7 @@ impl Mementos {
         Mementos { list: mementos }
     }
 
-    /// The set of these; none where they don't stand in order, each once.
+    /// The set of these mementos; `None` unless they are in order, each once.
     pub fn of_sorted(mementos: Vec<Memento>) -> Option<Mementos>
         ensures { result ≡ mementos_with mementos.items }
     {
@@ -71,7 +71,7 @@ impl Mementos {
         self.as_slice().len()
     }
 
-    /// The mementos in order, lent.
+    /// The mementos in order, borrowed.
     pub fn as_slice(&self) -> &[Memento]
         ensures { result.now ≡ set.items self.now }
     {
@@ -99,7 +99,7 @@ impl Mementos {
         all_in(self.as_slice(), other)
     }
 
-    /// Those that the other set lacks, packed: nothing of the rest is kept.
+    /// The mementos that the other set lacks, packed: nothing of the rest is kept.
     pub fn without(&self, other: &Mementos) -> Result<Mementos, NoMemory>
         ensures { IfOk result (λ rest. rest ≡ set.minus self.now other.now) }
     {
@@ -107,7 +107,7 @@ impl Mementos {
         Ok(Mementos { list })
     }
 
-    /// A copy whose addresses share one buffer that has nothing else: see `packed`.
+    /// A copy whose addresses share one buffer that holds nothing else: see `packed`.
     pub fn packed(&self) -> Result<Mementos, NoMemory>
         ensures { IfOk result (λ copy. copy ≡ self.now) }
     {
@@ -115,9 +115,9 @@ impl Mementos {
         Ok(Mementos { list })
     }
 
-    /// Takes in all that another set has.
+    /// Takes in all mementos of another set.
     ///
-    /// Takes time in the number of what comes, and of those here that stand behind the first of it.
+    /// Takes time in the number of mementos that come, and of those here that stand after the first that comes.
     pub fn absorb(&mut self, other: Mementos) -> Result<(), NoMemory>
         ensures ok { OnOk result (self.new ≡ set.union self.old other) }
         ensures err { OnErr result (self.new ≡ self.old) }
@@ -135,7 +135,7 @@ impl Clone for Mementos {
     }
 }
 
-/// Whether each memento is below the next.
+/// Whether each memento is less than the next.
 fn mementos_rise(list: &[Memento]) -> bool
     ensures { result ≡ mementos_rise list.now }
 {
@@ -153,7 +153,7 @@ fn all_in(list: &[Memento], others: &Mementos) -> bool
     list.iter().all(|memento| others.has(memento))
 }
 
-/// Of a list those that a set lacks, packed.
+/// The mementos of a list that a set lacks, packed.
 fn copy_missing(
     alloc: Global,
     list: &[Memento],
@@ -170,13 +170,13 @@ fn copy_missing(
     Ok(rest.build(alloc)?)
 }
 
-/// Copies whose addresses share one buffer that has nothing else: they are *packed*. `NoMemory` also where the
-/// addresses would have 4 GiB.
+/// Copies whose addresses share one buffer that holds nothing else: they are *packed*. `NoMemory` also if the addresses
+/// together would have 4 GiB.
 ///
-/// An address is a range of a buffer, and keeps all of it. So a list is packed where a part of it stays longer than the
-/// rest: a harvest's, and that of a revision that is read, since a page or a text has more than them; what one list has
-/// and another lacks (`Mementos::without`); what an entry of several revisions shows; and a list of an index in which
-/// more addresses began and ceased than it has.
+/// An address is a range of a buffer, and keeps the whole buffer alive. So a list is packed wherever a part outlives
+/// the rest: a harvest's list and that of a revision that is read, since a page or a text has more than their mementos;
+/// what one list has and another lacks (`Mementos::without`); what an entry of several revisions shows; and a list of
+/// an index in which more addresses began and ceased than it has.
 pub fn packed(alloc: Global, list: &[Memento]) -> Result<Vec<Memento>, NoMemory>
     ensures { IfOk result (λ copies. copies.items ≡ list.now) }
 {
@@ -198,7 +198,7 @@ fn append(builder: &mut MementosBuilder, memento: &Memento) -> Result<(), NoMemo
     }
 }
 
-/// How many of a list in order are below a memento.
+/// How many mementos of a list in order are less than a memento.
 fn count_below(list: &[Memento], memento: &Memento) -> usize
     requires { IsStrictlySortedBy memento_cmp list.now }
     ensures within { result ≤ length list.now }
@@ -210,8 +210,8 @@ fn count_below(list: &[Memento], memento: &Memento) -> usize
     }
 }
 
-/// Adds mementos in order to others. Those behind the first of them are lifted off the list, the next one last, and
-/// come back between them; where memory is refused, nothing has changed.
+/// Adds mementos in order to a list in order. The list's mementos after the first that is added are lifted off, the
+/// next one last, and come back between those that are added. If memory is refused, nothing changes.
 fn unite(list: &mut Vec<Memento>, added: Vec<Memento>) -> Result<(), NoMemory>
     requires list_in_order { IsStrictlySortedBy memento_cmp list.old.items }
     requires added_in_order { IsStrictlySortedBy memento_cmp added.items }
@@ -232,7 +232,7 @@ fn unite(list: &mut Vec<Memento>, added: Vec<Memento>) -> Result<(), NoMemory>
     Ok(())
 }
 
-/// Puts what was lifted and what is added behind a list, in order.
+/// Appends what was lifted and what is added to a list, in order.
 fn merge(list: &mut Vec<Memento>, mut lifted: Vec<Memento>, added: Vec<Memento>)
     requires in_order { IsStrictlySortedBy memento_cmp (list.old.items ++ reverse lifted.items) }
     requires added_in_order { IsStrictlySortedBy memento_cmp (list.old.items ++ added.items) }
@@ -250,7 +250,7 @@ fn merge(list: &mut Vec<Memento>, mut lifted: Vec<Memento>, added: Vec<Memento>)
     settle(list, lifted);
 }
 
-/// Puts back what is below a memento, and drops the memento itself, if it was lifted.
+/// Puts back what is less than a memento, and drops the memento itself if it was lifted.
 fn pass(list: &mut Vec<Memento>, lifted: &mut Vec<Memento>, memento: &Memento)
     requires in_order { IsStrictlySortedBy memento_cmp (list.old.items ++ reverse lifted.old.items) }
     requires below { IsStrictlySortedBy memento_cmp (list.old.items ++ memento.now ∷ []) }
@@ -275,7 +275,7 @@ fn pass(list: &mut Vec<Memento>, lifted: &mut Vec<Memento>, memento: &Memento)
     }
 }
 
-/// Puts back all that was lifted.
+/// Puts back everything that was lifted.
 fn settle(list: &mut Vec<Memento>, mut lifted: Vec<Memento>)
     requires { vec_len list.old + vec_len lifted ≤ vec_capacity list.old }
     ensures { list.new.items ≡ list.old.items ++ reverse lifted.items }
