@@ -1,4 +1,4 @@
-//! Revisions that stand beside each other in an entry.
+//! Several revisions in one entry.
 ghost use Rattle.std.specs.Prelude.{◌≡◌, [], IfOk, OnOk, OnErr};
 ghost use Rattle.std.specs.Arc.{arc_value};
 ghost use Rattle.harvest_lattice.specs.Lattice.{join_kept};
@@ -14,7 +14,7 @@ use std::alloc::AllocError;
 use std::marker::Model;
 use std::sync::Arc;
 
-/// Revisions in order, with the union of their mementos at hand.
+/// Revisions in order, with the union of their mementos kept ready.
 #[derive(Debug, Drop)]
 pub struct Mixed {
     sequence: Sequence,
@@ -50,7 +50,7 @@ impl Mixed {
         self.sequence.reading()
     }
 
-    /// A copy of the revisions, which shares the lists.
+    /// A copy of the revisions that shares the lists.
     pub fn sequence(&self) -> Result<Sequence, NoMemory>
         ensures { IfOk result (λ sequence. sequence ≡ self.now) }
     {
@@ -58,7 +58,7 @@ impl Mixed {
         Ok(sequence)
     }
 
-    /// The mementos of all revisions, shared and not copied.
+    /// The mementos of all revisions, shared, not copied.
     pub fn shown(&self) -> Result<Arc<Mementos>, NoMemory>
         ensures { IfOk result (λ list. arc_value list ≡ mementos_of self.now) }
     {
@@ -66,7 +66,7 @@ impl Mixed {
         Ok(list)
     }
 
-    /// Joins a revision beside which all others stay. Where memory is refused, nothing has changed.
+    /// Joins a revision that replaces none of the others. If memory is refused, nothing changes.
     pub fn join(&mut self, is_whole: bool, part: Part) -> Result<(), NoMemory>
         requires { AllStay self.old (kept_in is_whole part []) }
         ensures ok { OnOk result (self.new ≡ join_kept self.old (kept_in is_whole part [])) }

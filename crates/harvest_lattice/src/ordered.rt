@@ -10,7 +10,7 @@ use crate::part::Part;
 use memento_time::{Memento, NoMemory};
 use std::cmp::Ordering;
 
-/// How many are of a lesser revision.
+/// How many parts have a lesser revision.
 pub fn count_below(parts: &[Part], revision: u64) -> usize
     requires { PartsRise parts.now }
     ensures within { result ≤ length parts.now }
@@ -23,7 +23,7 @@ pub fn count_below(parts: &[Part], revision: u64) -> usize
     )
 }
 
-/// What stands at a revision.
+/// The part at a revision.
 pub fn find(parts: &[Part], revision: u64) -> Option<&Part>
     requires { PartsRise parts.now }
     ensures { found_set (option_copied result) ≡ map.find nat_cmp revision parts.now }
@@ -31,7 +31,7 @@ pub fn find(parts: &[Part], revision: u64) -> Option<&Part>
     part_at(parts, count_below(parts, revision), revision)
 }
 
-/// The part at a place, if it is of this revision.
+/// The part at a place, if it has this revision.
 fn part_at(parts: &[Part], place: usize, revision: u64) -> Option<&Part>
     ensures { option_copied result ≡ cond (is_of revision (slice_get parts.now place)) (slice_get parts.now place) None }
 {
@@ -47,8 +47,8 @@ fn part_at(parts: &[Part], place: usize, revision: u64) -> Option<&Part>
     }
 }
 
-/// Both lists in one. Parts of one revision are united, and one that comes shares the list of the part before it, where
-/// the two have the same mementos. One walk over both.
+/// Merges both lists. Parts of the same revision are united, and a part that comes shares the list of the part before
+/// it if the two have the same mementos. Takes one walk over both.
 pub fn unite(standing: Vec<Part>, coming: &[Part]) -> Result<Vec<Part>, NoMemory>
     requires { PartsRise coming.now }
     ensures { IfOk result (λ both. both.items ≡ put_parts standing.items coming.now) }
@@ -64,8 +64,8 @@ pub fn unite(standing: Vec<Part>, coming: &[Part]) -> Result<Vec<Part>, NoMemory
     Ok(both)
 }
 
-/// Puts a part behind a list of lesser ones, once those that wait and come before it have gone there. Of those that
-/// wait the least stands last.
+/// Appends a part to a list of lesser ones, after those waiting parts that come before it. Of the waiting parts, the
+/// least stands last.
 fn place(both: &mut Vec<Part>, waiting: &mut Vec<Part>, part: &Part) -> Result<(), NoMemory>
     requires { All (λ p. p.0 < part.now.0) both.old.items }
     ensures placed { OnOk result
@@ -79,7 +79,7 @@ fn place(both: &mut Vec<Part>, waiting: &mut Vec<Part>, part: &Part) -> Result<(
     Ok(())
 }
 
-/// Puts behind a list those that wait and are of a lesser revision, and gives the one of that revision, if one waits.
+/// Appends to a list the waiting parts of a lesser revision, and returns the part of that revision, if one waits.
 fn pass(
     both: &mut Vec<Part>,
     waiting: &mut Vec<Part>,
@@ -103,8 +103,8 @@ fn pass(
     Ok(None)
 }
 
-/// A part, united with what stands at its revision, if something does; else with the list of the part before it, where
-/// the two have the same mementos.
+/// A part, united with what stands at its revision, if something does; otherwise with the list of the part before it,
+/// if the two have the same mementos.
 fn beside(standing: Option<Part>, part: &Part, before: Option<&Part>) -> Result<Part, NoMemory>
     ensures { IfOk result (λ both. both ≡ with_standing standing part.now) }
 {
@@ -117,7 +117,7 @@ fn beside(standing: Option<Part>, part: &Part, before: Option<&Part>) -> Result<
     }
 }
 
-/// Has each part share the list of the one before it, where the two have the same mementos.
+/// Makes each part share the list of the part before it if the two have the same mementos.
 pub fn share_alike(parts: &mut Vec<Part>) -> Result<(), NoMemory>
     ensures { parts.new.items ≡ parts.old.items }
 {
@@ -128,7 +128,8 @@ pub fn share_alike(parts: &mut Vec<Part>) -> Result<(), NoMemory>
     Ok(())
 }
 
-/// A part that has the mementos of all, where each has those of all before it or has none beside them.
+/// A part that has the mementos of all parts, if each part has those of all parts before it or has none other than
+/// those.
 pub fn widest<'a>(first: &'a Part, later: &'a [Part]) -> Option<&'a Part>
     ensures { IfSome result (λ part. part.now.1 ≡ union_all (map_list (λ p. p.1) (first.now ∷ later.now))) }
 {
@@ -145,7 +146,7 @@ pub fn widest<'a>(first: &'a Part, later: &'a [Part]) -> Option<&'a Part>
     Some(widest)
 }
 
-/// Whether each revision is below the next one.
+/// Whether each revision is less than the next.
 pub fn parts_rise(parts: &[Part]) -> bool
     ensures { result ≡ map.is_sorted nat_cmp parts.now }
 {
@@ -157,7 +158,7 @@ pub fn parts_rise(parts: &[Part]) -> bool
     true
 }
 
-/// Whether the whole revision, if there is one, is that of the first.
+/// Whether the whole revision, if there is one, is that of the first part.
 pub fn is_whole_first(whole: Option<u64>, parts: &[Part]) -> bool
     ensures { result ≡ whole_first whole parts.now }
 {
@@ -179,7 +180,7 @@ pub fn append_parts(list: &mut Vec<Memento>, parts: &[Part]) -> Result<(), NoMem
     Ok(())
 }
 
-/// Appends copies of these mementos. After an error some may stand in the list.
+/// Appends copies of these mementos. After an error, some of them may be in the list.
 pub fn append_copies(list: &mut Vec<Memento>, mementos: &[Memento]) -> Result<(), NoMemory>
     ensures { OnOk result (list.new.items ≡ list.old.items ++ mementos.now) }
 {

@@ -1,4 +1,4 @@
-//! An entry as it is read.
+//! Reads an entry.
 ghost use Rattle.std.specs.Prelude.{◌≡◌, ◌↔◌, ◌<◌, ◌∷◌, ◌++◌, [], IsTrue, IfOk, OnOk, Some, slice_get, option_copied};
 ghost use Rattle.std.specs.List.{All};
 ghost use Rattle.std.specs.FinMap as map;
@@ -14,7 +14,7 @@ use memento_time::{Memento, NoMemory};
 use std::alloc::Global;
 use std::marker::Model;
 
-/// What an entry has, lent: its least revision, whether that is a whole one, and the later ones.
+/// What an entry has, borrowed: its least revision, whether that is a whole one, and the later ones.
 #[derive(Drop)]
 pub struct Reading<'a> {
     is_whole: bool,
@@ -79,7 +79,7 @@ impl<'a> Reading<'a> {
         }
     }
 
-    /// Appends copies of the mementos of each revision. After an error some may stand in the list.
+    /// Appends copies of the mementos of each revision. After an error, some of them may be in the list.
     pub fn append_all(&self, list: &mut Vec<Memento>) -> Result<(), NoMemory>
         ensures { OnOk result (list.new.items ≡ list.old.items ++ items_of (map.entries self.now.revisions)) }
     {
@@ -97,7 +97,7 @@ impl<'a> Reading<'a> {
         find(self.later, revision)
     }
 
-    /// Whether a revision is older than the whole one or stands here with each memento.
+    /// Whether a revision is older than the whole one, or is here with each of its mementos.
     fn covers(&self, part: &Part) -> bool
         ensures { IsTrue result ↔ PartWithin self.now part.now }
     {
@@ -154,7 +154,8 @@ impl<'a> Reading<'a> {
         Ok(parts)
     }
 
-    /// Of another's revisions those that aren't older than the whole one here, each with what is lacking here.
+    /// The revisions of another entry that aren't older than the whole one here, each with the mementos that are
+    /// lacking here.
     pub fn lacking(&self, other: &Reading<'_>) -> Result<Vec<Part>, NoMemory>
         ensures { IfOk result (λ parts. parts.items ≡ lacking self.now (map.entries other.now.revisions)) }
     {
@@ -164,7 +165,7 @@ impl<'a> Reading<'a> {
         Ok(parts)
     }
 
-    /// Appends what is lacking here of a revision, unless that is older than the whole one.
+    /// Appends what is lacking here of a revision, unless the revision is older than the whole one.
     fn push_lack(&self, parts: &mut Vec<Part>, part: &Part) -> Result<(), NoMemory>
         ensures { OnOk result (parts.new.items ≡ parts.old.items ++ lacking self.now (part.now ∷ [])) }
     {
@@ -215,7 +216,7 @@ fn is_no_later(left: Option<u64>, right: Option<u64>) -> bool
     }
 }
 
-/// Appends a copy of a part, unless that is older than a whole one.
+/// Appends a copy of a part, unless the part is older than a whole one.
 fn push_current(parts: &mut Vec<Part>, whole: Option<u64>, part: &Part) -> Result<(), NoMemory>
     ensures { OnOk result (parts.new.items ≡ parts.old.items ++ current whole (part.now ∷ [])) }
 {

@@ -40,7 +40,7 @@ impl Model for Sequence {
 }
 
 impl Sequence {
-    /// One revision alone.
+    /// A single revision.
     pub fn of_part(is_whole: bool, first: Part) -> Sequence
         ensures { result ≡ kept_in is_whole first [] }
     {
@@ -84,7 +84,7 @@ impl Sequence {
         self.later.is_empty()
     }
 
-    /// Of one revision, whether it is whole, and its part.
+    /// Whether the only revision is whole, and its part.
     pub fn into_only(self) -> (bool, Part)
         requires { map.len self.revisions ≡ 1 }
         ensures { kept_in result.0 result.1 [] ≡ self }
@@ -92,8 +92,8 @@ impl Sequence {
         (self.is_whole, self.first)
     }
 
-    /// The mementos of all revisions, each once. Those of a revision that has all of them are shared and not copied;
-    /// else they are packed, so that none keeps a revision's buffer.
+    /// The mementos of all revisions, each once. If one revision has all of them, its list is shared, not copied;
+    /// otherwise they are packed, so that none of them keeps a revision's buffer alive.
     pub fn shown(&self) -> Result<Arc<Mementos>, NoMemory>
         ensures { IfOk result (λ list. arc_value list ≡ mementos_of self.now) }
     {
@@ -108,7 +108,7 @@ impl Sequence {
         Ok(list)
     }
 
-    /// Joins one revision. Where memory is refused, nothing has changed.
+    /// Joins one revision. If memory is refused, nothing changes.
     pub fn join(&mut self, is_whole: bool, part: Part) -> Result<(), NoMemory>
         ensures ok { OnOk result (self.new ≡ join_kept self.old (kept_in is_whole part [])) }
         ensures err { OnErr result (self.new ≡ self.old) }

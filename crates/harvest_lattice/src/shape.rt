@@ -15,8 +15,8 @@ use memento_time::NoMemory;
 use std::alloc::Global;
 use std::sync::Arc;
 
-/// One revision alone, whole or not, as most entries have it, takes no memory beside its list: the entry has three
-/// words.
+/// What an entry keeps. A single revision, whole or not, which most entries have, takes no memory in addition to its
+/// list: the entry has three words.
 #[derive(Debug, Drop)]
 pub enum Shape {
     One(bool, Part),
@@ -58,7 +58,7 @@ impl Shape {
         }
     }
 
-    /// A copy of the revisions, which shares the lists.
+    /// A copy of the revisions that shares the lists.
     pub fn sequence(&self) -> Result<Sequence, NoMemory>
         ensures { IfOk result (λ sequence. sequence ≡ kept_by self.now) }
     {
@@ -80,7 +80,7 @@ impl Shape {
         }
     }
 
-    /// A copy, which shares the lists.
+    /// A copy that shares the lists.
     pub fn try_clone(&self) -> Result<Shape, NoMemory>
         ensures { IfOk result (λ copy. kept_by copy ≡ kept_by self.now) }
     {
@@ -96,7 +96,7 @@ impl Shape {
         }
     }
 
-    /// Whether a revision that comes is the only one here, or takes the place of none of several.
+    /// Whether a part that comes has the only revision here, or replaces none of several.
     pub fn can_take(&self, is_whole: bool, part: &Part) -> bool
         ensures { IsTrue result → CanTake self.now is_whole part.now }
     {
@@ -109,7 +109,7 @@ impl Shape {
         }
     }
 
-    /// Joins such a revision. Where memory is refused, nothing has changed.
+    /// Joins such a part. If memory is refused, nothing changes.
     pub fn take(&mut self, is_whole: bool, part: Part) -> Result<(), NoMemory>
         requires { CanTake self.old is_whole part }
         ensures ok { OnOk result (kept_by self.new ≡ join_kept (kept_by self.old) (kept_in is_whole part [])) }
