@@ -1,4 +1,4 @@
-//! Mementos with the numbers of archives that show them, and the steps of these numbers.
+//! Mementos with the numbers of archives that show them, and the steps by which these numbers change.
 ghost use Rattle.std.specs.Prelude.{◌≡◌, ◌++◌, IfOk, OnOk, length};
 ghost use Rattle.memento_index.specs.Lists.{each_step, steps_in};
 
@@ -20,8 +20,8 @@ pub struct Step {
     pub begins: bool,
 }
 
-/// What begins and ceases to be shown of one original: all of its list is replaced by one that can be shared, or each
-/// step alone.
+/// What begins and ceases to be shown of one original: either its whole list is replaced by one that can be shared, or
+/// there are single steps.
 #[derive(Debug, Drop)]
 pub enum Steps {
     All(Replacement),
@@ -38,7 +38,7 @@ impl Steps {
         }
     }
 
-    /// The steps one by one, of a list that is replaced with copies of its mementos.
+    /// The steps, one by one. For a list that is replaced, they have copies of its mementos.
     pub fn into_vec(self, alloc: Global) -> Result<Vec<Step>, NoMemory>
         ensures { IfOk result (λ steps. steps.items ≡ steps_in self) }
     {
@@ -54,7 +54,7 @@ impl Steps {
     }
 }
 
-/// Adds a step of each memento.
+/// Adds a step for each memento.
 fn push_each(steps: &mut Vec<Step>, mementos: &[Memento], begins: bool) -> Result<(), NoMemory>
     ensures { OnOk result (steps.new.items ≡ steps.old.items ++ each_step begins mementos.now) }
 {

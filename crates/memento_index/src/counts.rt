@@ -1,8 +1,8 @@
-//! Changes of the numbers of archives that show mementos.
+//! Changes the numbers of archives that show mementos.
 //!
-//! A change of counts works at one place of a list: what stands from there on is lifted to a second list, the next one
-//! last. So a walk over changes in the order of their mementos moves each memento behind the first of them twice, and
-//! none before it. Nothing here takes memory: the caller has made room.
+//! A change of counts works at one place of a list: everything from there on is lifted to a second list, the next
+//! memento last. So a walk over changes in the order of their mementos moves each memento after the first of them
+//! twice, and none before it. Nothing here takes memory: the caller has made room.
 ghost use Rattle.std.specs.Prelude.{◌≡◌, ◌+◌, ◌<◌, ◌≤◌, [], ◌++◌, Some, IfSome, option_to_list, reverse, vec_len};
 ghost use Rattle.std.specs.Prelude.{length};
 ghost use Rattle.memento_time.specs.declared.mementos.Memento.{Memento as AMemento};
@@ -14,7 +14,7 @@ use crate::tally::Tally;
 use memento_time::Memento;
 use std::cmp::Ordering;
 
-/// Lifts what isn't below a memento.
+/// Lifts the mementos that aren't less than a memento.
 fn lift(list: &mut Tally, lifted: &mut Tally, memento: &Memento)
     requires tally { IsTally (whole list.old.entries lifted.old.entries) }
     requires room { length list.old.entries + length lifted.old.entries ≤ lifted.old.room }
@@ -33,7 +33,7 @@ fn lift(list: &mut Tally, lifted: &mut Tally, memento: &Memento)
     }
 }
 
-/// Puts back what is below a memento, and takes the memento itself out, if it is there.
+/// Puts back the mementos that are less than a memento, and takes out the memento itself, if it is there.
 fn take_out(list: &mut Tally, lifted: &mut Tally, memento: &Memento) -> Option<Counted>
     requires tally { IsTally (whole list.old.entries lifted.old.entries) }
     requires below { AreBelow memento.now list.old.entries }
@@ -61,7 +61,7 @@ fn take_out(list: &mut Tally, lifted: &mut Tally, memento: &Memento) -> Option<C
     None
 }
 
-/// Counts one archive more that shows a memento.
+/// Counts one more archive that shows a memento.
 pub fn count_in(list: &mut Tally, lifted: &mut Tally, memento: Memento)
     requires tally { IsTally (whole list.old.entries lifted.old.entries) }
     requires list_room { length list.old.entries + length lifted.old.entries < list.old.room }
@@ -84,7 +84,7 @@ pub fn count_in(list: &mut Tally, lifted: &mut Tally, memento: Memento)
     list.push(Counted { memento, count });
 }
 
-/// Counts one archive less that shows a memento, and drops the memento with the last.
+/// Counts one archive less that shows a memento, and drops the memento with the last archive.
 pub fn count_out(list: &mut Tally, lifted: &mut Tally, memento: &Memento)
     requires tally { IsTally (whole list.old.entries lifted.old.entries) }
     requires list_room { length list.old.entries + length lifted.old.entries ≤ list.old.room }
@@ -114,7 +114,7 @@ pub fn count_out(list: &mut Tally, lifted: &mut Tally, memento: &Memento)
     }
 }
 
-/// Puts back all that was lifted.
+/// Puts back everything that was lifted.
 pub fn settle(list: &mut Tally, lifted: &mut Tally)
     requires room { length list.old.entries + length lifted.old.entries ≤ list.old.room }
     ensures list { list.new.entries ≡ whole list.old.entries lifted.old.entries }
@@ -128,8 +128,8 @@ pub fn settle(list: &mut Tally, lifted: &mut Tally)
 
 /// Counts what archives begin and cease to show.
 ///
-/// It moves each memento of the list that isn't below the first of the steps' twice, and touches none below it but the
-/// last.
+/// It moves each memento of the list twice that isn't less than the first step's memento, and of those that are less it
+/// touches only the last.
 pub fn recount(list: &mut Tally, lifted: &mut Tally, mut steps: Vec<Step>)
     requires tally { IsTally list.old.entries }
     requires settled { lifted.old.entries ≡ [] }

@@ -20,7 +20,8 @@ use memento_time::{Items, NoMemory, Original};
 use std::alloc::Global;
 use std::collections::BTreeMap;
 
-/// The steps of each original. Where a single row replaces all that is listed of it, it gives the new list.
+/// The steps of each original. If a single row replaces everything that is listed of an original, that row gives the
+/// new list.
 pub fn gather_steps(
     alloc: Global,
     state: &State,
@@ -61,7 +62,7 @@ fn gather_row(
     Ok(())
 }
 
-/// Takes out the steps of a row's original, and adds those of the row.
+/// Takes out the steps of a row's original and adds the row's own.
 fn take_more_steps(
     all: &mut StepLists,
     alloc: Global,
@@ -87,7 +88,7 @@ fn take_more_steps(
     Ok(Steps::Each(Items::of(steps)))
 }
 
-/// Whether just what is replaced is listed of an original, each by one archive.
+/// Whether exactly the mementos that are replaced are listed of an original, each shown by one archive.
 fn replaces_all(
     all: &StepLists,
     lists: &Lists,

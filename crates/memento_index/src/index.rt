@@ -1,4 +1,4 @@
-//! A state with the list of each original at hand.
+//! A state with the list of each original kept ready.
 ghost use Rattle.std.specs.Prelude.{◌≡◌, ◌≤◌, ◌++◌, ℕ, List, OnOk, OnErr, IfOk, None, option_copied};
 ghost use Rattle.std.specs.BTreeMap as tree;
 ghost use Rattle.std.specs.FinMap as map;
@@ -22,7 +22,7 @@ use std::alloc::Global;
 use std::collections::BTreeMap;
 use std::marker::Model;
 
-/// A state, and for each of its originals the mementos that it shows.
+/// A state, with the mementos that it shows of each of its originals.
 #[derive(Debug, Drop)]
 pub struct Index {
     alloc: Global,
@@ -59,15 +59,16 @@ impl Index {
         }
     }
 
-    /// Takes a harvest, or all that a state has.
+    /// Takes in a harvest, or everything that a state has.
     ///
-    /// It has all its memory before the first change, and then changes only the counts of what begins or ceases to be
-    /// shown. It takes time in the size of what it takes and of the entries at its keys; of a list that changes, in
-    /// what stands from the first change on; and logarithmic in the number of keys and of lists. A list that one
-    /// archive alone shows is shared with its entry, and so is the one that a later revision puts in its place; it is
-    /// copied when another archive's mementos come beside it, or more of the same revision. Neither the number of
-    /// archives nor the lists that don't change make a difference, nor in how many revisions an archive shows a
-    /// memento. A list in which more addresses began and ceased than it has is packed anew, unless memory is refused.
+    /// It gets all its memory before the first change, and then changes only the counts of what begins or ceases to be
+    /// shown. It takes time in the size of what it takes in and of the entries at its keys; for a list that changes, in
+    /// what stands from the first change on; and time logarithmic in the number of keys and of lists. A list that only
+    /// one archive shows is shared with that archive's entry, and so is the list that a later revision puts in its
+    /// place; it is copied when another archive's mementos are added, or more of the same revision. The number of
+    /// archives, the lists that don't change, and the number of revisions in which an archive shows a memento make no
+    /// difference. A list in which more addresses began and ceased than it has is packed anew, unless memory is
+    /// refused.
     pub fn absorb(&mut self, merge: &Merge) -> Result<(), NoMemory>
         ensures ok { OnOk result (self.new ≡ join self.old (lat (adds_of merge.now))) }
         ensures stands { (hs : List Harvested) → self.old ≡ lat hs
@@ -78,7 +79,7 @@ impl Index {
         self.put(changes)
     }
 
-    /// What comes with a merge and is news to this index. Nothing here is changed.
+    /// What a merge brings that is news to this index. Changes nothing here.
     pub fn changes(&self, merge: &Merge) -> Result<Changes, NoMemory>
         ensures news { IfOk result (IsNews self.now (lat (adds_of merge.now))) }
         ensures fit { IfOk result (AreNews self.now) }
@@ -86,7 +87,7 @@ impl Index {
         merge.changes(&self.state)
     }
 
-    /// Takes in what is news to this index, as `changes` gives it, in the time and memory that `absorb` says.
+    /// Takes in what is news to this index, as `changes` gives it, in the time and memory that `absorb` states.
     pub fn put(&mut self, changes: Changes) -> Result<(), NoMemory>
         requires { AreNews self.old changes }
         ensures ok { OnOk result (self.new ≡ join self.old changes) }
@@ -131,8 +132,8 @@ impl Index {
         }
     }
 
-    /// The memento at the least distance in seconds; of two as far the earlier, and at one
-    /// datetime that with the least URI. None where nothing is shown.
+    /// The memento at the least distance in seconds: the earlier of two at the same distance, and the one with the
+    /// least URI of those at one datetime. `None` if nothing is shown.
     pub fn nearest(&self, original: &Original, moment: Moment) -> Option<&Memento>
         ensures nearest { option_copied result ≡ nearest (shown_of self.now original.now) moment }
         ensures stands { (hs : List Harvested) → self.now ≡ lat hs
@@ -141,8 +142,8 @@ impl Index {
         nearest_of(self.list(original), moment)
     }
 
-    /// The memento of the greatest datetime, there that with the least URI. None where nothing
-    /// is shown.
+    /// The memento with the greatest datetime: the one with the least URI, if several have it. `None` if nothing is
+    /// shown.
     pub fn latest(&self, original: &Original) -> Option<&Memento>
         ensures last { option_copied result ≡ last (shown_of self.now original.now) }
         ensures stands { (hs : List Harvested) → self.now ≡ lat hs
@@ -151,7 +152,7 @@ impl Index {
         last_of(self.list(original))
     }
 
-    /// The state of all that was taken in.
+    /// The state of everything that was taken in.
     pub fn state(&self) -> &State
         ensures { result.now ≡ self.now }
     {
@@ -159,8 +160,8 @@ impl Index {
     }
 }
 
-/// Makes the room for the steps, and has the state take the changes. Where memory is refused, the state is as it was,
-/// and lists may have been made that are empty.
+/// Makes room for the steps, and has the state take in the changes. If memory is refused, the state is as it was, and
+/// empty lists may have been made.
 fn put_with_room(
     state: &mut State,
     lists: &mut Lists,

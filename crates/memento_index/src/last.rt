@@ -10,9 +10,10 @@ use crate::nearest::first_from;
 use crate::probed::Probed;
 use memento_time::Memento;
 
-/// The place of the memento of the greatest datetime, there that with the least URI. None where the list is empty.
+/// The place of the memento with the greatest datetime: the one with the least URI, if several have it. `None` if the
+/// list is empty.
 ///
-/// Sees the list by its datetimes alone: at most as many as its length has binary digits, and 1.
+/// Reads only datetimes of the list: at most one more than its length has binary digits.
 pub fn last_in(list: &mut Probed<'_>) -> Option<usize>
     requires in_order { IsStrictlySortedBy memento_cmp list.old.list }
     requires few { list.old.probes ≤ 1000000000 }
@@ -30,7 +31,7 @@ pub fn last_in(list: &mut Probed<'_>) -> Option<usize>
     Some(first_from(list, len - 1, greatest))
 }
 
-/// The memento of the greatest datetime, there that with the least URI.
+/// The memento with the greatest datetime: the one with the least URI, if several have it.
 pub fn last_of(list: &[Memento]) -> Option<&Memento>
     requires { IsStrictlySortedBy memento_cmp list.now }
     ensures { option_copied result ≡ last (set.from_list list.now) }

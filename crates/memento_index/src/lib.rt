@@ -1,7 +1,7 @@
-//! The index: a state of the lattice, with the list of each original at hand.
+//! The index: a state of the lattice, with the list of each original kept ready.
 //!
-//! An `Index` takes in harvests and states, and tells of each original which mementos are shown, which of them is
-//! nearest to a moment, and which is the last.
+//! An `Index` takes in harvests and states. For each original, it has the mementos that are shown, the one nearest to a
+//! moment, and the last one.
 #![tactic(auto)]
 
 mod counted;

@@ -16,8 +16,8 @@ use std::alloc::Global;
 use std::marker::Model;
 use std::sync::Arc;
 
-/// A list that one archive alone shows is the set of its entry, shared where that has one revision, and has no columns.
-/// It gets columns of its own when another archive's mementos come beside it, or more of the same revision.
+/// A list that only one archive shows is the set of that archive's entry, shared if the entry has one revision, and has
+/// no columns. It gets columns of its own when another archive's mementos are added, or more of the same revision.
 #[derive(Debug, Drop)]
 pub struct Listing {
     shared: Option<Arc<Mementos>>,
@@ -59,7 +59,7 @@ impl Listing {
         }
     }
 
-    /// Whether these are the mementos, each shown by one archive.
+    /// Whether these are exactly the mementos, each shown by one archive.
     pub fn has_just(&self, mementos: &[Memento]) -> bool
         ensures { IsTrue result → self.now.entries ≡ each_once mementos.now }
     {
@@ -69,7 +69,7 @@ impl Listing {
         }
     }
 
-    /// Makes room for more mementos, and gives the length that the list may then have.
+    /// Makes room for more mementos, and returns the length that the list may then have.
     pub fn reserve(&mut self, more: usize) -> Result<usize, NoMemory>
         ensures entries { self.new.entries ≡ self.old.entries }
         ensures room { self.old.room ≤ self.new.room }
@@ -83,7 +83,7 @@ impl Listing {
         self.own.reserve(more)
     }
 
-    /// Counts what archives begin and cease to show. Needs no memory: where it is refused, the list isn't packed.
+    /// Counts what archives begin and cease to show. Needs no memory: if it is refused, the list just isn't packed.
     pub fn recount(&mut self, lifted: &mut Tally, steps: Steps)
         requires tally { IsTally self.old.entries }
         requires can { CanCount self.old.entries (steps_in steps) }
@@ -116,7 +116,7 @@ impl Listing {
         ensures settled { lifted.new.entries ≡ [] }
         ensures lifted_room { lifted.old.room ≤ lifted.new.room }
     {
-        // A list that is shared has no room: then it is empty, and there are no steps.
+        // A list that is shared has no room. In that case it is empty, and there are no steps.
         if self.shared.is_none() {
             let bytes = bytes_of_steps(&steps);
             recount(&mut self.own, lifted, steps);
@@ -125,7 +125,7 @@ impl Listing {
     }
 }
 
-/// Columns of these, each shown by one archive, with room for more.
+/// Columns of these mementos, each shown by one archive, with room for more.
 fn count_each(alloc: Global, mementos: &[Memento], more: usize) -> Result<Tally, NoMemory>
     ensures { IfOk result (λ tally. tally.entries ≡ each_once mementos.now) }
 {

@@ -21,8 +21,8 @@ pub type Lists = BTreeMap<Original, Listing>;
 pub type StepLists = BTreeMap<Original, Steps>;
 
 /// Makes room in the list of each original for its steps, and room to lift the longest of these lists. A list that is
-/// replaced wants no room. No count of the keys and the steps is too large. Where memory is refused, lists may
-/// have been made that are empty.
+/// replaced needs no room. No count of the keys and the steps is too large. If memory is refused, empty lists may have
+/// been made.
 pub fn make_rooms(
     lists: &mut Lists,
     lifted: &mut Tally,
@@ -60,7 +60,7 @@ fn make_room(
         → HasRoom keys (tree.get text_cmp lists.new original.now) lifted.new.room steps.now) }
 {
     let more = steps.len();
-    // No memory has room for that many.
+    // No memory is large enough for that many.
     if keys.checked_add(more).is_none() {
         return Err(NoMemory);
     }
@@ -72,7 +72,7 @@ fn make_room(
     Ok(())
 }
 
-/// Gives an original an empty list where it has none.
+/// Gives an original an empty list if it has none.
 fn make_list(lists: &mut Lists, alloc: Global, original: &Original) -> Result<(), NoMemory>
     ensures grow { (o : List ℕ) → Grows (tree.get text_cmp lists.old o) (tree.get text_cmp lists.new o) }
     ensures others { (o : List ℕ) → eq_by_cmp text_cmp original.now o ≡ false
@@ -86,7 +86,7 @@ fn make_list(lists: &mut Lists, alloc: Global, original: &Original) -> Result<()
     Ok(())
 }
 
-/// Makes room in the list of an original, and gives the length that it may then have.
+/// Makes room in the list of an original, and returns the length that it may then have.
 fn reserve(lists: &mut Lists, original: &Original, more: usize) -> Result<usize, NoMemory>
     ensures grow { (o : List ℕ) → Grows (tree.get text_cmp lists.old o) (tree.get text_cmp lists.new o) }
     ensures others { (o : List ℕ) → eq_by_cmp text_cmp original.now o ≡ false
@@ -124,7 +124,7 @@ fn drop_if_empty(lists: &mut Lists, original: &Original)
     }
 }
 
-/// Whether an original has a list, and nothing is in it.
+/// Whether an original has a list, and the list is empty.
 fn is_empty_at(lists: &Lists, original: &Original) -> bool
     ensures { IsTrue result ↔ ¬ (IsListed (tree.get text_cmp lists.now original.now)) }
 {
@@ -168,7 +168,7 @@ fn recount_list(lists: &mut Lists, lifted: &mut Tally, original: &Original, step
     }
 }
 
-/// Counts the steps, and tells whether nothing is left.
+/// Counts the steps, and returns whether nothing is left.
 fn recount_in_place(
     lists: &mut Lists,
     lifted: &mut Tally,

@@ -6,7 +6,7 @@ ghost use Rattle.harvest_lattice.specs.News.{IsNews};
 use harvest_lattice::{Changes, Harvest, State};
 use memento_time::NoMemory;
 
-/// What an index takes in: a harvest, or all that another replica's state has.
+/// What an index takes in: a harvest, or everything that another replica's state has.
 #[derive(Debug, Drop)]
 pub enum Merge {
     Harvest(Harvest),

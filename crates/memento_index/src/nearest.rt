@@ -1,4 +1,4 @@
-//! The memento that a gate names, by binary search.
+//! Finds the memento that a gate names, by binary search.
 ghost use Rattle.std.specs.Prelude.{◌≡◌, ◌↔◌, ℕ, ◌+◌, ◌*◌, ◌^◌, ◌<◌, ◌≤◌, IsTrue, IfSome, length, slice_index};
 ghost use Rattle.std.specs.Prelude.{slice_get, option_copied};
 ghost use Rattle.std.specs.Option.{option_and_then};
@@ -11,7 +11,7 @@ ghost use Rattle.memento_index.specs.Probes.{datetimes, gap};
 use crate::probed::Probed;
 use memento_time::{Memento, Moment};
 
-/// The first place below the end whose datetime isn't before the moment, or else the end.
+/// The first place before the end whose datetime isn't earlier than the moment, or the end if there is none.
 pub fn first_from(list: &mut Probed<'_>, end: usize, moment: Moment) -> usize
     requires in_order { IsNonDecreasing (datetimes list.old.list) }
     requires in_range { end ≤ length list.old.list }
@@ -35,7 +35,7 @@ pub fn first_from(list: &mut Probed<'_>, end: usize, moment: Moment) -> usize
     low
 }
 
-/// Whether there is a memento at the place, nearer to the moment than one of this datetime.
+/// Whether there is a memento at the place that is nearer to the moment than one with this datetime.
 fn is_nearer_than(list: &mut Probed<'_>, place: usize, other: Moment, moment: Moment) -> bool
     requires in_range { place ≤ length list.old.list }
     requires few { list.old.probes ≤ 2000000000 }
@@ -52,11 +52,10 @@ fn is_nearer_than(list: &mut Probed<'_>, place: usize, other: Moment, moment: Mo
     at.secs().abs_diff(moment.secs()) < other.secs().abs_diff(moment.secs())
 }
 
-/// The place of the memento at the least distance in seconds; of two as far that of the earlier,
-/// and at one datetime that with the least URI. None where the list is empty.
+/// The place of the memento at the least distance in seconds: the earlier of two at the same distance, and the one with
+/// the least URI of those at one datetime. `None` if the list is empty.
 ///
-/// Sees the list by its datetimes alone: at most twice as many as its length has binary digits,
-/// and 2.
+/// Reads only datetimes of the list: at most 2 more than twice the number of binary digits of its length.
 pub fn nearest_in(list: &mut Probed<'_>, moment: Moment) -> Option<usize>
     requires in_order { IsStrictlySortedBy memento_cmp list.old.list }
     requires few { list.old.probes ≤ 1000000000 }

@@ -1,4 +1,4 @@
-//! What an entry that comes changes of what its archive shows.
+//! How an entry that comes changes what its archive shows.
 ghost use Rattle.std.specs.Prelude.{◌≡◌, IsTrue, IfOk};
 ghost use Rattle.std.specs.Arc.{arc_value};
 ghost use Rattle.memento_sets.specs.Sets as set;
@@ -11,9 +11,9 @@ use memento_sets::Mementos;
 use memento_time::{Memento, NoMemory};
 use std::sync::Arc;
 
-/// Of what an archive shows of an original, the mementos `after` come in the place of those `before`. There are none
-/// before where they come beside what the archive shows. In how many of its revisions a memento stands makes no
-/// difference. What an entry shows is shared and not copied.
+/// Of what an archive shows of an original, the mementos `after` replace those `before`. There are none `before` if
+/// they are added to what the archive shows. The number of revisions in which a memento stands makes no difference.
+/// What an entry shows is shared, not copied.
 #[derive(Debug, Drop)]
 pub struct Replacement {
     before: Option<Arc<Mementos>>,
@@ -21,7 +21,7 @@ pub struct Replacement {
 }
 
 impl Replacement {
-    /// What a row makes of what stands at its key.
+    /// What a row replaces of what stands at its key.
     pub fn by(state: &State, row: &Row) -> Result<Replacement, NoMemory>
         requires { IsNewsAt state.now (row_entry row.now) }
         ensures { IfOk result
@@ -64,7 +64,7 @@ impl Replacement {
         }
     }
 
-    /// What comes, to be shared.
+    /// What comes, as a list to be shared.
     pub fn into_after(self) -> Arc<Mementos>
         ensures { result ≡ self.after }
     {
@@ -72,7 +72,7 @@ impl Replacement {
     }
 }
 
-/// Whether the two have one revision, and the same.
+/// Whether both entries have one revision, and it is the same.
 fn are_of_one(left: &Entry, right: &Entry) -> bool
     ensures { IsTrue result → AreOfOne left.now right.now }
 {

@@ -9,7 +9,7 @@ use memento_time::{Clean, Memento, NoMemory};
 use std::alloc::Global;
 use std::cmp::Ordering;
 
-/// Which of two lists has the next memento at these places, of which one is in its list.
+/// Which of two lists has the next memento at these places. At least one of the places is in its list.
 fn next_at(before: &[Memento], i: usize, after: &[Memento], j: usize) -> Ordering
     requires { (i < length before.now) ⊎ (j < length after.now) }
     ensures less { result ≡ IsLess → i < length before.now }
@@ -27,7 +27,7 @@ fn next_at(before: &[Memento], i: usize, after: &[Memento], j: usize) -> Orderin
     before[i].cmp(&after[j])
 }
 
-/// A copy of a memento, whose address has a buffer of its own unless it is to share the memento's.
+/// A copy of a memento. Its address has a buffer of its own, unless it is to share the memento's.
 fn copy_of(alloc: Global, memento: &Memento, shares: bool) -> Result<Memento, NoMemory>
     ensures { IfOk result (λ copy. copy ≡ memento.now) }
 {
@@ -44,10 +44,11 @@ fn copy_of(alloc: Global, memento: &Memento, shares: bool) -> Result<Memento, No
     }
 }
 
-/// What an entry ceases to show that showed the one list, and begins to show with the other, in order where these are.
+/// What an entry ceases and begins to show when it showed the list `before` and then shows the list `after`. The steps
+/// are in order if the lists are.
 ///
-/// Where it showed nothing before, all of the other list begins, and shares its addresses. Else no address that begins
-/// keeps the others that stand in its buffer.
+/// If it showed nothing before, all of the list `after` begins, and the steps share its addresses. Otherwise no address
+/// that begins keeps the others in its buffer alive.
 pub fn steps_between(
     alloc: Global,
     before: &[Memento],

@@ -1,4 +1,4 @@
-//! Mementos beside the numbers of archives that show them.
+//! Mementos, each with the number of archives that show it.
 ghost use Rattle.std.specs.Prelude.{◌≡◌, ◌+◌, ◌<◌, ◌≤◌, [], ◌∷◌, ◌++◌, IfNone, IfSome, IfOk, length, map as map_list};
 ghost use Rattle.std.specs.Prelude.{option_to_list, IsTrue, ◌==◌};
 ghost use Rattle.std.specs.List.{list_all};
@@ -11,7 +11,7 @@ use memento_time::{Memento, NoMemory};
 use std::alloc::Global;
 use std::marker::Model;
 
-/// Two columns, so that the mementos can be lent as one list.
+/// Mementos and their counts, in two columns, so that the mementos can be borrowed as one list.
 #[derive(Debug, Drop)]
 pub struct Tally {
     mementos: Vec<Memento>,
@@ -53,14 +53,14 @@ impl Tally {
         &self.mementos
     }
 
-    /// Whether these are the mementos, each with the count 1.
+    /// Whether these are exactly the mementos, each with the count 1.
     pub fn has_just(&self, mementos: &[Memento]) -> bool
         ensures { IsTrue result → self.now.entries ≡ each_once mementos.now }
     {
         are_same(&self.mementos, mementos) && are_ones(&self.counts)
     }
 
-    /// Makes room for more mementos, and gives the length that the list may then have.
+    /// Makes room for more mementos, and returns the length that the list may then have.
     pub fn reserve(&mut self, more: usize) -> Result<usize, NoMemory>
         ensures entries { self.new.entries ≡ self.old.entries }
         ensures room { self.old.room ≤ self.new.room }
@@ -80,7 +80,7 @@ impl Tally {
         Ok(Tally { mementos, counts })
     }
 
-    /// Adds a memento at the end, in the room that there is.
+    /// Adds a memento at the end, where there is room for it.
     pub fn push(&mut self, counted: Counted)
         requires { length self.old.entries < self.old.room }
         ensures entries { self.new.entries ≡ self.old.entries ++ counted ∷ [] }
@@ -90,7 +90,7 @@ impl Tally {
         self.counts.push(counted.count).unwrap();
     }
 
-    /// Whether all are below a memento: whether the last is, in a list in order.
+    /// Whether all mementos are less than this one. In a list in order, that is so if the last one is less.
     pub fn is_below(&self, memento: &Memento) -> bool
         ensures { IsTrue result → IsTally self.now.entries → AreBelow memento.now self.now.entries }
     {
@@ -113,7 +113,7 @@ impl Tally {
     }
 }
 
-/// Whether the two have the same mementos in the same places.
+/// Whether both lists have the same mementos in the same places.
 pub fn are_same(left: &[Memento], right: &[Memento]) -> bool
     ensures { IsTrue result → left.now ≡ right.now }
 {

@@ -5,20 +5,20 @@ use crate::counted::Step;
 use crate::tally::Tally;
 use memento_time::Memento;
 
-/// How much of other lists' addresses a list may keep beside its own.
+/// How many bytes of other lists' addresses a list may keep alive in addition to its own.
 ///
-/// Buffers are kept as long as one address in them, so a list may keep the bytes of those that began or ceased to be
-/// shown since it was packed. It is packed anew once these are more than its own. That is looked at whenever half as
-/// many bytes came as it had at the last look, and more than `FEW`. So it keeps at most four times as many bytes as it
-/// has, and three times `FEW`, and the looks take time in what comes. A list that was copied from an entry of several
-/// revisions also keeps these revisions' buffers until it is packed.
+/// A buffer is kept as long as one address in it, so a list may keep the bytes of the addresses that began or ceased to
+/// be shown since it was packed. It is packed anew once these are more than its own. This is tested whenever half as
+/// many bytes have come as it had at the last test, and more than `FEW`. So it keeps at most four times as many bytes
+/// as it has, plus three times `FEW`, and the tests take time in what comes. A list that was copied from an entry of
+/// several revisions also keeps these revisions' buffers until it is packed.
 #[derive(Clone, Copy, Debug)]
 pub struct Wear {
     moved: usize,
     due: usize,
 }
 
-/// So many bytes aren't worth a look.
+/// This many bytes aren't worth a test.
 const FEW: usize = 1024;
 
 impl Wear {
@@ -26,8 +26,8 @@ impl Wear {
         Wear { moved: 0, due: FEW }
     }
 
-    /// Packs a list in which addresses of so many bytes began or ceased, if it is due. Where memory is refused, the
-    /// list stays as it is until the next look.
+    /// Packs a list, if it is due, after addresses of this many bytes began or ceased to be shown. If memory is
+    /// refused, the list stays as it is until the next test.
     pub fn pack_worn(&mut self, list: &mut Tally, bytes: usize)
         ensures { list.new.entries ≡ list.old.entries }
     {
@@ -46,7 +46,7 @@ impl Wear {
     }
 }
 
-/// How many bytes the addresses have.
+/// How many bytes the addresses of the mementos have.
 fn bytes_of(mementos: &[Memento]) -> usize {
     let mut bytes: usize = 0;
     for memento in mementos {
