@@ -1,5 +1,5 @@
-//! What a TimeGate and TimeMap server writes of mementos: the TimeMap of an original (RFC 7089, section 5) in
-//! link-format (RFC 6690), the `Link` header of a redirect, and the base under which both are served.
+//! What a TimeGate and TimeMap server writes about mementos: the TimeMap of an original (RFC 7089, section 5) in
+//! link-format (RFC 6690), and the `Link` header of a redirect. Also the base under which both are served.
 #![tactic(auto)]
 
 mod laws;

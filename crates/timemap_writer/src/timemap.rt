@@ -12,30 +12,30 @@ use memento_time::{DateWriter, Memento, NoMemory, Original};
 use std::alloc::Global;
 use text_fields::write_decimal;
 
-/// The bytes of a TimeMap beside its addresses, its path and the lines of its mementos, whose ends have `first` and
-/// `last`.
+/// How many bytes a TimeMap has in addition to its addresses, its path and the lines of its mementos, the first and
+/// last of which have `first` and `last`.
 const LISTING_FRAME: usize = 185;
 
-/// The bytes of a memento's line beside its address.
+/// How many bytes a memento's line has in addition to its address.
 const MEMENTO_FRAME: usize = 61;
 
-/// The bytes of the `Link` header beside its addresses.
+/// How many bytes the `Link` header has in addition to its addresses.
 const LINKS_FRAME: usize = 160;
 
-/// The mementos on a page.
+/// How many mementos are on a page.
 const PER_PAGE: usize = 1000;
 
-/// The bytes of the longest page path.
+/// The length of the longest page path, in bytes.
 const PAGE_PATH: usize = 40;
 
-/// The bytes of a page's line in an index beside its base and its original.
+/// How many bytes a page's line in an index has in addition to its base and its original.
 const PAGE_FRAME: usize = 173;
 
-/// Where the TimeMap of an original stands, or the index of its pages.
+/// The path of an original's TimeMap, or of the index of its pages.
 const TIMEMAP_PATH: &[u8] = b"/timemap/link/";
 
-/// The TimeMap of an original in link-format. The mementos are sorted and distinct, as an index lists them; the
-/// first has also the relation `first` and the last `last`. Of an empty list the link to the TimeMap itself has
+/// The TimeMap of an original in link-format. The mementos are sorted and distinct, as an index lists them. The first
+/// one also has the relation `first`, and the last one `last`. If the list is empty, the link to the TimeMap itself has
 /// neither `from` nor `until`.
 pub fn write_timemap(
     alloc: Global,
@@ -56,8 +56,8 @@ pub fn write_timemap(
     )
 }
 
-/// A page of the TimeMap of an original: the mementos of its stretch of the list. The first of the whole list has the
-/// relation `first` and its last `last`, so another page has neither.
+/// A page of an original's TimeMap, with the mementos of its stretch of the list. Only the first memento of the whole
+/// list has the relation `first`, and only its last one `last`, so a page without them has neither.
 pub fn write_page(
     alloc: Global,
     service: &Service,
@@ -74,8 +74,8 @@ pub fn write_page(
     listing(alloc, service, original, &path, stretch, first, more)
 }
 
-/// The index of the pages of an original's TimeMap, which stands in the TimeMap's place: no memento, and a link to each
-/// page in order.
+/// The index of the pages of an original's TimeMap, which takes the TimeMap's place. It has no mementos, but a link to
+/// each page, in order.
 pub fn write_index(
     alloc: Global,
     service: &Service,
@@ -105,8 +105,8 @@ pub fn write_index(
     Ok(text)
 }
 
-/// What stands behind this path and lists these mementos of the original: whether the head is the first of all, and
-/// whether more follow the last.
+/// The text at this path that lists these mementos of the original. `first` says whether the first of them is the first
+/// of all, and `more` whether others follow the last.
 fn listing(
     alloc: Global,
     service: &Service,
@@ -131,14 +131,14 @@ fn listing(
     Ok(text)
 }
 
-/// How many pages of 1,000 the list has; the last is perhaps shorter.
+/// How many pages of 1,000 mementos the list has. The last page may be shorter.
 pub fn pages(mementos: &[Memento]) -> usize
     ensures { result ≡ pages mementos.now }
 {
     mementos.len().div_ceil(PER_PAGE)
 }
 
-/// The mementos on a page.
+/// How many mementos are on a page.
 fn stretch(mementos: &[Memento], page: usize) -> &[Memento]
     requires { IsPage mementos.now page }
     ensures { result.now ≡ stretch page mementos.now }
@@ -147,7 +147,7 @@ fn stretch(mementos: &[Memento], page: usize) -> &[Memento]
     &left[..left.len().min(PER_PAGE)]
 }
 
-/// What the page's address has between the base and the original.
+/// The part of the page's address between the base and the original.
 fn page_path(alloc: Global, page: usize) -> Result<Vec<u8>, NoMemory>
     ensures value { IfOk result (λ path. path.items ≡ page_path page) }
     ensures target { IfOk result (λ path. IsTarget path.items) }
@@ -159,7 +159,7 @@ fn page_path(alloc: Global, page: usize) -> Result<Vec<u8>, NoMemory>
     Ok(path)
 }
 
-/// The lines at the head of a text that lists these mementos and stands behind this path.
+/// Appends the lines at the head of a text that lists these mementos at this path.
 fn push_head(
     out: &mut Vec<u8>,
     alloc: Global,
@@ -183,7 +183,7 @@ fn push_head(
     Ok(())
 }
 
-/// The index's line of a page, behind the comma and the end of the line before.
+/// Appends the index's line for a page, after a comma and the end of the line before.
 fn push_page(
     out: &mut Vec<u8>,
     alloc: Global,
@@ -206,7 +206,8 @@ fn push_page(
     Ok(())
 }
 
-/// The lines of these mementos: whether the head is the first of all, and whether more follow the last.
+/// Appends the lines of these mementos. `first` says whether the first of them is the first of all, and `more` whether
+/// others follow the last.
 fn push_mementos(
     out: &mut Vec<u8>,
     dates: &mut DateWriter,
@@ -227,14 +228,14 @@ fn push_mementos(
     Ok(())
 }
 
-/// Whether a memento is the last of all: none is left behind it in its stretch, and no more follow that.
+/// Whether a memento is the last of all: none is left after it in its stretch, and no others follow the stretch.
 fn is_last(more: bool, rest: &[Memento]) -> bool
     ensures { result ≡ (not more && (length rest.now == 0)) }
 {
     !more && rest.is_empty()
 }
 
-/// The bytes of an index of so many pages, as far as a size can say them.
+/// How many bytes an index of this many pages has, or the greatest `usize` if it has more.
 fn index_size(service: &Service, original: &Original, pages: usize) -> usize {
     let addresses = service.base().len() + original.as_bytes().len();
     let head = LISTING_FRAME + 2 * service.base().len() + 3 * original.as_bytes().len();
@@ -243,7 +244,8 @@ fn index_size(service: &Service, original: &Original, pages: usize) -> usize {
         .saturating_add(head + TIMEMAP_PATH.len())
 }
 
-/// The bytes of the text: memory is asked for once. Where they exceed every size, the allocator refuses.
+/// How many bytes the text has, so that memory is asked for only once. If that exceeds every size, the allocator
+/// refuses.
 fn listing_size(
     service: &Service,
     original: &Original,
@@ -260,8 +262,8 @@ fn listing_size(
     )
 }
 
-/// The value of the `Link` header beside a redirect to a memento of the original: the links to the original and to
-/// its TimeMap. The mementos are sorted and distinct.
+/// The value of the `Link` header of a redirect to a memento of the original: the links to the original and to its
+/// TimeMap. The mementos are sorted and distinct.
 pub fn write_gate_links(
     alloc: Global,
     service: &Service,
