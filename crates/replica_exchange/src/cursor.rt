@@ -18,10 +18,10 @@ pub struct Cursor {
     pub number: u64,
 }
 
-/// Why a delta isn't taken.
+/// Why a delta isn't accepted.
 #[derive(Clone, Copy, Debug, PartialEq, Eq)]
 pub enum TakeFault {
-    /// It leaves out merges that aren't known: this is how far they are.
+    /// The delta leaves out merges that aren't known yet. `held` is how far the peer's merges are known.
     Gap { held: Option<Cursor> },
     /// The allocator refused a growth.
     NoMemory,
@@ -50,7 +50,7 @@ impl From<NoMemory> for TakeFault {
     }
 }
 
-/// Whether a cursor is of a delta's incarnation, and no earlier than its start.
+/// Whether a cursor has a delta's incarnation, and isn't before the delta's start.
 fn reaches(held: Option<Cursor>, delta: &Delta) -> bool
     ensures { result ≡ rule.reaches held delta.now }
 {
@@ -76,7 +76,7 @@ fn moved(held: Option<Cursor>, delta: &Delta) -> Cursor
     }
 }
 
-/// For each peer how far its merges are known.
+/// How far the merges of each peer are known.
 #[derive(Debug, Drop)]
 pub struct Cursors {
     alloc: Global,
@@ -124,14 +124,14 @@ impl Cursors {
         self.known.get(&peer).copied()
     }
 
-    /// Whether a delta of the peer starts at the beginning, or at merges that are known.
+    /// Whether a delta of the peer starts at the beginning, or no later than where its known merges end.
     pub fn fits(&self, peer: u64, delta: &Delta) -> bool
         ensures { result ≡ rule.fits (map.get self.now peer) delta.now }
     {
         delta.start == 0 || reaches(self.held(peer), delta)
     }
 
-    /// Moves the peer's cursor to the end of its delta, which the caller joins. A cursor that is further stays.
+    /// Moves the peer's cursor to the end of its delta, which the caller joins. A cursor that is already further stays.
     pub fn take(&mut self, peer: u64, delta: &Delta) -> Result<(), TakeFault>
         ensures fits { OnOk result (rule.fits (map.get self.old peer) delta.now ≡ true) }
         ensures taken { OnOk result (self.new ≡ rule.taken_from self.old peer delta.now) }
@@ -146,7 +146,7 @@ impl Cursors {
         Ok(())
     }
 
-    /// Does the same for a delta of which `fits` was asked.
+    /// Does the same for a delta that `fits` has accepted.
     pub fn advance(&mut self, peer: u64, delta: &Delta) -> Result<(), NoMemory>
         requires { rule.fits (map.get self.old peer) delta.now ≡ true }
         ensures taken { OnOk result (self.new ≡ rule.taken_from self.old peer delta.now) }

@@ -35,7 +35,7 @@ fn read_memento<'a>(
     Ok((Memento { at, uri }, rest))
 }
 
-/// The lines of `count` mementos, and what follows. Nothing is reserved for lines that may not come.
+/// The lines of `count` mementos, and what follows. Reserves nothing for lines that may not come.
 fn read_mementos<'a>(
     alloc: Global,
     buffer: &Arc<Vec<u8>>,
@@ -58,7 +58,7 @@ fn read_mementos<'a>(
 }
 
 /// The lines of `count` mementos in order, each once, and what follows. Their addresses are copied into one buffer that
-/// has nothing else, so that the text isn't kept for them.
+/// holds nothing else, so that they don't keep the text alive.
 fn read_set<'a>(
     alloc: Global,
     buffer: &Arc<Vec<u8>>,
@@ -161,7 +161,7 @@ fn read_part<'a>(
     Ok((part, rest))
 }
 
-/// `count` revisions, and what follows. Nothing is reserved for revisions that may not come.
+/// `count` revisions, and what follows. Reserves nothing for revisions that may not come.
 fn read_parts<'a>(
     alloc: Global,
     buffer: &Arc<Vec<u8>>,
@@ -182,7 +182,7 @@ fn read_parts<'a>(
     Ok((parts, rest))
 }
 
-/// The entry of one revision. None where a whole one is another.
+/// The entry of one revision. `None` if there is a whole revision and it is a different one.
 fn entry_of_one(whole: Option<u64>, part: Part) -> Option<Entry>
     ensures { result ≡ kept_with whole (part ∷ []) }
 {
@@ -195,8 +195,8 @@ fn entry_of_one(whole: Option<u64>, part: Part) -> Option<Entry>
     Some(Entry::of_part(true, part))
 }
 
-/// `count` revisions, what entry they make with this whole one, if any, and what follows. Of a single revision no list
-/// is made.
+/// The entry that `count` revisions make with this whole one, if they make any, and what follows. Makes no list for a
+/// single revision.
 fn read_kept<'a>(
     alloc: Global,
     buffer: &Arc<Vec<u8>>,
@@ -309,7 +309,7 @@ fn read_entry<'a>(
     }
 }
 
-/// `count` entries, and what follows. Nothing is reserved for entries that may not come.
+/// `count` entries, and what follows. Reserves nothing for entries that may not come.
 fn read_entries<'a>(
     alloc: Global,
     format: Format,
@@ -338,7 +338,7 @@ fn is_end(text: &[u8]) -> bool
     text == b"end\n".as_slice()
 }
 
-/// The entries from `entries N` to `end`, after which nothing comes.
+/// The entries from `entries N` to `end`, which nothing may follow.
 pub fn read_listing(
     alloc: Global,
     format: Format,

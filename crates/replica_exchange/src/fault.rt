@@ -1,4 +1,4 @@
-//! Why bytes aren't read as a state.
+//! Why bytes can't be read as a state.
 ghost use Rattle.std.specs.Prelude.{◌≡◌, Some};
 ghost use Rattle.replica_exchange.specs.declared.fault.StateFault.TheVariants.{NoMemory as OutOfMemory};
 ghost use Rattle.replica_exchange.specs.Faults.{fault_of, words_of};
@@ -8,12 +8,12 @@ use std::alloc::{AllocError, AllocFailed};
 use std::error::Error;
 use std::fmt;
 
-/// Why a text isn't read as a state.
+/// Why a text can't be read as a state.
 #[derive(Clone, Copy, Debug, PartialEq, Eq)]
 pub enum StateFault {
     /// It has more than 268,435,456 bytes.
     TooLong,
-    /// It is no state's text.
+    /// The text isn't that of a state.
     NotState,
     /// The allocator refused a growth.
     NoMemory,

@@ -12,7 +12,7 @@ use std::alloc::Global;
 use std::sync::Arc;
 use text_fields::{read_decimal, split_once};
 
-/// The field before the first of a byte, and what follows that byte.
+/// The field before the first occurrence of a byte, and what follows that byte.
 pub fn cut(text: &[u8], byte: u8) -> Result<(&[u8], &[u8]), StateFault>
     ensures found { IfOk result (λ cut. text.now ≡ cut.0.now ++ byte ∷ cut.1.now) }
     ensures first { IfOk result (λ cut. Lacks byte cut.0.now) }
@@ -46,7 +46,7 @@ pub fn read_number(text: &[u8], end: u8) -> Result<(u64, &[u8]), StateFault>
     }
 }
 
-/// The clean text that the line is, which stands in front of what is left of the buffer and shares it.
+/// The line as a clean text that shares the buffer. The line is at the front of what is left of the buffer.
 fn shared_uri(buffer: &Arc<Vec<u8>>, text: &[u8], line: &[u8]) -> Result<Clean, CleanFault>
     requires end { IsEndOf text.now (arc_value buffer.now).items }
     requires line { (rest : List ℕ) × (text.now ≡ line.now ++ rest) }
@@ -60,7 +60,7 @@ fn shared_uri(buffer: &Arc<Vec<u8>>, text: &[u8], line: &[u8]) -> Result<Clean, 
 }
 
 /// An original and the end of its line, and what follows. The original has a buffer of its own, since a state keeps it
-/// as a key when the rest of the text is long gone.
+/// as a key long after the rest of the text is gone.
 pub fn read_original(alloc: Global, text: &[u8]) -> Result<(Original, &[u8]), StateFault>
     ensures found { IfOk result (λ read. Begins (field IsOriginal 10) text.now read.0 read.1.now) }
     ensures refused { IfErr result (λ fault. Refuses (field IsOriginal 10) text.now fault) }
@@ -70,7 +70,8 @@ pub fn read_original(alloc: Global, text: &[u8]) -> Result<(Original, &[u8]), St
     Ok((original, rest))
 }
 
-/// A memento's URI and the end of its line, and what follows. The text is what is left of the buffer, which is shared.
+/// A memento's URI and the end of its line, and what follows. `text` is what is left of the buffer, which the URI
+/// shares.
 pub fn read_uri<'a>(buffer: &Arc<Vec<u8>>, text: &'a [u8]) -> Result<(Clean, &'a [u8]), StateFault>
     requires { IsEndOf text.now (arc_value buffer.now).items }
     ensures found { IfOk result (λ read. Begins (field IsClean 10) text.now read.0 read.1.now) }

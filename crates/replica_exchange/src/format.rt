@@ -8,9 +8,9 @@ use crate::fields::skip;
 /// How the entries of a text are written.
 #[derive(Clone, Copy, Debug, PartialEq, Eq)]
 pub enum Format {
-    /// Each with its whole revision alone.
+    /// Each entry with only its whole revision.
     One,
-    /// Each with its whole revision, if there is one, and all its revisions.
+    /// Each entry with its whole revision, if there is one, and all its revisions.
     Two,
 }
 

@@ -14,20 +14,20 @@ ghost use Rattle.replica_exchange.specs.declared.delta.Delta.{Delta};
 ghost use Rattle.replica_exchange.specs.DeltaText.{delta_text, IsDelta, IsDeltaText};
 ghost use Rattle.replica_exchange.specs.LineOrder.{by_archive_then_original, by_second_then_address};
 
-/// No two states have the same text, in whichever formats.
+/// No two states have the same text, whatever their formats.
 pub fn one_text_of_a_state()
     ensures written { (x y : Entries) → IsState x → IsState y → state_text x ≡ state_text y → x ≡ y }
     ensures read { (text : List ℕ) (x y : Entries) → IsTextOf text x → IsTextOf text y → x ≡ y }
 {}
 
-/// No two deltas have the same text, in whichever formats.
+/// No two deltas have the same text, whatever their formats.
 pub fn one_text_of_a_delta()
     ensures written { (x y : Delta) → IsDelta x → IsDelta y → delta_text x ≡ delta_text y → x ≡ y }
     ensures read { (text : List ℕ) (x y : Delta) → IsDeltaText text x → IsDeltaText text y → x ≡ y }
 {}
 
-/// In the text of a state the entries stand by archive and then by original, the revisions of each from the least one
-/// on, and the mementos of each of these by second and then by address, none twice.
+/// The text of a state has its entries by archive and then by original, the revisions of each entry from the least one
+/// on, and the mementos of each revision by second and then by address, none twice.
 pub fn lines_stand_in_order()
     ensures entries { (x : Entries)
         → IsStrictlySortedBy by_archive_then_original (map_list (λ e. e.0) (map.entries x)) }
@@ -35,13 +35,13 @@ pub fn lines_stand_in_order()
     ensures mementos { (mementos : Mementos) → IsStrictlySortedBy by_second_then_address (set.items mementos) }
 {}
 
-/// What merges made is one: their state, and the one stamp of each of its entries.
+/// Merges have exactly one result: their state, and one stamp for each of its entries.
 pub fn one_stamped_state()
     ensures { (merges : List Merge) (s t : StampedState) → IsStamped merges s → IsStamped merges t
         → s.incarnation ≡ t.incarnation → s ≡ t }
 {}
 
-/// One merge more gives its number as stamp to the entries that it changes, and leaves the other stamps.
+/// One more merge gives its number as a stamp to the entries that it changes, and leaves the other stamps as they are.
 pub fn one_merge_more()
     ensures stays { (merges : List Merge) (m : Merge) (k : Key) (n : ℕ) → IsStamp merges k n
         → map.get (state_after (merges ++ m ∷ [])) k ≡ map.get (state_after merges) k → IsStamp (merges ++ m ∷ []) k n }
@@ -50,7 +50,8 @@ pub fn one_merge_more()
         → IsStamp (merges ++ m ∷ []) k (length merges + 1) }
 {}
 
-/// So what absorbs one merge more is what the merges with it made; and what none made is empty.
+/// So the result of absorbing one more merge is the result of all merges including it, and the result of no merges is
+/// empty.
 pub fn one_merge_is_absorbed()
     ensures more { (merges : List Merge) (m : Merge) (s t : StampedState) → IsStamped merges s → IsAbsorbed s m t
         → IsStamped (merges ++ m ∷ []) t }
@@ -58,8 +59,8 @@ pub fn one_merge_is_absorbed()
         → IsStamped [] (record { entries = map.empty; stamps = map.empty; number = 0; incarnation = incarnation }) }
 {}
 
-/// To what is at least the state of the first n merges, the entries above n add just what all the merges do. Above zero
-/// are all entries.
+/// To anything that is at least the state of the first n merges, the entries with a stamp above n add exactly what all
+/// the merges add. All entries have a stamp above zero.
 pub fn deltas_suffice()
     ensures suffice { (merges : List Merge) (s : StampedState) (n : ℕ) (x : Entries) → IsStamped merges s →
         AtMost (state_after (take n merges)) x → join x (entries_above s n) ≡ join x (state_after merges) }

@@ -1,8 +1,8 @@
-//! A replica's knowledge as one exact text, which it hands to its peers: each state has one text that is written, and
-//! besides the text of an older format no other is read.
+//! A replica's knowledge as one exact text, which it hands to its peers. Each state is written as exactly one text, and
+//! no other text is read as this state except that of an older format.
 //!
-//! Format 2, in which every state and delta is written, has these lines, each ended by LF, with nothing behind the last
-//! one and one space between fields:
+//! Every state and delta is written in format 2. It has these lines, each ended by LF, with nothing after the last one
+//! and one space between fields:
 //!
 //! ```text
 //! memento-state 2
@@ -13,14 +13,14 @@
 //! end
 //! ```
 //!
-//! There are N entries, by ARCHIVE and then by ORIGINAL, and none twice. An entry is one `entry` line and then
-//! REVISIONS revisions, one at least, each greater than the one before. WHOLE is the revision of the entry's whole
-//! harvest, and then it is the first of these; it is `-` where all are of parts. A revision is one `at` line and then
+//! There are N entries, by ARCHIVE and then by ORIGINAL, none twice. An entry is one `entry` line and then REVISIONS
+//! revisions, at least one, each greater than the one before. WHOLE is the revision of the entry's whole harvest, which
+//! is then the first of these revisions; it is `-` if all of them are of parts. A revision is one `at` line and then
 //! COUNT lines of mementos, by SECONDS and then by URI, none twice. Texts are compared by their bytes. N, WHOLE,
-//! REVISIONS, REVISION, COUNT and SECONDS are decimals of 64 bits with no zero in front; SECONDS count from the start
-//! of 1970 and lie before the year 10000.
+//! REVISIONS, REVISION, COUNT and SECONDS are decimals of 64-bit numbers with no zero in front; SECONDS count from the
+//! start of 1970 and lie before the year 10000.
 //!
-//! Format 1 is still read. It has an entry's whole revision alone, in the `entry` line, and its mementos right below:
+//! Format 1 is still read. It has only an entry's whole revision, in the `entry` line, and its mementos right below:
 //!
 //! ```text
 //! memento-state 1
@@ -30,11 +30,11 @@
 //! end
 //! ```
 //!
-//! The first line alone tells the format, so no text has two readings.
+//! The first line alone determines the format, so no text has two readings.
 //!
 //! A replica numbers the merges that it absorbs, and stamps each entry with the number of the merge that last changed
-//! it (`Stamped`). A delta has the entries that the merges after the first START changed, up to the first END, under
-//! these two lines and then as above from `entries N` on, where START is at most END:
+//! it (`Stamped`). A delta has the entries that the merges after the first START changed, up to the first END. It
+//! begins with these two lines and continues as above from `entries N` on; START is at most END:
 //!
 //! ```text
 //! memento-delta 2
@@ -43,8 +43,8 @@
 //!
 //! A delta whose first line is `memento-delta 1` is still read, with entries of format 1.
 //!
-//! A receiver keeps for each peer a cursor, how far that peer's merges are known to it (`Cursors`), and takes a delta
-//! only where it starts at the beginning or at what the cursor reaches.
+//! For each peer, a receiver keeps a cursor, which says how far it knows that peer's merges (`Cursors`). It accepts a
+//! delta only if the delta starts at the beginning or within what the cursor reaches.
 #![tactic(auto)]
 
 mod cursor;

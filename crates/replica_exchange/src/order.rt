@@ -13,10 +13,10 @@ use std::alloc::Global;
 use std::collections::BTreeMap;
 use std::sync::Arc;
 
-/// One name of each archive, which rows share.
+/// One copy of each archive's name, which rows share.
 type Names = BTreeMap<ArchiveName, Arc<ArchiveName>>;
 
-/// A stamp that was given to a key. It takes 32 bytes.
+/// A stamp that was given to a key. A row takes 32 bytes.
 #[derive(Debug, Drop)]
 pub struct OrderRow {
     stamp: u64,
@@ -68,7 +68,7 @@ fn count_until(rows: &[OrderRow], stamp: u64) -> usize
     )
 }
 
-/// Drops the rows whose keys have got other stamps.
+/// Drops the rows whose keys have since got other stamps.
 fn drop_overtaken(rows: &mut Vec<OrderRow>, shelves: &StampShelves)
     ensures { map_list given rows.new.items ≡ filter (stands shelves.now) (map_list given rows.old.items) }
 {
@@ -79,7 +79,7 @@ fn drop_overtaken(rows: &mut Vec<OrderRow>, shelves: &StampShelves)
     );
 }
 
-/// Whether rows outnumber keys by more than two to one, once some more are added.
+/// Whether there are more than two rows for each key, once some more rows are added.
 fn is_crowded(rows: usize, more: usize, keys: usize) -> bool {
     rows.saturating_add(more) / 2 > keys
 }
@@ -87,8 +87,9 @@ fn is_crowded(rows: usize, more: usize, keys: usize) -> bool {
 /// The stamps that merges gave, in order, each with the key that got it: a row for each key and its stamp, and rows of
 /// stamps that their keys no longer have.
 ///
-/// A key gets a row with each merge that changes it. Before rows are added, those that their keys no longer have are
-/// dropped if rows would else be more than twice the keys and one: so after a merge there are at most that many.
+/// A key gets a row with each merge that changes it. Before rows are added, the rows of stamps that their keys no
+/// longer have are dropped if there would otherwise be more rows than twice the number of keys and one. So after a
+/// merge there are at most that many.
 #[derive(Debug, Drop)]
 pub struct StampOrder {
     alloc: Global,
@@ -117,7 +118,7 @@ impl StampOrder {
         &rows[count..]
     }
 
-    /// The archive's name, shared. It stays where the rest of a merge is refused.
+    /// The archive's name, shared. It stays even if the rest of a merge is refused.
     fn name(&mut self, archive: ArchiveName) -> Result<Arc<ArchiveName>, NoMemory>
         ensures name { IfOk result (λ name. arc_value name ≡ archive) }
         ensures same { self.new.rows ≡ self.old.rows }
@@ -147,7 +148,7 @@ impl StampOrder {
         Ok(())
     }
 
-    /// Adds a row for each of the keys. Where memory is refused, some may have been added.
+    /// Adds a row for each of the keys. If memory is refused, some may have been added.
     pub fn add_all(&mut self, keys: &[ChangedKey], stamp: u64) -> Result<(), NoMemory>
         ensures ok { OnOk result (order_of self.new ≡ order_of self.old ++ map_list (given_at stamp) keys.now) }
         ensures front { take (length (order_of self.old)) (order_of self.new) ≡ order_of self.old }
@@ -165,14 +166,14 @@ impl StampOrder {
         self.rows.len()
     }
 
-    /// Drops the rows behind the first `len`.
+    /// Drops the rows after the first `len`.
     pub fn truncate(&mut self, len: usize)
         ensures { order_of self.new ≡ take len (order_of self.old) }
     {
         self.rows.truncate(len);
     }
 
-    /// Drops the rows whose keys have got other stamps, if they would outnumber the others. Takes no memory.
+    /// Drops the rows whose keys have since got other stamps, if they would outnumber the others. Takes no memory.
     pub fn make_place(&mut self, shelves: &StampShelves, more: usize, keys: usize)
         ensures { (number : ℕ) → IsOrderOf shelves.now (order_of self.old) number
             → IsOrderOf shelves.now (order_of self.new) number }

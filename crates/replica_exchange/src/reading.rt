@@ -17,10 +17,10 @@ use harvest_lattice::State;
 use std::alloc::Global;
 use std::sync::Arc;
 
-/// The most bytes of a state's or a delta's text.
+/// The most bytes that the text of a state or a delta can have.
 const MAX_LEN: usize = 268_435_456;
 
-/// The state from `entries N` to `end`, after which nothing comes.
+/// The state from `entries N` to `end`, which nothing may follow.
 fn read_entries_of_state(
     alloc: Global,
     format: Format,
@@ -38,8 +38,9 @@ fn read_entries_of_state(
     }
 }
 
-/// The state whose text this is, in either format. Takes time linear in the text; N, REVISIONS and COUNT reserve
-/// nothing. Of the text nothing is kept: an original has a buffer of its own, and so have the addresses of a revision.
+/// Reads the state whose text this is, in either format. Takes time linear in the text, and reserves nothing by N,
+/// REVISIONS and COUNT. Nothing of the text is kept: an original has a buffer of its own, and so do the addresses of a
+/// revision.
 pub fn read_state(alloc: Global, text: &[u8]) -> Result<State, StateFault>
     ensures found { IfOk result (λ state. IsTextOf text.now state) }
     ensures within { IfOk result (λ _. length text.now ≤ longest_text) }
@@ -83,8 +84,9 @@ fn read_span(text: &[u8]) -> Result<(Span, &[u8]), StateFault>
     Ok((span, rest))
 }
 
-/// The delta whose text this is, in either format. Takes time linear in the text; N, REVISIONS and COUNT reserve
-/// nothing. Of the text nothing is kept: an original has a buffer of its own, and so have the addresses of a revision.
+/// Reads the delta whose text this is, in either format. Takes time linear in the text, and reserves nothing by N,
+/// REVISIONS and COUNT. Nothing of the text is kept: an original has a buffer of its own, and so do the addresses of a
+/// revision.
 pub fn read_delta(alloc: Global, text: &[u8]) -> Result<Delta, StateFault>
     ensures found { IfOk result (λ delta. IsDeltaText text.now delta) }
     ensures within { IfOk result (λ _. length text.now ≤ longest_text) }

@@ -33,7 +33,7 @@ use std::marker::Model;
 /// Why a merge isn't absorbed.
 #[derive(Clone, Copy, Debug, PartialEq, Eq)]
 pub enum StampFault {
-    /// As many merges were absorbed as a number of 64 bits counts.
+    /// As many merges were absorbed as a 64-bit number can count.
     NumbersSpent,
     /// The allocator refused a growth.
     NoMemory,
@@ -60,8 +60,8 @@ impl From<NoMemory> for StampFault {
     }
 }
 
-/// Makes room for the stamps of the keys, and has the index take the changes. Where memory is refused, the index and
-/// the stamps are as they were, and slots may have been made that are empty, and rows added to the order.
+/// Makes room for the stamps of the keys, and has the index take in the changes. If memory is refused, the index and
+/// the stamps are as they were, but empty slots may have been made, and rows added to the order.
 fn put_with_room(
     index: &mut Index,
     stamps: &mut StampShelves,
@@ -94,7 +94,7 @@ fn by_key(left: &Row, right: &Row) -> Ordering {
     }
 }
 
-/// What the merges of an incarnation made, and since which of them each entry is as it is.
+/// What the merges of an incarnation made, and which of them last changed each entry.
 #[derive(Debug, Drop)]
 pub struct Stamped {
     alloc: Global,
@@ -129,7 +129,7 @@ impl Model for Stamped {
 impl Stamped {
     ghost use Rattle.memento_index.specs.declared.merge.Merge.{Merge};
 
-    /// What no merges made. Takes no memory.
+    /// The result of no merges. Takes no memory.
     pub fn new(alloc: Global, incarnation: u64) -> Stamped
         ensures empty { result
             ≡ record { entries = map.empty; stamps = map.empty; number = 0; incarnation = incarnation } }
@@ -145,12 +145,12 @@ impl Stamped {
         }
     }
 
-    /// Takes a harvest, or all that a state has, as the merge of the next number. The entries that it changes have that
-    /// number as their stamp.
+    /// Takes in a harvest, or everything that a state has, as the merge with the next number. The entries that it
+    /// changes get that number as their stamp.
     ///
-    /// It has all its memory before the first change. Besides what `Index::absorb` takes, it takes time in the size of
-    /// the merge, and for each entry that changes logarithmic in the number of keys. After as many changes as there are
-    /// keys it looks up the stamp of every row, of which there are then two for each key.
+    /// It gets all its memory before the first change. In addition to what `Index::absorb` takes, it takes time in the
+    /// size of the merge and, for each entry that changes, time logarithmic in the number of keys. After as many
+    /// changes as there are keys, it looks up the stamp of every row; there are then two rows for each key.
     pub fn absorb(&mut self, merge: &Merge) -> Result<(), StampFault>
         ensures ok { OnOk result (IsAbsorbed self.old merge.now self.new) }
         ensures stands { (merges : List Merge) → IsStamped merges self.old
@@ -165,7 +165,7 @@ impl Stamped {
         Ok(())
     }
 
-    /// Takes a merge in with its number.
+    /// Takes in a merge with its number.
     fn absorb_as(&mut self, number: u64, merge: &Merge) -> Result<(), NoMemory>
         requires { number ≡ self.old.number + 1 }
         ensures ok { OnOk result (IsAbsorbed self.old merge.now self.new) }
@@ -220,7 +220,7 @@ impl Stamped {
         self.number
     }
 
-    /// The number of merges from which on an entry is as it is. Takes time logarithmic in the number of keys.
+    /// The number of the merge that last changed an entry. Takes time logarithmic in the number of keys.
     pub fn stamp(&self, archive: ArchiveName, original: &Original) -> Option<u64>
         ensures { result ≡ map.get self.now.stamps (archive, original.now) }
     {
@@ -284,12 +284,12 @@ impl Stamped {
         Ok(rows)
     }
 
-    /// Whether so many stamps are above the start that a walk over all entries is no dearer.
+    /// Whether so many stamps are above the start that a walk over all entries costs no more.
     fn is_much_above(&self, start: u64) -> bool {
         self.order.behind(start).len() > self.order.len() / 8
     }
 
-    /// The entries with a stamp above the start, where these are few.
+    /// The entries with a stamp above the start, if there are few of them.
     pub(crate) fn few_above(&self, start: u64) -> Result<Option<State>, NoMemory>
         ensures { IfOk result (λ found. IfSome found (λ state. state ≡ entries_above self.now start)) }
     {
@@ -301,7 +301,7 @@ impl Stamped {
         State::of_rows(self.alloc, rows)
     }
 
-    /// Where a delta from a cursor starts.
+    /// The start of a delta from a cursor.
     pub(crate) fn start_from(&self, cursor: Option<Cursor>) -> u64
         ensures start { result ≡ start_from self.now cursor }
         ensures within { result ≤ self.now.number }

@@ -1,4 +1,4 @@
-//! Where stamps are kept: slots by archive and original.
+//! Keeps stamps, in slots by archive and original.
 ghost use Rattle.std.specs.Prelude.{◌≡◌, ◌↔◌, ℕ, List, cond, IsSome, IsTrue, OnOk, IfOk, None, Some, map as map_list};
 ghost use Rattle.std.specs.BTreeMap as tree;
 ghost use Rattle.std.specs.BTreeMap.{IsOrdered};
@@ -47,7 +47,7 @@ impl ChangedKey {
     }
 }
 
-/// The keys of the rows. They stay where the rows are taken in.
+/// The keys of the rows. They remain when the rows are taken in.
 pub fn keys_of(alloc: Global, rows: &[Row]) -> Result<Vec<ChangedKey>, NoMemory>
     ensures { IfOk result (λ keys. map_list key_of keys.items ≡ map_list row_key rows.now) }
 {
@@ -96,7 +96,7 @@ impl StampShelf {
         *self.slots.get(original)?
     }
 
-    /// Makes a slot where there is none. The stamps stay.
+    /// Makes a slot if there is none. The stamps stay as they are.
     fn make_slot(&mut self, original: &Original) -> Result<(), NoMemory>
         ensures same { (o : List ℕ) → filled (map.get self.new o) ≡ filled (map.get self.old o) }
         ensures stay { (o : List ℕ) → IsSome (map.get self.old o) → IsSome (map.get self.new o) }
@@ -119,7 +119,7 @@ impl StampShelf {
         }
     }
 
-    /// Drops the slot if it is empty. The stamps stay.
+    /// Drops the slot if it is empty. The stamps stay as they are.
     fn drop_empty(&mut self, original: &Original)
         ensures same { (o : List ℕ) → filled (map.get self.new o) ≡ filled (map.get self.old o) }
         ensures gone { ¬ (map.get self.new original.now ≡ Some None) }
@@ -130,7 +130,7 @@ impl StampShelf {
         }
     }
 
-    /// Puts a stamp into a slot that is there.
+    /// Puts a stamp into a slot that exists.
     fn fill(&mut self, original: &Original, stamp: u64)
         requires { IsSome (map.get self.old original.now) }
         ensures { self.new ≡ map.insert self.old original.now (Some stamp) }
@@ -152,7 +152,7 @@ pub fn stamp_at(shelves: &StampShelves, archive: ArchiveName, original: &Origina
     shelves.get(&archive)?.stamp(original)
 }
 
-/// Makes a shelf for the archive where there is none.
+/// Makes a shelf for the archive if there is none.
 fn make_shelf(
     shelves: &mut StampShelves,
     alloc: Global,
@@ -170,7 +170,7 @@ fn make_shelf(
     Ok(())
 }
 
-/// Makes a slot for the key where there is none. The stamps stay.
+/// Makes a slot for the key if there is none. The stamps stay as they are.
 fn make_room(
     shelves: &mut StampShelves,
     alloc: Global,
@@ -207,7 +207,7 @@ pub fn make_rooms(
     Ok(())
 }
 
-/// Drops the slot of a key if it is empty. The stamps stay.
+/// Drops the slot of a key if it is empty. The stamps stay as they are.
 fn drop_room(shelves: &mut StampShelves, archive: ArchiveName, original: &Original)
     requires ordered { IsOrdered text_cmp shelves.old }
     ensures same { (k : Key) → filled (slot shelves.new k) ≡ filled (slot shelves.old k) }
@@ -221,8 +221,8 @@ fn drop_room(shelves: &mut StampShelves, archive: ArchiveName, original: &Origin
     shelf.drop_empty(original);
 }
 
-/// Drops the slots of the keys that are empty, so that a merge that is refused leaves no copies of originals. The
-/// stamps stay.
+/// Drops those slots of the keys that are empty, so that a merge that is refused leaves no copies of originals behind.
+/// The stamps stay as they are.
 pub fn drop_rooms(shelves: &mut StampShelves, keys: &[ChangedKey])
     requires ordered { IsOrdered text_cmp shelves.old }
     ensures same { (k : Key) → filled (slot shelves.new k) ≡ filled (slot shelves.old k) }
@@ -234,7 +234,7 @@ pub fn drop_rooms(shelves: &mut StampShelves, keys: &[ChangedKey])
     }
 }
 
-/// Puts a stamp into the slot of a key, which is there.
+/// Puts a stamp into the slot of a key. The slot exists.
 fn fill(shelves: &mut StampShelves, archive: ArchiveName, original: &Original, stamp: u64)
     requires ordered { IsOrdered text_cmp shelves.old }
     requires room { IsSome (slot shelves.old (archive, original.now)) }
@@ -249,7 +249,7 @@ fn fill(shelves: &mut StampShelves, archive: ArchiveName, original: &Original, s
     shelf.fill(original, stamp);
 }
 
-/// Puts a stamp into the slots of the keys, which are there.
+/// Puts a stamp into the slots of the keys. The slots exist.
 pub fn fill_all(shelves: &mut StampShelves, keys: &[ChangedKey], stamp: u64)
     requires ordered { IsOrdered text_cmp shelves.old }
     requires room { All (λ key. IsSome (slot shelves.old (key_of key))) keys.now }

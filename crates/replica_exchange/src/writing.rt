@@ -20,7 +20,7 @@ use memento_time::{ArchiveName, Memento, NoMemory, Original};
 use std::alloc::{AllocError, Global};
 use text_fields::write_decimal;
 
-/// A field and the byte that ends it.
+/// Writes a field and the byte that ends it.
 fn write_field(out: &mut Vec<u8>, field: &[u8], end: u8) -> Result<(), AllocError>
     ensures { OnOk result (out.new.items ≡ out.old.items ++ (field.now ++ end ∷ [])) }
 {
@@ -47,7 +47,7 @@ fn write_memento(out: &mut Vec<u8>, memento: &Memento) -> Result<(), AllocError>
     write_field(out, memento.uri.as_bytes(), b'\n')
 }
 
-/// The whole revision, if there is one, and a space.
+/// Writes the whole revision, if there is one, and a space.
 fn write_whole(out: &mut Vec<u8>, whole: Option<u64>) -> Result<(), AllocError>
     ensures written { OnOk result (out.new.items ≡ out.old.items ++ (whole_field whole ++ 32 ∷ [])) }
     ensures fits { IfSome whole (λ revision. revision < 2 ^ 64) }
@@ -76,7 +76,7 @@ fn write_entry_line(
     write_field(out, original.as_bytes(), b'\n')
 }
 
-/// A line for each memento.
+/// Writes a line for each memento.
 fn write_mementos(out: &mut Vec<u8>, mementos: &[Memento]) -> Result<(), AllocError>
     ensures written { OnOk result (out.new.items ≡ out.old.items ++ flat_map memento_line mementos.now) }
     ensures fits { OnOk result (All IsMemento mementos.now) }
@@ -87,7 +87,7 @@ fn write_mementos(out: &mut Vec<u8>, mementos: &[Memento]) -> Result<(), AllocEr
     Ok(())
 }
 
-/// A revision's line.
+/// Writes a revision's line.
 fn write_part_line(out: &mut Vec<u8>, revision: u64, count: usize) -> Result<(), AllocError>
     ensures written { OnOk result (out.new.items ≡ out.old.items ++ part_line revision count) }
     ensures fits { IsPartLine revision count }
@@ -97,7 +97,7 @@ fn write_part_line(out: &mut Vec<u8>, revision: u64, count: usize) -> Result<(),
     write_number(out, count as u64, b'\n')
 }
 
-/// A revision's line, and a line for each of its mementos.
+/// Writes a revision's line, and a line for each of its mementos.
 fn write_part(out: &mut Vec<u8>, revision: u64, mementos: &[Memento]) -> Result<(), AllocError>
     ensures written { OnOk result (out.new.items ≡ out.old.items
         ++ (part_line revision (length mementos.now) ++ flat_map memento_line mementos.now)) }
@@ -107,7 +107,7 @@ fn write_part(out: &mut Vec<u8>, revision: u64, mementos: &[Memento]) -> Result<
     write_mementos(out, mementos)
 }
 
-/// The entry's revisions in order, each with its mementos.
+/// Writes the entry's revisions in order, each with its mementos.
 fn write_parts(out: &mut Vec<u8>, entry: &Entry) -> Result<(), AllocError>
     ensures written { OnOk result (out.new.items ≡ out.old.items
         ++ flat_map part_text (map.entries entry.now.revisions)) }
@@ -133,7 +133,7 @@ fn write_entry(
     write_parts(out, entry)
 }
 
-/// The entries by archive, then by original.
+/// Writes the entries by archive, then by original.
 fn write_entries(out: &mut Vec<u8>, state: &State) -> Result<(), AllocError>
     ensures written { OnOk result (out.new.items ≡ out.old.items
         ++ flat_map entry_text (map.entries state.now)) }
@@ -145,7 +145,7 @@ fn write_entries(out: &mut Vec<u8>, state: &State) -> Result<(), AllocError>
     Ok(())
 }
 
-/// One more than the count, if the entry's stamp is above the start.
+/// Adds one to the count if the entry's stamp is above the start.
 fn count_if_above(
     count: usize,
     all: usize,
@@ -178,7 +178,7 @@ fn count_above(stamped: &Stamped, start: u64) -> u64
     count as u64
 }
 
-/// The entry, if its stamp is above the start.
+/// Writes the entry, if its stamp is above the start.
 fn write_if_above(
     out: &mut Vec<u8>,
     stamped: &Stamped,
@@ -198,7 +198,7 @@ fn write_if_above(
     write_entry(out, archive, original, entry)
 }
 
-/// The entries with a stamp above the start, by archive, then by original.
+/// Writes the entries with a stamp above the start, by archive, then by original.
 fn write_entries_above(out: &mut Vec<u8>, stamped: &Stamped, start: u64) -> Result<(), AllocError>
     ensures written { OnOk result (out.new.items ≡ out.old.items
         ++ flat_map entry_text (map.entries (entries_above stamped.now start))) }
@@ -210,7 +210,7 @@ fn write_entries_above(out: &mut Vec<u8>, stamped: &Stamped, start: u64) -> Resu
     Ok(())
 }
 
-/// The number of a state's entries, and the entries.
+/// Writes the number of a state's entries, and the entries.
 fn write_all_counted(out: &mut Vec<u8>, state: &State) -> Result<(), AllocError>
     ensures written { OnOk result (out.new.items ≡ out.old.items ++ counted_text (map.entries state.now)) }
     ensures fits { OnOk result (AreEntries (map.entries state.now)) }
@@ -219,7 +219,7 @@ fn write_all_counted(out: &mut Vec<u8>, state: &State) -> Result<(), AllocError>
     write_entries(out, state)
 }
 
-/// The number of the entries with a stamp above the start, and these entries, from a walk over all.
+/// Writes the number of the entries with a stamp above the start, and these entries, from a walk over all entries.
 fn write_above_counted(out: &mut Vec<u8>, stamped: &Stamped, start: u64) -> Result<(), AllocError>
     ensures written { OnOk result (out.new.items ≡ out.old.items
         ++ counted_text (map.entries (entries_above stamped.now start))) }
@@ -229,7 +229,7 @@ fn write_above_counted(out: &mut Vec<u8>, stamped: &Stamped, start: u64) -> Resu
     write_entries_above(out, stamped, start)
 }
 
-/// The number of the entries with a stamp above the start, and these entries.
+/// Writes the number of the entries with a stamp above the start, and these entries.
 fn write_counted(out: &mut Vec<u8>, stamped: &Stamped, start: u64) -> Result<(), NoMemory>
     ensures written { OnOk result (out.new.items ≡ out.old.items
         ++ counted_text (map.entries (entries_above stamped.now start))) }
@@ -252,10 +252,11 @@ fn write_span(out: &mut Vec<u8>, incarnation: u64, start: u64, end: u64) -> Resu
     write_number(out, end, b'\n')
 }
 
-/// The text, in format 2, of what the merges after a cursor changed, or of all where there is none of this incarnation.
+/// The text, in format 2, of what the merges after a cursor changed, or of everything if there is no cursor of this
+/// incarnation.
 ///
-/// Takes time linear in the text, and for each entry in it logarithmic in the number of keys. Where more than an eighth
-/// of all stamps are above the start, it looks up the stamp of every entry of the state instead, twice.
+/// Takes time linear in the text and, for each entry in it, time logarithmic in the number of keys. If more than an
+/// eighth of all stamps are above the start, it looks up the stamp of every entry of the state instead, twice.
 pub fn write_delta(
     alloc: Global,
     stamped: &Stamped,
