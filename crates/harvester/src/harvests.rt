@@ -10,7 +10,7 @@ use crate::jobs::Job;
 use harvest_lattice::{Harvest, HarvestFault};
 use memento_time::Memento;
 
-/// The job's harvest, by its mark.
+/// The job's harvest, whole or part as the mark says.
 fn make(job: &Job, is_whole: bool, mementos: Vec<Memento>) -> Result<Harvest, HarvestFault>
     ensures kept { IfOk result
         (λ h. h ≡ record {
@@ -30,7 +30,7 @@ fn make(job: &Job, is_whole: bool, mementos: Vec<Memento>) -> Result<Harvest, Ha
     }
 }
 
-/// The job's harvest with these mementos: whole where no page is lost, else part.
+/// The job's harvest with these mementos: whole if no page is lost, otherwise part.
 pub(crate) fn harvest(
     job: &Job,
     is_whole: bool,

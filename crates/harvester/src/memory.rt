@@ -1,4 +1,4 @@
-//! A Fetch from memory, without a network.
+//! A `Fetch` from memory, without a network.
 ghost use Rattle.std.specs.Prelude.{◌≡◌, ◌++◌, ◌∷◌, [], IfOk, OnErr, OnOk, None, Some, option_copied};
 ghost use Rattle.harvester.specs.Memory.{answer_in};
 
@@ -12,7 +12,7 @@ use std::random::RandomSource;
 use std::sync::Wait;
 use std::time::Clock;
 
-/// Answers from rows of URLs and answers, for tests. A URL that stands in no row is Failed. A contract sees its rows.
+/// Answers from rows of URLs and answers, for tests. A URL without a row is `Failed`. A contract sees the rows.
 #[derive(Drop)]
 pub struct MemoryFetch {
     rows: Vec<(Clean, Answer)>,
@@ -28,7 +28,7 @@ impl Model for MemoryFetch {
 }
 
 impl MemoryFetch {
-    /// A fetch without rows, which fails for each URL.
+    /// A fetch without rows. It fails for each URL.
     pub fn new(alloc: Global) -> MemoryFetch
         ensures { result ≡ [] }
     {
@@ -37,7 +37,7 @@ impl MemoryFetch {
         }
     }
 
-    /// Adds a row: what is answered for a URL. Of several rows of one URL the first is answered.
+    /// Adds a row: the answer for a URL. If a URL has several rows, the first one is answered.
     pub fn add(&mut self, url: Clean, answer: Answer) -> Result<(), NoMemory>
         ensures ok { OnOk result (self.new ≡ self.old ++ (url, answer) ∷ []) }
         ensures err { OnErr result (self.new ≡ self.old) }
