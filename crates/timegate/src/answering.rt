@@ -42,16 +42,16 @@ use timemap_writer::{Service, pages, write_gate_links, write_index, write_page, 
 /// | a TimeMap of more | 200 | the index of its pages, in link-format |
 /// | a page of a TimeMap | 200 | the page, in link-format |
 ///
-/// A page is asked for at `/timemap/link/page/K/` and the original, K a decimal of 64 bits. It has 1,000 mementos, and
-/// the last has what is left. Where `page/` isn't followed by a decimal and a slash, the original is read from `page/`
-/// on.
+/// A page is asked for at `/timemap/link/page/K/` followed by the original, where K is a decimal of a 64-bit number. A
+/// page has 1,000 mementos, and the last one has the rest. If `page/` isn't followed by a decimal and a slash, the
+/// original is read from `page/` on.
 ///
-/// A TimeGate names the memento nearest to the moment that it is asked for, or else the latest. Each reply of a
-/// TimeGate has `Vary: accept-datetime`. The short texts end in a line feed. `HEAD` is answered as `GET`, without the
-/// body.
+/// A TimeGate names the memento nearest to the moment that is asked for, or the latest one if no moment is. Each reply
+/// of a TimeGate has `Vary: accept-datetime`. The short texts end with a line feed. `HEAD` is answered like `GET`,
+/// without the body.
 ///
-/// The TimeMap, its pages and the `Link` of a redirect tell the addresses of the original's TimeGate and TimeMap, and
-/// the index those of the pages. A client that gets one of these asks for what it was told.
+/// The TimeMap, its pages and the `Link` of a redirect give the addresses of the original's TimeGate and TimeMap, and
+/// the index gives those of the pages. A client that requests such an address asks for just what it was told.
 pub fn answer(
     alloc: Global,
     service: &Service,
@@ -63,7 +63,7 @@ pub fn answer(
         IfOk result (λ answer. answer ≡ reply service.now known request.now) }
     ensures deltas { (cursor : Option Cursor) → route_of request.now ≡ Delta cursor → IfOk result
         (λ answer. answer.body ≡ (if is_head request.now then [] else delta_text (delta_from stamped.now cursor))) }
-    // The addresses that are told of the original are served.
+    // The addresses that are given for the original are served.
     ensures served { OnOk result (IfSome (original_in (route_of request.now)) (IsServed service.now)) }
 {
     let route = route_of(alloc, request)?;
@@ -150,7 +150,7 @@ fn timemap(
     links_reply(alloc, request, text)
 }
 
-/// A page of the TimeMap, if any memento is shown and there is a page of this number.
+/// A page of the TimeMap, if any memento is shown and there is a page with this number.
 fn page(
     alloc: Global,
     service: &Service,
@@ -177,7 +177,7 @@ fn page(
     links_reply(alloc, request, text)
 }
 
-/// The page of this number, if the list has one.
+/// The page with this number, if the list has one.
 fn page_of(mementos: &[Memento], number: u64) -> Option<usize>
     ensures found { IfSome result (λ page. (page ≡ number) × IsPage mementos.now page) }
     ensures none { IfNone result ((number == 0 || nat_lt (pages mementos.now) number) ≡ true) }
@@ -198,7 +198,7 @@ fn links_reply(alloc: Global, request: &Request, text: Vec<u8>) -> Result<Reply,
     Ok(reply_with(request, 200, headers, text))
 }
 
-/// The state bytes, which peers fetch.
+/// Replies with the state bytes, which peers fetch.
 fn state(alloc: Global, index: &Index, request: &Request) -> Result<Reply, NoMemory>
     ensures { IfOk result (λ answer. answer ≡ peer_reply request.now (state_text index.now)) }
 {
@@ -210,7 +210,7 @@ fn state(alloc: Global, index: &Index, request: &Request) -> Result<Reply, NoMem
     peer_reply(alloc, request, text)
 }
 
-/// What the merges after a cursor changed, which peers fetch.
+/// Replies with what the merges after a cursor changed, which peers fetch.
 fn delta(
     alloc: Global,
     stamped: &Stamped,
@@ -245,7 +245,7 @@ fn bad_method(alloc: Global, request: &Request) -> Result<Reply, NoMemory>
     short_reply(alloc, request, 405, headers, b"bad method\n")
 }
 
-/// A short text, behind these headers.
+/// Replies with a short text, after these headers.
 fn short_reply(
     alloc: Global,
     request: &Request,
@@ -262,7 +262,7 @@ fn short_reply(
     Ok(reply_with(request, status, headers, body))
 }
 
-/// What a TimeGate says depends on the moment that is asked for.
+/// Adds `Vary` to a TimeGate's reply, which depends on the moment that is asked for.
 fn push_vary(
     alloc: Global,
     headers: &mut Vec<(Header, Octets)>,
@@ -276,7 +276,7 @@ fn push_vary(
     Ok(())
 }
 
-/// HEAD is answered without the body.
+/// The reply with this body, which `HEAD` gets without the body.
 fn reply_with(
     request: &Request,
     status: u16,

@@ -1,5 +1,5 @@
-//! What a client of the service is answered: the redirects of a TimeGate and the TimeMaps of originals
-//! (RFC 7089, sections 4 and 5), to the byte.
+//! The replies of the service to its clients, byte for byte: the redirects of a TimeGate and the TimeMaps of originals
+//! (RFC 7089, sections 4 and 5).
 #![tactic(auto)]
 
 mod answering;

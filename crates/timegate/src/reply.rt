@@ -1,4 +1,4 @@
-//! Replies, as they stand in the head and the body of an HTTP response.
+//! Replies, as they appear in the head and the body of an HTTP response.
 ghost use Rattle.std.specs.Prelude.{◌≡◌, Some};
 ghost use Rattle.timegate.specs.Reply.{header_name};
 
@@ -16,7 +16,7 @@ pub enum Header {
 }
 
 impl Header {
-    /// The field's name, as `Content-Type`.
+    /// The field's name, such as `Content-Type`.
     pub fn name(self) -> &'static str
         ensures { result.now ≡ header_name self }
     {
@@ -38,7 +38,7 @@ impl fmt::Display for Header {
     }
 }
 
-/// What a client is answered. The headers stand in the order of `Header`, each at most once.
+/// The reply to a client. The headers are in the order of `Header`, each at most once.
 #[derive(Debug, Drop)]
 pub struct Reply {
     pub status: u16,

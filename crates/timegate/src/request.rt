@@ -1,7 +1,7 @@
 //! Requests.
 use memento_time::{Items, Octets};
 
-/// What a client asks, as it stands in the head of an HTTP request.
+/// What a client asks, as it appears in the head of an HTTP request.
 #[derive(Debug, Drop)]
 pub struct Request {
     /// The method; methods are case-sensitive.

@@ -28,7 +28,7 @@ pub enum Route {
     TimeGate(Original, Option<Moment>),
     /// The TimeMap of an original.
     TimeMap(Original),
-    /// The page of this number of the TimeMap of an original.
+    /// The page with this number of an original's TimeMap.
     Page(u64, Original),
 }
 
@@ -56,7 +56,7 @@ fn is_whole_delta(request: &Request) -> bool
     request.target.as_slice() == b"/delta".as_slice()
 }
 
-/// What follows the front, where the bytes begin with it.
+/// What follows the front, if the bytes begin with it.
 fn behind<'a>(bytes: &'a [u8], front: &[u8]) -> Option<&'a [u8]>
     ensures found { IfSome result (λ rest. (starts_with nat_eq bytes.now front.now ≡ true)
         × (rest.now ≡ drop (length front.now) bytes.now)) }
@@ -122,7 +122,7 @@ fn timegate_route(asked: &[Octets], original: Original) -> Route
     }
 }
 
-/// The number of a page and what follows it, where the bytes begin with these.
+/// The number of a page and what follows it, if the bytes begin with such a number.
 fn page_in(bytes: &[u8]) -> Option<(u64, &[u8])>
     ensures { option_map (λ page. (page.0, page.1.now)) result ≡ page_in bytes.now }
 {
@@ -130,7 +130,7 @@ fn page_in(bytes: &[u8]) -> Option<(u64, &[u8])>
     Some((read_decimal(number)?, rest))
 }
 
-/// A page of a TimeMap, where the bytes begin with its number, and else the TimeMap of the original that they name.
+/// A page of a TimeMap, if the bytes begin with its number; otherwise the TimeMap of the original that they name.
 fn map_route(alloc: Global, bytes: &[u8]) -> Result<Route, NoMemory>
     ensures route { IfOk result (λ route. route ≡ map_route bytes.now) }
     ensures kept { IfOk result (λ route. IfSome (original_in route) IsAsked) }
@@ -147,7 +147,7 @@ fn map_route(alloc: Global, bytes: &[u8]) -> Result<Route, NoMemory>
     }
 }
 
-/// What the request asks for: the first refusal that fits, or the TimeGate, the TimeMap or a page of it.
+/// What the request asks for: the first refusal that fits, or else the TimeGate, the TimeMap or a page of it.
 #[tactic(auto, unfolding(crate::specs::Route::route_of))]
 pub fn route_of(alloc: Global, request: &Request) -> Result<Route, NoMemory>
     ensures route { IfOk result (λ route. route ≡ route_of request.now) }
