@@ -1,4 +1,4 @@
-//! What holds of all replicas of a world.
+//! Laws that hold for all replicas of a world.
 ghost use Rattle.std.specs.Prelude.{◌≡◌, ◌↔◌, ℕ, List, Some};
 ghost use Rattle.harvest_lattice.specs.Knowledge.{lat};
 ghost use Rattle.timegate.specs.declared.reply.Reply.{Reply};
@@ -11,15 +11,16 @@ ghost use Rattle.replica_events.specs.History.{LearntAlike, history_of};
 ghost use Rattle.replica_events.specs.Agreement.{HasTaken, Gives, SameHarvests, Agree, ServesTimeMaps};
 ghost use Rattle.replica_events.specs.Agreement.{ServesTimeGates, RedirectsWell};
 
-/// After every list of harvests taken, messages sent, restarts, and deliveries that were lost, delayed, repeated or
-/// reordered, two replicas that have learnt the same harvests since their last restart, directly or through each other,
-/// give every original the same TimeMap bytes, and every request that asks for no delta the same reply. What they have
-/// learnt, the accepted events alone say. A delta also tells of the merges by which the harvests came. Each redirect
-/// names a memento of the latest harvests, and none of these lies nearer to the asked datetime.
+/// Two replicas that have learnt the same harvests since their last restart, directly or through each other, give the
+/// same TimeMap bytes for every original, and the same reply to every request that asks for no delta. This holds after
+/// every list of harvests taken, messages sent, restarts, and deliveries that were lost, delayed, repeated or
+/// reordered. The accepted events alone determine what the replicas have learnt. A delta also tells by which merges the
+/// harvests came. Each redirect names a memento of the latest harvests, and none of their mementos is nearer to the
+/// datetime that was asked for.
 ///
-/// `learnt` says it of every course of events. The other clauses say of every world what this rests on. A replica's
-/// reply, unless a delta is asked for, is that of what it has taken. Two replicas agree already where the states of
-/// what they have taken are the same. A TimeGate redirects wherever anything of the original is shown.
+/// `learnt` says so for every course of events. The other clauses say for every world what this rests on. Unless a
+/// delta is asked for, a replica's reply is that of what it has taken. Two replicas already agree if the states of what
+/// they have taken are the same. A TimeGate redirects if any memento of the original is shown.
 pub fn replicas_agree()
     ensures learnt { (base : List ℕ) (course : Course base) (i j : ℕ) (known other : Knowledge) →
         HasTaken course.world i known → HasTaken course.world j other →
@@ -38,7 +39,7 @@ pub fn replicas_agree()
         RedirectsWell base world i known }
 {}
 
-/// After every list of events a replica answers each request, also one for a delta, by the state and the stamps that
+/// After every list of events, a replica answers each request, even one for a delta, by the state and the stamps that
 /// its merges made.
 pub fn replies_are_of_merges()
     ensures { (base : List ℕ) (course : Course base) (i : ℕ) (r : Replica) → replica course.world i ≡ Some r →

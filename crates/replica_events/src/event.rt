@@ -14,19 +14,19 @@ use timegate::{Reply, Request};
 /// An event in a world. Replicas and messages are numbered from 1.
 #[derive(Debug, Drop)]
 pub enum Event {
-    /// The replica of this number takes a harvest.
+    /// The replica with this number takes a harvest.
     Take(usize, Harvest),
-    /// It sends a message with all that it has taken.
+    /// The replica sends a message with everything that it has taken.
     Send(usize),
-    /// It sends a message with what its merges after the first so many changed.
+    /// The replica sends a message with what its merges after the first so many changed.
     SendFrom(usize, u64),
-    /// It gets the message of the second number, which may be its own.
+    /// The replica gets the message with the second number, which may be its own.
     Deliver(usize, usize),
-    /// It gets bytes from outside.
+    /// The replica gets bytes from outside.
     Receive(usize, Octets),
-    /// It forgets all that it has taken, and begins a new incarnation.
+    /// The replica forgets everything that it has taken, and begins a new incarnation.
     Restart(usize),
-    /// It is asked for a reply.
+    /// The replica is asked for a reply.
     Ask(usize, Request),
 }
 
@@ -42,19 +42,20 @@ pub enum Said {
     Replied(Reply),
 }
 
-/// Why an event was refused. It then changed nothing.
+/// Why an event was refused. A refused event changes nothing.
 #[derive(Clone, Copy, Debug, PartialEq, Eq)]
 pub enum Refused {
-    /// No replica has the number.
+    /// No replica has this number.
     NoReplica,
-    /// No message has the number.
+    /// No message has this number.
     NoMessage,
-    /// The bytes are the text of no state in either format, or more than 268,435,456.
+    /// The bytes aren't the text of a state in either format, or there are more than 268,435,456 of them.
     BadState,
     NoMemory,
-    /// The message leaves out merges of its sender that aren't known: this is how far they are.
+    /// The message leaves out merges of its sender that aren't known yet. `held` is how far the sender's merges are
+    /// known.
     Gap { held: Option<Cursor> },
-    /// No number of 64 bits is left for one merge more, or for one incarnation more.
+    /// No 64-bit number is left for one more merge, or for one more incarnation.
     NumbersSpent,
 }
 

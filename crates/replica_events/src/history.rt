@@ -1,4 +1,4 @@
-//! What replicas have taken, by the events that were accepted.
+//! Laws of what replicas have taken, by the events that were accepted.
 ghost use Rattle.std.specs.Prelude.{◌≡◌, ◌↔◌, ◌++◌, ℕ, List, ◌∷◌, Some, Ok, Contains};
 ghost use Rattle.harvest_lattice.specs.Knowledge.{Harvested, lat};
 ghost use Rattle.replica_exchange.specs.DeltaText.{delta_text};
@@ -12,8 +12,8 @@ ghost use Rattle.replica_events.specs.History.{history_of};
 
 /// After every list of events, what a replica has taken is what it has learnt since its last restart: the harvests that
 /// it took itself, those of the states that it received, and, of each message that it was delivered, those that the
-/// sender had learnt before it sent the message. A message keeps who sent it, what the sender had learnt then, and the
-/// text of its delta. The state of a delta from the beginning is that of all that the sender had learnt.
+/// sender had learnt before it sent the message. A message records who sent it, what the sender had learnt then, and
+/// the text of its delta. The state of a delta from the beginning is that of everything that the sender had learnt.
 pub fn what_replicas_have_taken()
     ensures taken { (base : List ℕ) (course : Course base) (i : ℕ) (known : Knowledge) → HasTaken course.world i known →
         (h : Harvested) → Contains known h ↔ Learnt (history_of course) i h }
@@ -27,9 +27,9 @@ pub fn what_replicas_have_taken()
         m.delta.start ≡ 0 → m.delta.state ≡ lat m.taken }
 {}
 
-/// A message that no delivery names changes nothing of what replicas have learnt. Nor does a further delivery of the
-/// same message to the same replica, if in between the replica wasn't restarted and no other message got the number.
-/// Two events in turn, of which none is a restart or a sending, may change places.
+/// A message that no delivery names changes nothing in what replicas have learnt. Nor does another delivery of the same
+/// message to the same replica, if the replica wasn't restarted and no other message got the number in between. Two
+/// successive events, neither of which is a restart or a sending, can be exchanged.
 pub fn deliveries_in_any_order()
     ensures lost { (before after : History) (sending : Event) (k : ℕ) →
         ((i : ℕ) → ¬ Contains after (Deliver i k, Ok Joined)) →

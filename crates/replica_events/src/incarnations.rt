@@ -1,15 +1,16 @@
-//! In which incarnations replicas are, and how often they have merged in them.
+//! Laws of the incarnations that replicas are in, and of how often they have merged in them.
 ghost use Rattle.std.specs.Prelude.{◌≡◌, ℕ, List, length, Some, zip};
 ghost use Rattle.replica_events.specs.World.{Replica, Message, Course, replica, message};
 ghost use Rattle.replica_events.specs.History.{NoRestart, history_of};
 ghost use Rattle.replica_events.specs.Cursors.{GoesOn};
 ghost use Rattle.replica_events.specs.Incarnations.{IsIn, WasSentIn};
 
-/// In which incarnation a replica is, and how often it has merged in it, follows from the accepted events alone: the
-/// first incarnations are the numbers of the replicas, and each accepted restart begins the next number. The delta of a
-/// message is of the incarnation that its sender was in when it sent the message, and ends at the number of its merges
-/// then (`messages`); and each message that was sent is there, under its number (`sent`). No two replicas ever have the
-/// same incarnation, at whatever times, nor has one replica before a restart and after it (`apart`).
+/// The accepted events alone determine which incarnation a replica is in, and how often it has merged in it: the first
+/// incarnations are the numbers of the replicas, and each accepted restart begins the next number. The delta of a
+/// message has the incarnation that its sender was in when it sent the message, and ends at the number of the sender's
+/// merges then (`messages`). Each message that was sent is there, under its number (`sent`). No two replicas ever have
+/// the same incarnation, at whatever times, and no replica has the same incarnation before and after a restart
+/// (`apart`).
 pub fn incarnations_are_new()
     ensures replicas { (base : List ℕ) (course : Course base) (i : ℕ) (r : Replica) → replica course.world i ≡ Some r →
         IsIn course.count (history_of course) i r.incarnation (length r.merges) }

@@ -1,8 +1,8 @@
-//! What may happen to replicas that exchange what they have taken, and what follows from it, with no code of a program:
-//! events and their outcomes, worlds of replicas and messages, histories, and the laws that hold of them all.
+//! What can happen to replicas that exchange what they have taken, and what follows from it, without any program's
+//! code: events and their outcomes, worlds of replicas and messages, histories, and the laws that hold for all of them.
 //!
-//! `replicas_agree` is what the crate is for: replicas that have learnt the same harvests give the same reply to every
-//! request that asks for no delta. The laws hold of any program that shows which events it performs.
+//! `replicas_agree` is the purpose of this crate: replicas that have learnt the same harvests give the same reply to
+//! every request that asks for no delta. The laws hold for any program that shows which events it performs.
 #![tactic(auto)]
 
 mod agreement;

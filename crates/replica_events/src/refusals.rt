@@ -1,4 +1,4 @@
-//! Which outcome an event has.
+//! Laws of the outcomes of events.
 ghost use Rattle.std.specs.Prelude.{◌≡◌, ℕ, List, Ok, Err};
 ghost use Rattle.replica_events.specs.declared.event.Event.{Event};
 ghost use Rattle.replica_events.specs.declared.event.Said.{Said};
@@ -7,7 +7,7 @@ ghost use Rattle.replica_events.specs.declared.event.Refused.TheVariants.{NoMemo
 ghost use Rattle.replica_events.specs.World.{World, Answer, Effect, Step};
 ghost use Rattle.replica_events.specs.Refusals.{IsCause, IsResult};
 
-/// Where memory isn't refused, an event has one answer and leads to one world; and no event is without an outcome.
+/// If memory isn't refused, an event has only one answer and leads to only one world. No event is without an outcome.
 pub fn one_outcome()
     ensures once { (base : List ℕ) (world : World) (event : Event) (answer other : Answer) (next last : World) →
         Effect base world event answer next → Effect base world event other last →
@@ -16,8 +16,8 @@ pub fn one_outcome()
         ¬ ((answer : Answer) (next : World) → ¬ Effect base world event answer next) }
 {}
 
-/// Each refusal has its cause, and changes nothing; a cause other than memory is answered unless memory was refused
-/// first. An accepted event has the result that goes with it. A restart is never refused for memory.
+/// Each refusal has its cause, and changes nothing. A cause other than memory is the answer unless memory was refused
+/// first. An accepted event has the result that goes with it. A restart is never refused for lack of memory.
 pub fn refusals_have_causes()
     ensures cause { (base : List ℕ) (world : World) (event : Event) (why : Refused) (next : World) →
         Step base world event (Err why) next → IsCause world event why }
