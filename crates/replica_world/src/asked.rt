@@ -9,7 +9,7 @@ use std::alloc::Global;
 use timegate::Request;
 use timemap_writer::Service;
 
-/// The answers to events, and then those of two replicas to the same request.
+/// The answers to events, and then the answers of two replicas to the same request.
 #[derive(Debug, Drop)]
 pub struct Asked {
     pub answers: Vec<Answer>,
@@ -17,8 +17,8 @@ pub struct Asked {
     pub second: Answer,
 }
 
-/// Runs these events in a new world, and then asks two replicas the same. Where both have learnt the same harvests and
-/// no delta is asked for, their replies are the same: what `replicas_agree` says of worlds, said of the code.
+/// Runs these events in a new world, and then asks two replicas the same. If both have learnt the same harvests and no
+/// delta is asked for, their replies are the same. So it says of the code what `replicas_agree` says of worlds.
 pub fn asked_after(
     alloc: Global,
     replicas: usize,

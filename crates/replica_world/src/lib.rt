@@ -1,8 +1,8 @@
-//! A Memento aggregator of several replicas in one memory: replicas take harvests, send each other what they have
-//! taken, restart, and are asked.
+//! A Memento aggregator of several replicas in one memory. Replicas take harvests, send each other what they have
+//! taken, restart, and answer requests.
 //!
-//! `World` runs the events of `replica_events`, so the laws there hold of it: replicas that have learnt the same
-//! harvests give the same replies, except for deltas. `replay` runs a script of commands over a world, and writes their
+//! `World` runs the events of `replica_events`, so the laws there hold for it: replicas that have learnt the same
+//! harvests give the same replies, except for deltas. `replay` runs a script of commands on a world, and writes their
 //! output.
 #![tactic(auto)]
 

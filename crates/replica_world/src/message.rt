@@ -1,7 +1,7 @@
-//! What is kept of a message.
+//! A message, as a world keeps it.
 use memento_time::Octets;
 
-/// The number of the replica that sent it, and the bytes that travel.
+/// A message: the number of the replica that sent it, and the bytes that travel.
 #[derive(Debug, Drop)]
 pub struct SentMessage {
     pub sender: usize,

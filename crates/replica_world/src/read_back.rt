@@ -1,4 +1,4 @@
-//! What readers of pages find in the TimeMaps that are written here.
+//! Laws of what readers of pages find in the TimeMaps that are written here.
 ghost use Rattle.std.specs.Prelude.{◌≡◌, ◌<◌, ◌^◌, List, ℕ, Some, Ok, All, length};
 ghost use Rattle.std.specs.List.{flat_map};
 ghost use Rattle.url.specs.Parts.{Parts};
@@ -12,9 +12,9 @@ ghost use Rattle.timemap_writer.specs.TimeMap.{timemap_text};
 ghost use Rattle.timemap_writer.specs.Pages.{numbers, stretch, index_text, page_text};
 ghost use Rattle.replica_world.specs.ReadBack.{AreOnWeb, page_of, index_of};
 
-/// A TimeMap of at most 8,388,608 bytes, whose mementos have addresses that begin with `http://` or `https://`, may be
-/// read as a page of just these mementos, whatever http or https URL it was fetched from: so one aggregator can harvest
-/// another. `read_page` may give no other page of it, by `one_page`, and no fault but NoMemory, by
+/// A TimeMap can be read as a page of exactly its mementos, whatever http or https URL it was fetched from, if it has
+/// at most 8,388,608 bytes and the addresses of its mementos begin with `http://` or `https://`. So one aggregator can
+/// harvest another. `read_page` can give no other page of it, by `one_page`, and no fault other than `NoMemory`, by
 /// `no_fault_beside_a_page`.
 pub fn timemaps_are_pages()
     ensures { (base original address : List ℕ) (url : Parts) (mementos : List Memento)
@@ -23,10 +23,10 @@ pub fn timemaps_are_pages()
         → IsAnswer address (timemap_text base original mementos) (Ok (page_of mementos)) }
 {}
 
-/// The index of a TimeMap and each of its pages may be read as pages of an archive too. A page is always short enough.
-/// The index, of an original as `read_original` writes it, has no mementos, and its further TimeMaps are just the
+/// The index of a TimeMap and each of its pages can also be read as pages of an archive. A page is always short enough.
+/// The index, for an original as `read_original` writes it, has no mementos, and its further TimeMaps are exactly the
 /// pages, in order, with nothing left out. Page K has the mementos of its stretch of the list. The stretches, in order,
-/// are the list: whoever reads the index and then the pages that it names has just the list's mementos.
+/// are the list: whoever reads the index and then the pages that it names has exactly the list's mementos.
 pub fn paged_timemaps_are_pages()
     ensures index { (base original address : List ℕ) (url : Parts) (mementos : List Memento)
         → IsBase base → IsFollowed base → IsOriginal original → IsFollowed original

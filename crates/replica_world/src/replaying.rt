@@ -1,4 +1,4 @@
-//! A replay reads a script of commands, one a line, and writes what they say.
+//! Replays a script: reads its commands, one on each line, and writes what they say.
 
 mod command;
 mod devices;

@@ -1,4 +1,4 @@
-//! What is kept of a replica.
+//! A replica, as a world keeps it.
 ghost use Rattle.std.specs.Prelude.{◌≡◌, [], true, OnOk, OnErr, IfErr};
 ghost use Rattle.std.specs.FinMap as map;
 ghost use Rattle.memento_index.specs.declared.merge.Merge.TheVariants as merge;
@@ -11,7 +11,7 @@ use replica_events::Refused;
 use replica_exchange::{Cursors, Delta, Stamped};
 use std::alloc::Global;
 
-/// What the merges of its incarnation made, and for each peer how far that peer's merges are known to it.
+/// A replica: what the merges of its incarnation made, and for each peer how far it knows that peer's merges.
 #[derive(Debug, Drop)]
 pub struct KeptReplica {
     pub stamped: Stamped,
@@ -31,8 +31,8 @@ impl KeptReplica {
         }
     }
 
-    /// Joins a delta of a peer, unless it leaves a gap after the cursor that is held for the peer, and moves that
-    /// cursor: both or neither.
+    /// Joins a delta of a peer and moves the cursor that is held for the peer, unless the delta leaves a gap after that
+    /// cursor. It does both or neither.
     pub fn join(&mut self, peer: u64, delta: Delta) -> Result<(), Refused>
         ensures fits { OnOk result (fits (map.get self.old.cursors peer) delta ≡ true) }
         ensures joined { OnOk result

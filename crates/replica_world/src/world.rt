@@ -14,8 +14,8 @@ use std::marker::Model;
 use timegate::{Request, answer};
 use timemap_writer::Service;
 
-/// Replicas of one service, the messages that they have sent, and the last incarnation that one of them began.
-/// Replicas and messages are numbered from 1.
+/// Replicas of one service, the messages that they have sent, and the last incarnation that any of them began. Replicas
+/// and messages are numbered from 1.
 #[derive(Debug, Drop)]
 pub struct World {
     alloc: Global,
@@ -64,7 +64,7 @@ impl World {
     ghost use Rattle.replica_world.specs.Stands.{Stands, Steps, Runs, MergedAt, kept_at};
     ghost use Rattle.replica_events.specs.declared.event.Event.TheVariants as event;
 
-    /// A world of `replicas` empty replicas of this service, which have sent nothing. Their incarnations are 1 to
+    /// A world of `replicas` empty replicas of this service that have sent nothing. Their incarnations are 1 to
     /// `replicas`.
     pub fn new(alloc: Global, replicas: usize, service: Service) -> Result<World, NoMemory>
         requires { (1 ≤ replicas) × (replicas ≤ 16) }
@@ -84,10 +84,10 @@ impl World {
         })
     }
 
-    /// Runs one event. A refused one changes nothing: `NoReplica` and `NoMessage` where a number names none, `BadState`
-    /// where bytes are the text of no state in either format or too many, `Gap` where a message leaves out merges of
-    /// its sender that the replica doesn't know, `NumbersSpent` where no number is left for a merge or an incarnation,
-    /// tested in this order. A restart takes no memory.
+    /// Runs one event. A refused event changes nothing. The refusals, tested in this order: `NoReplica` and `NoMessage`
+    /// if a number names none, `BadState` if bytes aren't the text of a state in either format or are too many, `Gap`
+    /// if a message leaves out merges of its sender that the replica doesn't know, and `NumbersSpent` if no number is
+    /// left for a merge or an incarnation. A restart takes no memory.
     pub fn step(&mut self, event: &Event) -> Answer
         ensures steps { Steps self.old event.now result self.new }
         ensures refused { OnErr result (self.new ≡ self.old) }
@@ -186,7 +186,7 @@ impl World {
         Ok(Said::Restarted)
     }
 
-    /// What a replica replies to a request; the event `Ask`, which changes nothing.
+    /// The reply of a replica to a request: the event `Ask`, which changes nothing.
     pub fn ask(&self, number: usize, request: &Request) -> Answer
         ensures { Steps self.now (event.Ask number request.now) result self.now }
     {
@@ -205,7 +205,7 @@ impl World {
         place_of(number, self.replicas.len()).ok_or(Refused::NoReplica)
     }
 
-    /// What is kept of the message with this number.
+    /// The message with this number, as the world keeps it.
     fn message(&self, number: usize) -> Result<&SentMessage, Refused>
         ensures found { IfOk result (λ message. numbered self.now.messages number ≡ Some message.now) }
         ensures none { IfErr result

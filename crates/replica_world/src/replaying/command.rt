@@ -15,13 +15,13 @@ use timegate::Request;
 /// A command, with the block or the lines that follow its line.
 #[derive(Debug, Drop)]
 pub enum Command<'a> {
-    /// A page to be read and taken as a harvest.
+    /// A page to be read, and to be taken as a harvest.
     Take(Taking<'a>),
     /// An event of the world.
     Step(Event),
 }
 
-/// The body of an archive's page, and the harvest that it is to make: a whole one, or a part.
+/// The body of an archive's page, and the harvest to make of it: a whole one or a part.
 #[derive(Clone, Copy, Debug)]
 pub struct Taking<'a> {
     pub is_whole: bool,
@@ -33,7 +33,7 @@ pub struct Taking<'a> {
     pub original: &'a [u8],
 }
 
-/// A GET of a route to an original.
+/// A `GET` request for an original on this route.
 fn get(
     alloc: Global,
     route: &[u8],
@@ -51,7 +51,7 @@ fn get(
     })
 }
 
-/// An event, and the text behind its command.
+/// An event, and the text after its command.
 fn step(event: Event, rest: &[u8]) -> Option<(Command<'_>, &[u8])>
     ensures { option_map (λ p. (command_view p.0, p.1.now)) result ≡ stepped event rest.now }
 {
@@ -98,7 +98,7 @@ fn ask<'a>(
     Ok(step(Event::Ask(form.replica as usize, request), rest))
 }
 
-/// A `gate`, with the asked datetime that stands in its line.
+/// A `gate`, with the datetime that its line asks for.
 fn gate_at(alloc: Global, original: &[u8], asked: &[u8]) -> Result<Request, NoMemory>
     ensures { IfOk result (λ request. request
         ≡ get (codes "/timegate/" ++ original.now) (asked.now ∷ [])) }
@@ -126,8 +126,8 @@ fn receive<'a>(
     Ok(step(Event::Receive(replica as usize, bytes), rest))
 }
 
-/// The command of a line, with the block or the lines that follow it, and the text behind them. None where these are
-/// cut short.
+/// The command of a line, with the block or the lines that follow it, and the text after them. `None` if these are cut
+/// short.
 #[tactic(auto, unfolding(crate::specs::Script::command_of))]
 fn command_of<'a>(
     alloc: Global,
@@ -164,7 +164,7 @@ fn command_of<'a>(
     }
 }
 
-/// The command at the front of a text, and the text behind it. None where the line is bad.
+/// The command at the front of a text, and the text after it. `None` if the line is bad.
 #[tactic(auto, unfolding(crate::specs::Script::command_at))]
 pub fn command_at(alloc: Global, text: &[u8]) -> Result<Option<(Command<'_>, &[u8])>, NoMemory>
     ensures { IfOk result (λ found. option_map (λ p. (command_view p.0, p.1.now)) found ≡ command_at text.now) }

@@ -1,4 +1,4 @@
-//! Reading all that a reader gives, and writing all that is to be written.
+//! Reads everything that a reader gives, and writes everything that is to be written.
 ghost use Rattle.std.specs.Prelude.{◌≡◌, ◌≢◌, ◌⊎◌, ◌<◌, length, OnOk, OnErr, IfOk, IfErr, IfSome};
 ghost use Rattle.std.specs.Io.KnownBytes.{Appends};
 ghost use Rattle.replica_world.specs.Watching.{grown};
@@ -9,10 +9,10 @@ use crate::replaying::watched::Watched;
 use std::alloc::Global;
 use std::io::{Read, Write};
 
-/// A reader that gave so many pieces, and isn't at its end, counts as failed, so that a replay ends.
+/// A reader counts as failed if it isn't at its end after this many pieces, so that a replay ends.
 const MOST_PIECES: u64 = 1_000_000_000;
 
-/// All that a reader gives.
+/// Reads everything that a reader gives.
 pub fn read_all<R: Read>(alloc: Global, reader: &mut Watched<R>) -> Result<Vec<u8>, ReplayFault>
     ensures all { IfOk result (λ text. IfSome (R.remaining reader.old.device) (λ bytes. text.items ≡ bytes)) }
     ensures fault { IfErr result StopsReading }
@@ -36,7 +36,7 @@ pub fn read_all<R: Read>(alloc: Global, reader: &mut Watched<R>) -> Result<Vec<u
     Err(ReplayFault::Read)
 }
 
-/// Writes all the bytes, or a beginning of them.
+/// Writes all of the bytes, or a prefix of them if it fails.
 pub fn write_whole<W: Write>(writer: &mut Watched<W>, bytes: &[u8]) -> Result<(), ReplayFault>
     ensures ok { OnOk result (Appends (W.contents writer.old.device) (W.contents writer.new.device) bytes.now) }
     ensures err { OnErr result

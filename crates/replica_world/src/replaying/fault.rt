@@ -11,9 +11,9 @@ use std::fmt;
 /// Why a replay ended before the end of its script.
 #[derive(Clone, Copy, Debug, PartialEq, Eq)]
 pub enum ReplayFault {
-    /// The line of this number, counted from 1, is no command, or what must follow it is missing.
+    /// The line with this number, counted from 1, isn't a command, or what must follow it is missing.
     BadLine { number: u64 },
-    /// The reader failed, or gave its bytes in 1,000,000,000 pieces and was not at its end.
+    /// The reader failed, or gave bytes in 1,000,000,000 pieces and wasn't at its end.
     Read,
     /// The writer failed, or took no byte.
     Write,

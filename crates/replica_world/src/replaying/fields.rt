@@ -24,7 +24,7 @@ fn first_line(text: &[u8]) -> (&[u8], &[u8])
     }
 }
 
-/// The text from its first line on that isn't empty.
+/// The text from its first non-empty line on.
 pub fn after_empty_lines(text: &[u8]) -> &[u8]
     ensures text { result.now ≡ after_empty_lines text.now }
     ensures within { length result.now ≤ length text.now }
@@ -36,7 +36,7 @@ pub fn after_empty_lines(text: &[u8]) -> &[u8]
     rest
 }
 
-/// A decimal, and what follows the space behind it.
+/// A decimal, and what follows the space after it.
 pub fn number_field(text: &[u8]) -> Option<(u64, &[u8])>
     ensures { option_map (λ p. (p.0, p.1.now)) result ≡ number_field text.now }
 {
@@ -44,7 +44,7 @@ pub fn number_field(text: &[u8]) -> Option<(u64, &[u8])>
     Some((read_decimal(digits)?, rest))
 }
 
-/// At least one byte, and what follows the space behind it.
+/// A word of at least one byte, and what follows the space after it.
 pub fn word_field(text: &[u8]) -> Option<(&[u8], &[u8])>
     ensures { option_map (λ p. (p.0.now, p.1.now)) result ≡ word_field text.now }
 {
@@ -91,7 +91,7 @@ pub fn block(len: u64, text: &[u8]) -> Option<(&[u8], &[u8])>
     }
 }
 
-/// The first line and what follows it. None where there is no line, or one over 65,536 bytes.
+/// The first line and what follows it. `None` if there is no line, or if it has more than 65,536 bytes.
 #[tactic(auto, unfolding(crate::specs::Fields::line_of))]
 pub fn line(text: &[u8]) -> Option<(&[u8], &[u8])>
     ensures { option_map (λ p. (p.0.now, p.1.now)) result ≡ line_of text.now }

@@ -1,4 +1,4 @@
-//! The lines of commands: what each says. How they are spelled is said at `replay`.
+//! The lines of commands, and what each says. `replay` describes how they are written.
 ghost use Rattle.std.specs.Prelude.{◌≡◌};
 ghost use Rattle.std.specs.Option.{option_map};
 ghost use Rattle.replica_world.specs.Form.{take_of, map_of, gate_of, ask_of, send_of, send_from_of};
@@ -9,7 +9,7 @@ ghost use Rattle.replica_world.specs.Spelled.{form_view};
 use crate::replaying::fields::{are_visible, number_field, word_field};
 use text_fields::{next_field, read_decimal};
 
-/// The most values of `Accept-Datetime` that an `ask` may give.
+/// The most values of `Accept-Datetime` that an `ask` can give.
 const MOST_ASKED: u64 = 16;
 
 /// What the line of a command says.
@@ -18,7 +18,7 @@ pub enum Form<'a> {
     Take(TakeForm<'a>),
     Map(u64, &'a [u8]),
     Gate(u64, &'a [u8]),
-    /// A `gate` with the asked datetime behind the original.
+    /// A `gate` with the datetime that is asked for, after the original.
     GateAt(u64, &'a [u8], &'a [u8]),
     Ask(AskForm<'a>),
     Send(u64),
@@ -28,7 +28,7 @@ pub enum Form<'a> {
     Restart(u64),
 }
 
-/// `take I ARCHIVE REVISION PAGEURL LENGTH ORIGINAL`, which takes a whole harvest, or the same behind `takepart`, which
+/// `take I ARCHIVE REVISION PAGEURL LENGTH ORIGINAL`, which takes a whole harvest, or the same after `takepart`, which
 /// takes a part harvest.
 #[derive(Clone, Copy, Debug)]
 pub struct TakeForm<'a> {
@@ -175,7 +175,7 @@ fn form_by_word<'a>(word: &[u8], fields: &'a [u8]) -> Option<Form<'a>>
     }
 }
 
-/// What a line says. None where it is no command.
+/// What a line says. `None` if it isn't a command.
 #[tactic(auto, unfolding(crate::specs::Form::form_of))]
 pub fn read_form(line: &[u8]) -> Option<Form<'_>>
     ensures { option_map form_view result ≡ form_of line.now }

@@ -16,8 +16,8 @@ ghost use Rattle.replica_world.specs.Output.{IsOutput, Performs, Says, reply_tex
 
 use timemap_reader::one_page;
 
-/// A script has one output. That it has one is said as "it isn't so that it has none", since no law here decides which
-/// bytes are a state.
+/// A script has exactly one output. That it has one is stated as "it isn't so that it has none", since no law here
+/// decides which bytes are a state.
 pub fn one_output()
     ensures once { (script output other : List ℕ) → IsOutput script output → IsOutput script other → output ≡ other }
     ensures some { (script : List ℕ) → ¬ ((output : List ℕ) → ¬ IsOutput script output) }
@@ -25,8 +25,8 @@ pub fn one_output()
     one_page();
 }
 
-/// What is found in a script is what is laid out there: lines, blocks, the first line, and each command by the text of
-/// its line. Commands are read one after the other, to the end or to the first bad line.
+/// What is found in a script is exactly what is laid out in it: lines, blocks, the first line, and each command by the
+/// text of its line. Commands are read one after the other, up to the end or to the first bad line.
 pub fn script_is_its_layout()
     ensures line { (text : List ℕ) → Finds (line_of text) (IsLine text) }
     ensures start { (text : List ℕ) → Finds (start_at text) (λ s. IsStartAt text s.0 s.1) }
@@ -36,11 +36,11 @@ pub fn script_is_its_layout()
     ensures commands { (text : List ℕ) → IsReadAs text (commands_of text).list (commands_of text).bad }
 {}
 
-/// The commands of a script come to events, these lead to its world, and what it writes are their answers (`runs`). So
-/// what holds of all replicas of a world holds of those of a script, whatever has happened in it. Each question, also
-/// one for a delta, writes the reply of what its replica's merges made (`replies`). Where the script ends in one
-/// request, for no delta, to two replicas that have learnt the same harvests, it ends in one reply, written twice
-/// (`twice`).
+/// The commands of a script amount to events; these lead to the script's world, and it writes their answers (`runs`).
+/// So what holds for all replicas of a world holds for those of a script, whatever has happened in it. Each question,
+/// even one for a delta, writes the reply of what its replica's merges made (`replies`). If the script ends by making
+/// one request, which asks for no delta, to two replicas that have learnt the same harvests, its output ends with one
+/// reply, written twice (`twice`).
 pub fn scripts_are_runs()
     ensures runs { (base : List ℕ) (world : World) (commands : List Command) (text : List ℕ) (end : World) →
         Says base world commands text end → IsRunOf base world commands text end }
@@ -56,8 +56,8 @@ pub fn scripts_are_runs()
     one_page();
 }
 
-/// A `map`, a `gate`, and an `ask` for no delta, writes the reply of what its replica has taken; so two replicas that
-/// have taken the same harvests write the same text for the same request. No question changes anything.
+/// A `map`, a `gate` and an `ask` that asks for no delta write the reply of what their replica has taken. So two
+/// replicas that have taken the same harvests write the same text for the same request. No question changes anything.
 pub fn same_text_from_both()
     ensures own { (base : List ℕ) (world : World) (i : ℕ) (known : Knowledge) → HasTaken world i known →
         (q : Request) (text : List ℕ) (next : World) → IsOfTaken q →

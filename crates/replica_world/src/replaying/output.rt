@@ -12,7 +12,7 @@ use std::alloc::Global;
 use std::io::Write;
 use std::marker::Model;
 
-/// Lines, and behind them the body of a reply, which is moved here and not copied: a TimeMap may be long.
+/// Lines, followed by the body of a reply. The body is moved here, not copied, since a TimeMap can be long.
 #[derive(Drop)]
 pub struct Output {
     lines: Vec<u8>,
@@ -28,21 +28,21 @@ impl Model for Output {
 }
 
 impl Output {
-    /// Lines alone.
+    /// Lines without a body.
     pub fn of_lines(alloc: Global, lines: Vec<u8>) -> Output
         ensures { result ≡ lines.items }
     {
         Output::with_body(lines, Octets::of(Vec::new(alloc)))
     }
 
-    /// Lines with a body behind them.
+    /// Lines followed by a body.
     pub fn with_body(lines: Vec<u8>, body: Octets) -> Output
         ensures { result ≡ lines.items ++ body }
     {
         Output { lines, body }
     }
 
-    /// Writes all of it, or a beginning.
+    /// Writes all of the output, or a prefix of it if it fails.
     pub fn write<W: Write>(&self, writer: &mut Watched<W>) -> Result<(), ReplayFault>
         ensures ok { OnOk result (Appends (W.contents writer.old.device) (W.contents writer.new.device) self.now) }
         ensures err { OnErr result

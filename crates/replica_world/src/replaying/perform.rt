@@ -1,4 +1,4 @@
-//! What a command does, and what it writes of that.
+//! Performs commands: what each does, and what it writes.
 ghost use Rattle.std.specs.Prelude.{◌≡◌, ◌∷◌, ◌<◌, ◌≤◌, length, IfOk, IsErrOf, MatchOption};
 ghost use Rattle.std.specs.List.Sorted.{IsStrictlySortedBy};
 ghost use Rattle.memento_time.specs.Mementos.{memento_cmp};
@@ -35,7 +35,7 @@ fn original(alloc: Global, text: &[u8]) -> Result<Option<Original>, NoMemory>
     }
 }
 
-/// The page that a body is at an address.
+/// The page that a body makes if it was fetched from an address.
 fn page(alloc: Global, address: &[u8], body: &[u8]) -> Result<Option<Page>, NoMemory>
     ensures { IfOk result (λ page.
         MatchOption page ((p : PageRead) → ¬ (IsPage address.now body.now p)) (IsPage address.now body.now)) }
@@ -52,7 +52,7 @@ fn page(alloc: Global, address: &[u8], body: &[u8]) -> Result<Option<Page>, NoMe
     }
 }
 
-/// An event, and what it writes.
+/// Runs an event, and returns what it writes.
 fn happen(
     alloc: Global,
     world: &mut World,
@@ -65,7 +65,7 @@ fn happen(
     answer_text(alloc, accepted, answer)
 }
 
-/// The harvest that mementos make: a whole one, or a part.
+/// The harvest that mementos make: a whole one or a part.
 fn harvest_of(
     taking: &Taking<'_>,
     archive: ArchiveName,
@@ -129,7 +129,7 @@ fn take(alloc: Global, world: &mut World, taking: &Taking<'_>) -> Result<Output,
     take_harvest(alloc, world, taking, &original, page)
 }
 
-/// Does what a command says, and gives what it writes.
+/// Does what a command says, and returns what it writes.
 pub fn perform(alloc: Global, world: &mut World, command: &Command<'_>) -> Result<Output, NoMemory>
     ensures { IfOk result (λ text. IsPerformed world.old (command_view command.now) text world.new) }
 {

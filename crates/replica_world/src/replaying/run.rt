@@ -40,8 +40,8 @@ fn number_of_line(script: &[u8], rest: &[u8]) -> u64
     1 + ends_of_lines(before)
 }
 
-/// Performs the command at the front of a text: what it writes, and the text from the next command on. None where the
-/// line is bad.
+/// Performs the command at the front of a text, and returns what it writes and the text from the next command on.
+/// `None` if the line is bad.
 fn perform_first<'a>(
     alloc: Global,
     world: &mut World,
@@ -70,7 +70,7 @@ fn replay_commands<W: Write>(
         (W.contents writer.old.device) (W.contents writer.new.device) result }
     ensures writer { BlamesWriter result writer.old.failures writer.new.failures }
 {
-    // A page is one, so what a failed replay wrote is a beginning of the one output.
+    // A body has only one page, so what a failed replay wrote is a prefix of the script's one output.
     one_page();
     let mut rest = after_empty_lines(text);
     'commands: while !rest.is_empty() {
@@ -106,12 +106,12 @@ fn replay_script<W: Write>(
     replay_commands(alloc, &mut world, script, rest, writer)
 }
 
-/// Reads a script to its end, performs its commands in turn, and writes what each says before it performs the next.
+/// Reads a script to its end, performs its commands in order, and writes what each says before it performs the next.
 ///
-/// A script is lines ended by LF, which the last may lack; a line has at most 65,536 bytes, and empty lines are passed
-/// over. The first line is `replicas N BASE`: 1 to 16 replicas, numbered from 1, of the service with this base. Each
-/// further line is a command. Its fields are parted by one space, the last is the rest of the line, and numbers are
-/// decimals of 64 bits without needless zeros:
+/// A script consists of lines that end with LF, which the last one may lack. A line has at most 65,536 bytes, and empty
+/// lines are skipped. The first line is `replicas N BASE`: 1 to 16 replicas, numbered from 1, of the service with this
+/// base. Each further line is a command. Its fields are separated by one space, the last field is the rest of the line,
+/// and numbers are decimals of 64-bit numbers without unnecessary leading zeros:
 ///
 /// | Command | What it does | What it writes |
 /// |---|---|---|
@@ -129,21 +129,22 @@ fn replay_script<W: Write>(
 /// A block is LENGTH bytes, at most 300,000,000, followed by LF or the end of the script. A reply is written as
 /// `reply STATUS`, a line `Name: value` for each header, `body LENGTH`, and the body.
 ///
-/// A command that is refused writes a line and changes nothing: `refused bad original`, `refused bad page`,
-/// `refused bad archive`, `refused too many` (over 100,000 mementos), for `take` and `takepart` in this order and
-/// before the next; `refused no replica`, `refused no message`, `refused bad state`; `refused gap none` and `refused
-/// gap I N`, where a message leaves out merges of its sender, of which none are known or the first N of incarnation I;
-/// `refused numbers spent`, where no number of 64 bits is left.
+/// A command that is refused writes a line and changes nothing: `refused bad original`, `refused bad page`, `refused
+/// bad archive`, `refused too many` (over 100,000 mementos), for `take` and `takepart` in this order and before the
+/// next; `refused no replica`, `refused no message`, `refused bad state`; `refused gap none` and `refused gap I N`, if
+/// a message leaves out merges of its sender, of which none are known or the first N of incarnation I; `refused numbers
+/// spent`, if no 64-bit number is left.
 ///
-/// - `BadLine`: the line of this number is none of these, or its block or lines are cut short. The commands before it
+/// - `BadLine`: the line with this number is none of these, or its block or lines are cut short. The commands before it
 ///   were performed.
-/// - `Read`, `Write`: a device failed in this call; a write that takes no byte is a failure. `Read` also where the
-///   reader was not at its end after 1,000,000,000 reads that gave bytes, which no script of fewer bytes needs.
+/// - `Read`, `Write`: a device failed in this call; a write that takes no byte is a failure. `Read` also if the reader
+///   wasn't at its end after 1,000,000,000 reads that gave bytes; no script of fewer bytes needs that many.
 /// - `NoMemory`: the allocator refused a growth.
 ///
-/// Where reader and writer tell their bytes, what is written is the one output of the script; nothing after `Read`, and
-/// after `Write` and `NoMemory` a beginning of it. `Watched` counts the failures and the reads, by which `Read` and
-/// `Write` are known to be the devices' doing, and anything else to come without a failure of theirs.
+/// If the reader and the writer say which bytes they read and write, then what is written is the one output of the
+/// script: nothing of it after `Read`, and a prefix of it after `Write` and `NoMemory`. `Watched` counts the failures
+/// and the reads. This shows that `Read` and `Write` come from the devices, and that anything else comes without a
+/// failure of theirs.
 pub fn replay<R: Read, W: Write>(
     alloc: Global,
     reader: &mut Watched<R>,

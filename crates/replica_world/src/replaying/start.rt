@@ -14,7 +14,7 @@ use timemap_writer::{Service, ServiceFault};
 
 const MOST_REPLICAS: u64 = 16;
 
-/// The number of replicas, and their service.
+/// The number of replicas and their service.
 #[derive(Debug, Drop)]
 pub struct Start {
     pub replicas: usize,
@@ -68,7 +68,7 @@ fn start_in(alloc: Global, line: &[u8]) -> Result<Option<Start>, NoMemory>
     }))
 }
 
-/// What the first line of a text says, and the text behind it. None where the line is bad.
+/// What the first line of a text says, and the text after it. `None` if the line is bad.
 #[tactic(auto, unfolding(crate::specs::Script::start_at))]
 pub fn start_at(alloc: Global, text: &[u8]) -> Result<Option<(Start, &[u8])>, NoMemory>
     ensures found { IfOk result (λ found. option_map (λ p. (start_view p.0, p.1.now)) found ≡ start_at text.now) }

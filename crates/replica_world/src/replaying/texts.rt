@@ -37,7 +37,7 @@ pub fn taken_line(alloc: Global, page: &Page) -> Result<Vec<u8>, NoMemory>
     Ok(text.into_bytes())
 }
 
-/// A word and a number, on a line.
+/// A line with a word and a number.
 fn number_line(alloc: Global, word: &str, number: u64) -> Result<Vec<u8>, NoMemory>
     ensures { IfOk result (λ text. text.items ≡ number_line word.now number) }
 {
@@ -77,7 +77,7 @@ fn reply_text(alloc: Global, reply: Reply) -> Result<Output, NoMemory>
     Ok(Output::with_body(lines, reply.body))
 }
 
-/// The line of an event that says neither a number nor a reply.
+/// The line of an event whose answer has neither a number nor a reply.
 pub fn accepted_line(event: &Event) -> &'static [u8]
     ensures { result.now ≡ accepted_line event.now }
 {
@@ -89,7 +89,7 @@ pub fn accepted_line(event: &Event) -> &'static [u8]
     }
 }
 
-/// What is written of an answer: nothing where memory ran out.
+/// What is written for an answer. Nothing if memory ran out.
 pub fn answer_text(
     alloc: Global,
     accepted: &[u8],

@@ -1,4 +1,4 @@
-//! Devices that count their failures, so that a contract can speak of them.
+//! Devices that count their failures, so that contracts can refer to them.
 ghost use Rattle.std.specs.Prelude.{◌≡◌, OnOk, OnErr};
 ghost use Rattle.std.specs.Io.{ReadsAtMost, WritesAtMost};
 ghost use Rattle.std.specs.Io.KnownBytes.{ReadConsumes, WriteAppends};
@@ -25,7 +25,7 @@ impl<D> Model for Watched<D> {
 }
 
 impl<D> Watched<D> {
-    /// A device that wasn't called yet.
+    /// A device that hasn't been called yet.
     pub fn new(device: D) -> Watched<D>
         ensures { result ≡ record { device = device; failures = 0; pieces = 0 } }
     {
@@ -59,7 +59,7 @@ impl<D> Watched<D> {
 }
 
 impl<R: Read> Watched<R> {
-    /// Reads once, and counts whether that failed, or gave bytes.
+    /// Reads once, and counts whether that failed or gave bytes.
     pub fn read(&mut self, buffer: &mut [u8]) -> io::Result<usize>
         ensures bound { ReadsAtMost result buffer.new }
         ensures bytes { ReadConsumes (R.remaining self.old.device) (R.remaining self.new.device) result buffer.new }
