@@ -17,7 +17,7 @@ use std::alloc::Global;
 use timegate::{Reply, Request, answer};
 use timemap_writer::Service;
 
-/// Whether the edition has what was told.
+/// Whether the edition has everything that the gate was told.
 pub(crate) fn has_told(told: &Option<Mark>, edition: &Edition) -> bool
     requires { IfSome told.now (λ m. opening_of m.seen.book ≡ opening_of (book_of edition.now)) }
     ensures { IsTrue result → IsPrefix (told_list told.now) (batches_of edition.now) }
@@ -28,7 +28,7 @@ pub(crate) fn has_told(told: &Option<Mark>, edition: &Edition) -> bool
     }
 }
 
-/// The longer of what was told before and what is told now.
+/// The longer one of what was told before and what is told now.
 pub(crate) fn longest(told: Option<Mark>, mark: Mark) -> Mark
     requires { IfSome told (λ m. opening_of m.seen.book ≡ opening_of mark.seen.book) }
     ensures opening { opening_of result.seen.book ≡ opening_of mark.seen.book }
@@ -42,8 +42,8 @@ pub(crate) fn longest(told: Option<Mark>, mark: Mark) -> Mark
     }
 }
 
-/// Enters, makes the reply, calls `then`, and leaves: the edition's mark, and the reply. `None` where nothing that has
-/// what was told can be entered: no run shows an edition that lacks it.
+/// Enters, makes the reply, calls `then`, and leaves. Returns the edition's mark and the reply. `None` if no edition
+/// that has what was told can be entered; no run shows an edition that lacks it.
 pub(crate) fn ask<F: FnOnce()>(
     alloc: Global,
     service: &Service,

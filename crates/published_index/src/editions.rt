@@ -1,4 +1,4 @@
-//! The two copies of what is published, and what changes them.
+//! The two copies of what is published, and the changes to them.
 ghost use Rattle.std.specs.Prelude.{◌≡◌};
 ghost use Rattle.published_index.specs.Stamping.{unmerged};
 
@@ -8,7 +8,8 @@ use memento_index::Merge;
 use replica_exchange::Stamped;
 use std::alloc::{AllocError, Global};
 
-/// What the merger's log holds for the copies: the merges of a batch, and behind them the mark that it reaches.
+/// A change that the merger's log holds for the copies: the merges of a batch, followed by the mark that the batch
+/// reaches.
 #[derive(Drop)]
 pub enum Change {
     Add(Merge),

@@ -1,4 +1,4 @@
-//! What can be refused.
+//! The faults of this crate.
 ghost use Rattle.published_index.specs.Faults.{refused_words, words_of, words_of_opening};
 ghost use Rattle.std.specs.Prelude.{Some};
 
@@ -10,7 +10,7 @@ use std::fmt;
 pub enum OpenFault {
     /// The allocator refused a growth.
     NoMemory,
-    /// There was no place for one of the readers. No cause is promised.
+    /// One of the readers had no place. No cause is promised.
     NoPlace,
 }
 
@@ -32,7 +32,7 @@ impl Error for OpenFault {}
 pub enum GateFault {
     /// The allocator refused a growth.
     NoMemory,
-    /// No published state can be entered: the merger was closed.
+    /// No published state can be entered, because the merger was closed.
     Closed,
 }
 

@@ -1,4 +1,4 @@
-//! One who answers from what is published.
+//! Gates, which answer from what is published.
 ghost use Rattle.std.specs.Prelude.{◌≡◌, IfOk, IfErr, OnOk};
 ghost use Rattle.timegate.specs.Reply.{reply};
 ghost use Rattle.timegate.specs.Route.{IsOfTaken};
@@ -18,16 +18,17 @@ use timemap_writer::Service;
 
 /// Answers requests from what is published, and never waits. It can be moved to a thread of its own.
 ///
-/// Contracts see it as its opening and incarnation, the base of its service, and a pass: the front, which is the list
-/// of batches that its last reply was made from, and the longest list that it was told since.
+/// Contracts see a gate as its opening and incarnation, the base of its service, and a pass. The pass has the front,
+/// which is the list of batches that the gate's last reply was made from, and the longest list that it was told since
+/// then.
 #[derive(Drop)]
 pub struct Gate {
     pub(crate) alloc: Global,
     pub(crate) reader: EditionReader,
     pub(crate) service: Service,
-    /// The mark of the edition that was answered from last.
+    /// The mark of the edition that the last reply was made from.
     pub(crate) seen: Mark,
-    /// The longest of the receipts that were learnt since.
+    /// The longest of the receipts that were learnt since then.
     pub(crate) told: Option<Mark>,
 }
 
@@ -58,10 +59,11 @@ impl Model for Gate {
 }
 
 impl Gate {
-    /// The reply made from a front that begins with all that this gate has answered from and was told.
+    /// The reply to a request, made from a front that begins with everything that this gate has answered from and was
+    /// told.
     ///
-    /// `NoMemory`: the reply couldn't be made; what this gate has seen may have become longer. `Closed`: nothing can be
-    /// entered, since the merger was closed. Takes one entry, which takes no memory and no lock.
+    /// `NoMemory` if the reply couldn't be made; what this gate has seen may have become longer. `Closed` if nothing
+    /// can be entered, because the merger was closed. Enters once, which takes no memory and no lock.
     pub fn answer(&mut self, request: &Request) -> Result<Reply, GateFault>
         ensures same { self.new ≡ record self.old { pass = self.new.pass } }
         ensures advances { OnOk result (Advances self.old.pass self.new.pass) }
@@ -76,8 +78,8 @@ impl Gate {
         self.answer_then(request, || ())
     }
 
-    /// `answer`, which calls `then` once the reply is made and before the entry ends: until then other gates answer,
-    /// and a publish may have to wait.
+    /// Like `answer`, but calls `then` once the reply is made and before the entry ends. Until the entry ends, other
+    /// gates answer, and a publish may have to wait.
     pub fn answer_then<F: FnOnce()>(
         &mut self,
         request: &Request,
@@ -104,7 +106,8 @@ impl Gate {
         made
     }
 
-    /// From now on this gate's replies are made from fronts that begin with the receipt's list. Takes no memory.
+    /// Learns a receipt: from now on, this gate's replies are made from fronts that begin with the receipt's list.
+    /// Takes no memory.
     pub fn learn(&mut self, receipt: Receipt)
         requires { receipt.opening ≡ self.old.opening }
         ensures same { self.new ≡ record self.old { pass = self.new.pass } }

@@ -1,4 +1,4 @@
-//! What follows for one gate from its calls, and for the replies of two.
+//! Laws of what follows for one gate from its calls, and for the replies of two gates.
 ghost use Rattle.std.specs.Prelude.{◌≡◌, ℕ, ◌≤◌, [], ◌∷◌, ◌++◌, true, List, Contains, Some};
 ghost use Rattle.std.specs.Prelude.{IfSome, Ok, Option, fold};
 ghost use Rattle.std.specs.List.{flat_map};
@@ -27,14 +27,14 @@ ghost use Rattle.published_index.specs.Replies.{IsReplyFrom};
 ghost use Rattle.published_index.specs.Passes.{Pass};
 ghost use Rattle.published_index.specs.Views.{MergerView};
 
-/// Whatever a gate is asked and told, the front of each later reply begins with the front of each earlier one.
+/// Whatever a gate is asked and told, the front of each later reply begins with the front of each earlier reply.
 pub fn answers_never_go_back()
     ensures { (start end : Pass) (before between after : List Call) (earlier later : List Batch)
         → Calls start (before ++ Answer earlier ∷ (between ++ Answer later ∷ after)) end → IsPrefix earlier later }
 {}
 
 /// A gate that learnt a receipt serves each merge in it: each later reply is made from a front that begins with the
-/// receipt's list, and so has each of its merges and of its harvests. In a publish's receipt is each merge of its
+/// receipt's list, and so has each of the list's merges and harvests. The receipt of a publish has each merge of its
 /// batch.
 pub fn what_is_learnt_is_served()
     ensures front { (start end : Pass) (before between after : List Call) (list front : List Batch)
@@ -47,8 +47,8 @@ pub fn what_is_learnt_is_served()
         → Contains (merges_of (receipt_of (with_publish m)).batches) merge }
 {}
 
-/// Whatever a merger was called: what it published, and behind it what is pending, is each merge that it was handed,
-/// once and in the order of the calls. After a publish all of that is published, and what was published stays at the
+/// Whatever calls a merger got: what it published, followed by what is pending, is each merge that it was handed, once
+/// and in the order of the calls. After a publish, all of that is published, and what was published before stays at the
 /// start.
 pub fn each_merge_is_published_once()
     ensures handed { (m : MergerView) (calls : List MergerCall)
@@ -60,16 +60,16 @@ pub fn each_merge_is_published_once()
         → IsPrefix m.published (fold after_call m calls).published }
 {}
 
-/// A publish adds what the merges of its batch add, one after the other, with nothing between.
+/// A publish adds what the merges of its batch add, one after the other, with nothing in between.
 pub fn a_publish_adds_its_batch()
     ensures { (m : MergerView) → fold_of (with_publish m).published
         ≡ fold (λ taken merge. taken ++ adds_of merge) (fold_of m.published) m.pending }
 {}
 
-/// A publish is the events of its batch at this replica, in order, with nothing between: each harvest is taken, and
-/// each state is received as its text. `run` asks that all merges that are then published have numbers, which
-/// `Merger::publish` ensures where it succeeds (`numbered`), and that each text may be received;
-/// `a_publish_adds_its_batch` says the same of states of any size.
+/// A publish is the events of its batch at this replica, in order, with nothing in between: each harvest is taken, and
+/// each state is received as its text. `run` requires that all merges that are then published have numbers, which
+/// `Merger::publish` ensures if it succeeds (`numbered`), and that each text may be received.
+/// `a_publish_adds_its_batch` says the same for states of any size.
 pub fn a_publish_is_events()
     ensures run { (m : MergerView) → AreNumbered (with_publish m).published → RunsAsEvents m.published m.pending }
     ensures taken { (m : MergerView) (r : Replica) → r.taken ≡ fold_of m.published
@@ -78,7 +78,7 @@ pub fn a_publish_is_events()
         → (merging r m.pending).merges ≡ merges_of (with_publish m).published }
 {}
 
-/// An entry is an Ask of this replica, where it has taken what the front holds, by the front's merges.
+/// An entry is an `Ask` of this replica, if the replica has taken what the front holds, by the front's merges.
 pub fn an_entry_is_an_ask()
     ensures { (base : List ℕ) (w : World) (i : ℕ) (r : Replica) (front : List Batch) (q : Request) (made : Reply)
         → replica w i ≡ Some r → r.taken ≡ fold_of front → r.merges ≡ merges_of front
@@ -86,15 +86,15 @@ pub fn an_entry_is_an_ask()
 {}
 
 /// Gates of two replicas with one base, whose fronts have the same state, give the same reply to every request that
-/// asks for no delta. A delta also tells of the merges; in its place `reply` has one that tells of none.
+/// asks for no delta. A delta also tells of the merges; in its place, `reply` has a delta that tells of none.
 pub fn same_state_same_reply()
     ensures { (base : List ℕ) (first second : List Batch) (q : Request) → lat (fold_of first) ≡ lat (fold_of second)
         → reply base (fold_of first) q ≡ reply base (fold_of second) q }
 {}
 
-/// For each cursor that a merger holds it has, published or pending, at least what the first so many merges of that
-/// peer's incarnation made. A merger without cursors begins so, and it stays so after each delta of those merges that
-/// is appended, after every other merge, and after a publish.
+/// For each cursor that it holds, a merger has, published or pending, at least what the first so many merges of that
+/// peer's incarnation made. This holds for a merger without cursors, and it still holds after each delta of those
+/// merges that is appended, after every other merge, and after a publish.
 pub fn held_cursors_are_reached()
     ensures first { (histories : Histories) (m : MergerView) → m.cursors ≡ finite.empty → HasReached histories m }
     ensures delta { (histories : Histories) (m : MergerView) (peer : ℕ) (d : Delta) → HasReached histories m
@@ -106,9 +106,9 @@ pub fn held_cursors_are_reached()
         → HasReached histories (with_publish m) }
 {}
 
-/// Deltas that are asked for from the held cursor follow each other: each fits, and once one is appended the next that
-/// this incarnation of the peer makes begins no earlier than where that one ended, unless the cursor was beyond what
-/// the peer has. The cursors of other peers stay.
+/// Deltas that are asked for from the held cursor follow each other: each one fits. Once one is appended, the next one
+/// that this incarnation of the peer makes begins no earlier than where that one ended, unless the cursor was beyond
+/// what the peer has. The cursors of other peers stay as they are.
 pub fn deltas_follow_each_other()
     ensures fits { (s : StampedState) (held : Option Cursor) → fits held (delta_from s held) ≡ true }
     ensures next { (m : MergerView) (peer : ℕ) (d : Delta) (s : StampedState) → s.incarnation ≡ d.incarnation

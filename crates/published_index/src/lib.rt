@@ -1,7 +1,7 @@
-//! One merger publishes batches of merges, and up to `MOST_GATES` gates answer from what is published without waiting.
+//! One merger publishes batches of merges, and up to `MOST_GATES` gates answer from what is published, without waiting.
 //!
-//! `open` gives both. What a gate has seen never goes back, and a gate that learnt a receipt of a publish serves each
-//! merge of it from then on.
+//! `open` makes both. What a gate has seen never goes back, and a gate that learnt the receipt of a publish serves each
+//! of its merges from then on.
 #![tactic(auto)]
 
 mod asking;

@@ -1,11 +1,11 @@
-//! The log of publishes, and how much of it was seen.
+//! The log of publishes, and marks of how much of it was seen.
 //!
 //! The log holds what contracts know of the published list: each publish notes its batch before the batch is shown, and
-//! its success once it is. When the program runs there is the log's length alone, so that nothing of it takes memory.
+//! its success once it is. When the program runs, only the log's length exists, so none of its entries takes memory.
 //!
-//! An example. A merger was opened, and is handed the merges a and b. Beside each step stand the log as it is then, and
-//! four marks by their numbers of entries: the merger's `mark`, its `last_success`, the mark of the copy that is shown,
-//! and that of a receipt.
+//! An example: a merger was opened, and is handed the merges a and b. For each step, the table shows the log after it,
+//! and the numbers of entries of four marks: the merger's `mark`, its `last_success`, the mark of the copy that is
+//! shown, and that of a receipt.
 //!
 //! | Step | Log | `mark` | `last_success` | shown | receipt |
 //! |---|---|---|---|---|---|
@@ -16,20 +16,20 @@
 //! | it notes the success (`record_success`) | Attempt [a, b], Success | 2 | 2 | 1 | |
 //! | it gives a receipt | Attempt [a, b], Success | 2 | 2 | 1 | 2 |
 //!
-//! What a mark says depends on whose it is. Of the merger and of a receipt it says which batches were published, so an
-//! attempt at its end doesn't count (`successes`): none up to the fourth step, and then [a, b]. A copy that is shown
-//! has all that was attempted, so there the last attempt counts (`successes_with_last`): the copy with 1 entry has
-//! [a, b], and a gate that enters it between the fourth step and the fifth answers from that front.
+//! What a mark says depends on whose it is. For the merger and for a receipt, it says which batches were published, so
+//! an attempt at its end doesn't count (`successes`): none up to the fourth step, and then [a, b]. A copy that is shown
+//! has all that was attempted, so there the last attempt counts (`successes_with_last`): the copy with 1 entry has [a,
+//! b], and a gate that enters it between the fourth step and the fifth answers from that front.
 //!
-//! A gate that learnt the receipt, of 2 entries, meets the copy with 1 entry: that copy has all that was told, since
-//! the entry behind an attempt can only be its success. This is why `precedes` allows one entry more. The copy from
-//! before the publish has 0 entries, and 2 is more than 1: that gate doesn't answer from it.
+//! A gate that learnt the receipt, of 2 entries, meets the copy with 1 entry. That copy has everything that the gate
+//! was told, since the entry after an attempt can only be its success. This is why `precedes` allows one more entry.
+//! The copy from before the publish has 0 entries; the gate doesn't answer from it, since 2 is more than 1.
 //!
-//! Had the copy not been shown, as memory was refused, the log would have stayed Attempt [a, b], `mark` at 1 and
-//! `last_success` at 0. With c handed in as well, the next publish notes Attempt [a, b, c]: 2 entries, and 3 with its
-//! success. The first attempt published nothing, as no success follows it, and the published list is the one batch
-//! [a, b, c]. Receipts are made from `last_success`, not from `mark`: after two attempts that failed a receipt of 2
-//! entries would keep a gate from the copy that is shown, which is still at 0.
+//! If the copy had not been shown because memory was refused, the log would have stayed at Attempt [a, b], `mark` at 1
+//! and `last_success` at 0. Once c is handed in as well, the next publish notes Attempt [a, b, c]: 2 entries, and 3
+//! with its success. The first attempt published nothing, as no success follows it, and the published list is the
+//! single batch [a, b, c]. Receipts are made from `last_success`, not from `mark`: after two failed attempts, a receipt
+//! of 2 entries would keep a gate from the copy that is shown, which is still at 0.
 ghost use Rattle.std.specs.Prelude.{◌≡◌, ◌⊎◌, ◌∷◌, ◌++◌, [], IfSome, IsTrue, length};
 ghost use mathlib.Core.List.{IsPrefix};
 
@@ -38,14 +38,14 @@ use memento_index::Merge;
 use std::marker::{Brand, PhantomData};
 use std::sync::Wait;
 
-/// What a publish notes: the batch that it is about to show, and then that it did. No value of it is made. A clause
-/// reads an array as a list of any length.
+/// What a publish notes: the batch that it is about to show, and then that it did. No value of this type is made. A
+/// clause reads an array as a list of any length.
 pub enum LogEntry {
     Attempt([Merge; 0]),
     Success,
 }
 
-/// The rule of the log: its first word counts its entries.
+/// The rule of the log: the first word of the log counts its entries.
 pub struct LogRule;
 
 impl Rule<LogEntry, u64> for LogRule {
@@ -66,7 +66,7 @@ impl Rule<LogEntry, u64> for LogRule {
     ghost moves = { λ ask before after answer. Unit {0} };
 }
 
-/// Whoever adds an entry gains nothing by it.
+/// States that nothing is gained by adding an entry.
 pub struct NoGain;
 
 impl Gain<LogEntry, u64> for NoGain {
@@ -97,7 +97,7 @@ impl NamesEntry for SuccessEntry {
     ghost entry = { Success };
 }
 
-/// A step that adds the named entry behind all that was seen.
+/// A step that adds the named entry after all entries that were seen.
 pub struct Addition<B> {
     of: PhantomData<B>,
 }
@@ -131,7 +131,7 @@ impl Mark {
     ghost use Rattle.published_index.specs.Marks.{successes, successes_with_last, head_of};
     ghost use Rattle.published_index.specs.declared.marks.LogEntry.TheVariants.{Success};
 
-    /// A new log, with nothing in it.
+    /// A new, empty log.
     pub fn first() -> (Mark, Head)
         ensures log { result.0.seen.log ≡ [] }
         ensures head { result.1 ≡ head_of result.0.seen.book }
@@ -149,7 +149,7 @@ impl Mark {
         }
     }
 
-    /// The mark after one more entry, where nobody else added one.
+    /// Adds one entry and returns the mark after it, if nobody else added one.
     pub fn record<B: NamesEntry>(&self, head: &Head) -> Option<Mark>
         requires { head.now ≡ head_of self.now.seen.book }
         ensures { IfSome result
@@ -179,7 +179,8 @@ impl Mark {
         })
     }
 
-    /// The mark after the last attempt succeeded. The merger alone adds entries, so the first round adds this one.
+    /// Notes that the last attempt succeeded, and returns the mark after that. Only the merger adds entries, so the
+    /// first round of the loop adds this one.
     pub fn record_success<R: Wait>(&self, rt: &R, head: &Head) -> Mark
         requires { head.now ≡ head_of self.now.seen.book }
         ensures { (result.seen.book ≡ self.now.seen.book) × (result.seen.log ≡ self.now.seen.log ++ Success ∷ []) }
@@ -192,7 +193,8 @@ impl Mark {
         unreachable!()
     }
 
-    /// Whether each batch that was published here was so there too, where the last attempt there counts as a success.
+    /// Whether each batch that was published by this mark was also published by the other, if the other's last attempt
+    /// counts as a success.
     pub fn precedes(&self, other: &Mark) -> bool
         requires { other.now.seen.book ≡ self.now.seen.book }
         ensures { IsTrue result → IsPrefix (successes self.now.seen.log) (successes_with_last other.now.seen.log) }
@@ -202,7 +204,7 @@ impl Mark {
         self.entries <= other.entries.saturating_add(1)
     }
 
-    /// The one with more entries, whose batches begin with those of the other.
+    /// The mark with more entries. Its batches begin with those of the other.
     pub fn longer(self, other: Mark) -> Mark
         requires { other.seen.book ≡ self.seen.book }
         ensures book { result.seen.book ≡ self.seen.book }

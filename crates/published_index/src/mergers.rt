@@ -1,4 +1,4 @@
-//! The one who publishes.
+//! Mergers, which publish.
 ghost use Rattle.std.specs.Prelude.{◌≡◌, ◌∷◌, [], ◌++◌, true, IfOk, IfErr, OnOk, OnErr};
 ghost use Rattle.std.specs.FinMap as map;
 ghost use Rattle.replica_exchange.specs.CursorRule as rule;
@@ -17,18 +17,18 @@ use replica_exchange::{Cursor, Cursors, Delta, TakeFault};
 use std::marker::{Brand, Model};
 use std::sync::Wait;
 
-/// Takes merges in, and publishes those that are pending all at once. Contracts see it as the list of batches that were
-/// published, one for each publish that succeeded, the batch of merges that are pending, and for each peer the cursor
-/// that says how far its merges are known.
+/// Takes in merges, and publishes all pending ones at once. Contracts see a merger as the list of batches that were
+/// published, one for each publish that succeeded; the batch of pending merges; and for each peer the cursor that says
+/// how far the peer's merges are known.
 ///
-/// It is not `Drop`, since its end may wait for readers: end it by `close`.
+/// A merger isn't `Drop`, since ending it may wait for readers. End it with `close`.
 pub struct Merger {
     pub(crate) writer: EditionWriter,
     pub(crate) head: Head,
-    /// All that was attempted.
+    /// The mark of everything that was attempted.
     pub(crate) mark: Mark,
-    /// The log as it was when a publish last succeeded. A gate that learnt of a later attempt would find no copy that
-    /// has it.
+    /// The mark of the log as it was when a publish last succeeded. A gate that learnt of a later attempt would find no
+    /// copy that has it.
     pub(crate) last_success: Mark,
     pub(crate) cursors: Cursors,
 }
@@ -62,7 +62,7 @@ impl Model for Merger {
 }
 
 impl Merger {
-    /// Puts a copy of the merge at the end of what is pending.
+    /// Appends a copy of the merge to what is pending.
     pub fn append(&mut self, merge: &Merge) -> Result<(), NoMemory>
         ensures ok { OnOk result (self.new ≡ with_merge self.old merge.now) }
         ensures err { OnErr result (self.new ≡ self.old) }
@@ -71,8 +71,8 @@ impl Merger {
         add(&mut self.writer, copy)
     }
 
-    /// Puts a copy of the state of a peer's delta at the end of what is pending, and moves the peer's cursor, where the
-    /// delta starts at the beginning or at what the cursor reaches.
+    /// Appends a copy of the state of a peer's delta to what is pending, and moves the peer's cursor, if the delta
+    /// starts at the beginning or within what the cursor reaches.
     pub fn append_delta(&mut self, peer: u64, delta: &Delta) -> Result<(), TakeFault>
         ensures ok { OnOk result (self.new ≡ with_delta self.old peer delta.now) }
         ensures fits { OnOk result (rule.fits (map.get self.old.cursors peer) delta.now ≡ true) }
@@ -87,7 +87,7 @@ impl Merger {
             return Err(TakeFault::NoMemory);
         };
         moved.advance(peer, delta)?;
-        // What is appended can't be taken back, so the cursors move last.
+        // What was appended can't be taken back, so the cursors move last.
         let Ok(()) = add(&mut self.writer, Merge::State(state)) else {
             return Err(TakeFault::NoMemory);
         };
@@ -102,13 +102,13 @@ impl Merger {
         self.cursors.held(peer)
     }
 
-    /// Makes all that is pending one batch at the end of the published list, perhaps an empty one, and gives a receipt
-    /// of the whole list. Gates show all of the batch or nothing of it. The batch is the events of its merges
-    /// (`a_publish_is_events`), for which numbers are left.
+    /// Makes everything that is pending into one batch, which may be empty, at the end of the published list, and
+    /// returns a receipt of the whole list. Gates show all of the batch or nothing of it. The batch is the events of
+    /// its merges (`a_publish_is_events`), for which enough numbers are left.
     ///
-    /// It is refused where a growth is, and where the merges are more than a number of 64 bits counts. It may wait for
-    /// gates that are about to answer from what was published before. Takes time in what is pending and in what the
-    /// publish before took.
+    /// It is refused if a growth is refused, and if there are more merges than a 64-bit number can count. It may wait
+    /// for gates that are about to answer from what was published before. Takes time in what is pending and in what the
+    /// previous publish took in.
     pub fn publish<R: Wait>(&mut self, rt: &R) -> Result<Receipt, PublishRefused>
         ensures ok { OnOk result (self.new ≡ with_publish self.old) }
         ensures receipt { IfOk result (λ told. told ≡ receipt_of self.new) }
@@ -137,7 +137,8 @@ impl Merger {
         }
     }
 
-    /// Ends it: what is pending is lost, and gates answer `Closed`. It may wait for gates that are about to answer.
+    /// Ends the merger: what is pending is lost, and gates answer `Closed`. It may wait for gates that are about to
+    /// answer.
     pub fn close<R: Wait>(self, rt: &R) {
         let Merger {
             writer,

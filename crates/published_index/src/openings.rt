@@ -16,13 +16,13 @@ use std::alloc::Global;
 use std::sync::Wait;
 use timemap_writer::Service;
 
-/// So many gates may share one merger.
+/// The most gates that can share one merger.
 pub const MOST_GATES: usize = 64;
 
-/// A merger with nothing pending or published and without cursors, and so many gates that have seen nothing and were
-/// told nothing. Their deltas are of this incarnation; those of two openings are to differ.
+/// Opens a merger that has nothing pending or published and no cursors, and this many gates that have seen nothing and
+/// were told nothing. Their deltas have this incarnation; two openings should have different incarnations.
 ///
-/// `NoMemory`: the allocator refused a growth. `NoPlace`: there was no place for a reader; no cause is promised.
+/// `NoMemory` if the allocator refused a growth. `NoPlace` if there was no place for a reader; no cause is promised.
 pub fn open<R: Wait>(
     rt: &R,
     alloc: Global,

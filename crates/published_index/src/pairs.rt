@@ -9,9 +9,9 @@ use crate::faults::GateFault;
 use crate::gates::Gate;
 use timegate::{Reply, Request};
 
-/// Asks the gates of two replicas the same. Where their fronts hold the same harvests, or at least have the same state,
+/// Asks the gates of two replicas the same. If their fronts hold the same harvests, or at least have the same state,
 /// both replies are the same, whether the harvests came directly or in another replica's state. Only deltas may differ,
-/// since they tell of the merges too.
+/// since they also tell of the merges.
 pub fn ask_both(
     first: &mut Gate,
     second: &mut Gate,

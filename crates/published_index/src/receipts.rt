@@ -1,9 +1,9 @@
-//! What a merger tells.
+//! Receipts, which mergers give and gates learn.
 use crate::marks::Mark;
 use std::marker::Model;
 
-/// The list of batches that was published when it was told, for a gate to learn. Contracts alone know the list: when
-/// the program runs a receipt is one number.
+/// The list of batches that was published when the receipt was made, for a gate to learn. Only contracts know the list:
+/// when the program runs, a receipt is a single number.
 #[derive(Drop)]
 pub struct Receipt {
     pub(crate) mark: Mark,

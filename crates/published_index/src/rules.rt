@@ -9,7 +9,7 @@ use crossbeam_utils::rule::{Outcome, Protocol};
 use left_right::reader::Reader;
 use left_right::writer::Writer;
 
-/// The rule.
+/// The rule of the published copies.
 pub struct Published;
 
 impl Protocol<Edition, ReaderView> for Published {
@@ -32,7 +32,7 @@ impl Outcome<Edition, ReaderView> for Publication {
     ghost then = { Shows };
 }
 
-/// The writer tells all that it knows, and still knows it.
+/// The writer tells everything that it knows, and still knows it.
 pub struct Telling;
 
 impl Split<ReaderView> for Telling {

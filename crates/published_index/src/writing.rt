@@ -16,7 +16,7 @@ use memento_time::NoMemory;
 use std::alloc::AllocError;
 use std::sync::Wait;
 
-/// Puts the merge behind what is pending.
+/// Appends the merge to what is pending.
 pub(crate) fn add(writer: &mut EditionWriter, merge: Merge) -> Result<(), NoMemory>
     ensures desk { writer.new.desk ≡ writer.old.desk }
     ensures log { MatchResult result
@@ -30,7 +30,7 @@ pub(crate) fn add(writer: &mut EditionWriter, merge: Merge) -> Result<(), NoMemo
     }
 }
 
-/// Puts the mark behind what is pending.
+/// Appends the mark to what is pending.
 fn reach(writer: &mut EditionWriter, mark: Mark) -> Result<(), NoMemory>
     ensures desk { writer.new.desk ≡ writer.old.desk }
     ensures log { MatchResult result
@@ -44,7 +44,7 @@ fn reach(writer: &mut EditionWriter, mark: Mark) -> Result<(), NoMemory>
     }
 }
 
-/// Notes the attempt to publish what is pending, and puts the mark of that behind it.
+/// Notes the attempt to publish what is pending, and appends the mark of that attempt.
 pub(crate) fn offer<B: NamesEntry>(
     writer: &mut EditionWriter,
     head: &Head,
@@ -71,7 +71,7 @@ pub(crate) fn offer<B: NamesEntry>(
     reach(writer, mark.copy())
 }
 
-/// Shows what is pending, whose last change is an attempt's mark.
+/// Shows what is pending. Its last change is the mark of an attempt.
 pub(crate) fn show<R: Wait>(
     writer: EditionWriter,
     rt: &R,
@@ -89,7 +89,7 @@ pub(crate) fn show<R: Wait>(
     ensures number { result.0.desk.shown.value.stamped.number ≤ last_number }
 {
     let (writer, shown) = writer.publish_as::<Publication, R>(rt);
-    // It fits a number of 64 bits, since it is one.
+    // The number fits into 64 bits, since it is a `u64`.
     let _number = writer.published().stamped.number();
     (writer, shown)
 }
