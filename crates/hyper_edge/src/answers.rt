@@ -1,20 +1,20 @@
-//! What answers requests behind a lock.
+//! Answers requests behind a lock.
 ghost use Rattle.std.specs.Prelude.{◌≡◌, IfOk};
 
 use published_index::{Gate, GateFault};
 use timegate::{Reply, Request};
 
-/// What answers requests. What it may answer is a matter of the type and not of the value, so that it is known of a
-/// value behind a lock.
+/// Answers requests. The type, not the value, determines what may be answered, so that this is known for a value behind
+/// a lock.
 pub trait Answers: Drop {
     ghost use Rattle.std.specs.Prelude.{◌≡◌, IfOk};
     ghost use Rattle.timegate.specs.declared.request.Request.{Request as Asked};
     ghost use Rattle.timegate.specs.declared.reply.Reply.{Reply as Answered};
 
-    /// Holds of each reply that a value of the type may give to a request.
+    /// Holds for each reply that a value of the type may give to a request.
     ghost replies: { Asked → Answered → Type 0 };
 
-    /// Holds where a value of the type may be closed.
+    /// Holds if a value of the type may be closed.
     ghost may_close: { Type 0 };
 
     /// The reply to a request.

@@ -26,7 +26,7 @@ impl Bound {
     }
 }
 
-/// Binds an address, as `127.0.0.1:8080`; port 0 asks for a free one.
+/// Binds an address, such as `127.0.0.1:8080`. Port 0 asks for a free port.
 pub fn bind<R>(rt: &R, address: &str) -> Result<Bound, EdgeFault>
 where
     R: Clock + Net + RandomSource + AllocGlobal,

@@ -30,7 +30,7 @@ use tokio::runtime::LocalRuntime;
 use url::{Position, Url};
 use url_texts::read_url;
 
-/// Until when the other side is waited for.
+/// The times until which the other side is waited for.
 #[derive(Clone, Copy)]
 struct Deadlines {
     /// For the connection and the head of the answer.
@@ -40,7 +40,7 @@ struct Deadlines {
 }
 
 impl Deadlines {
-    /// The deadlines of what begins now.
+    /// The deadlines of an exchange that begins now.
     fn of(clock: &impl Clock, patience: Patience) -> Result<Deadlines, FetchFault> {
         let now = Instant::now(clock).map_err(|error| fault_of(&error))?;
         let head = now.checked_add(patience.for_head());
@@ -52,10 +52,10 @@ impl Deadlines {
     }
 }
 
-/// What is fetched by GET over a fresh connection; a body over `most` bytes is TooLong. An https URL is Failed, and so
-/// is one whose answer doesn't come within the patience. The name is looked up by std, for which there is no limit.
-/// Where there are hosts, a URL of another host is Failed before its name is looked up, and one whose name leads to no
-/// allowed address before a connection is made.
+/// Fetches a URL by `GET` over a fresh connection. A body of more than `most` bytes is `TooLong`. An https URL is
+/// `Failed`, and so is one whose answer doesn't come within the patience. The name is looked up by std, without a time
+/// limit. If there are hosts, a URL of another host is `Failed` before its name is looked up, and one whose name leads
+/// to no allowed address is `Failed` before a connection is made.
 pub(crate) fn get<R>(
     rt: &R,
     patience: Patience,
@@ -89,7 +89,7 @@ fn fault_of(error: &io::Error) -> FetchFault {
     }
 }
 
-/// What an error of a connection is: want of memory below is want of memory here.
+/// The fault for an error of a connection. If `hyper` ran out of memory, it is `NoMemory`.
 fn fault_of_hyper(error: &hyper::Error) -> FetchFault
     ensures memory { (result ≡ FetchFault.NoMemory) ↔ (kind_of error.now ≡ HyperOutOfMemory) }
     ensures either { (result ≡ FetchFault.NoMemory) ⊎ (result ≡ FetchFault.Failed) }
@@ -122,8 +122,8 @@ fn request_for(alloc: Global, url: &str, address: &Url) -> Result<Request<Empty<
     }
 }
 
-/// The addresses that may be connected to for a URL: those of its host, with its port, and where there are hosts, those
-/// of a listed one that it leads to.
+/// The addresses that may be connected to for a URL: those of its host, with its port. If there are hosts, the host
+/// must be listed, and only the addresses that it leads to are given.
 fn addresses_of(
     rt: &(impl Net + AllocGlobal),
     hosts: Option<&[AllowedHost]>,
@@ -160,7 +160,7 @@ fn look_up(rt: &(impl Net + AllocGlobal), url: &Url) -> Result<Vec<SocketAddr>, 
         .map_err(|_| FetchFault::NoMemory)
 }
 
-/// A connection to the first of the addresses that takes one in time.
+/// A connection to the first of the addresses that accepts one in time.
 fn connect<R>(
     rt: &R,
     runtime: &mut LocalRuntime,
@@ -189,7 +189,7 @@ where
     Err(FetchFault::Failed)
 }
 
-/// What `wanted` gives in time, while the connection is kept going, and the connection if it hasn't ended.
+/// What `wanted` gives in time, while the connection is driven, and the connection if it hasn't ended.
 fn while_connected<R, F, C>(
     rt: &R,
     runtime: &mut LocalRuntime,
@@ -220,7 +220,7 @@ where
     }
 }
 
-/// Sends the request and takes the whole answer.
+/// Sends the request and receives the whole answer.
 fn exchange<R, I>(
     rt: &R,
     runtime: &mut LocalRuntime,
@@ -301,7 +301,7 @@ fn answer_of(
     })
 }
 
-/// The bytes of a body: its own block, where nobody else holds it.
+/// The bytes of a body: the body's own block, if nobody else holds it.
 fn body_of(alloc: Global, collected: Collected) -> Result<Vec<u8>, AllocError>
     ensures { IfOk result (λ body. body.items ≡ collected_bytes collected) }
 {

@@ -1,4 +1,4 @@
-//! Why a call at the edge gives nothing.
+//! Why a call at the edge gives no result.
 ghost use Rattle.std.specs.Prelude.{◌≡◌, ◌⊎◌, Some};
 ghost use Rattle.hyper_edge.specs.Faults.{edge_words, form_words, pull_words, respond_words};
 
@@ -9,10 +9,10 @@ use std::alloc::{AllocError, AllocFailed};
 use std::error::Error;
 use std::{fmt, io};
 
-/// Why a reply has no form.
+/// Why a reply has no HTTP form.
 #[derive(Clone, Copy, Debug, PartialEq, Eq)]
 pub enum FormFault {
-    /// `http` refuses a part of it.
+    /// `http` refuses a part of the reply.
     NoForm,
     /// The allocator refused a growth.
     NoMemory,
@@ -45,9 +45,9 @@ pub enum EdgeFault {
 pub enum PullFault {
     /// No answer came.
     Failed,
-    /// The peer answered with another status than 200.
+    /// The peer answered with a status other than 200.
     Status(u16),
-    /// The body is no delta's text, or longer than 268,435,456 bytes.
+    /// The body isn't a delta's text, or is longer than 268,435,456 bytes.
     BadState,
     /// The allocator refused a growth.
     NoMemory,

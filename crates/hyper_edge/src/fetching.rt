@@ -14,17 +14,16 @@ use std::random::RandomSource;
 use std::sync::Wait;
 use std::time::Clock;
 
-/// The most bytes that a body may have.
+/// The most bytes that a body can have.
 const MAX_BODY: usize = 8_388_608;
 
-/// Fetches by HTTP/1.1, with a fresh connection for each URL. An https URL is Failed, and so is one whose answer
+/// Fetches by HTTP/1.1, with a fresh connection for each URL. An https URL is `Failed`, and so is one whose answer
 /// doesn't come within a minute (`Patience::default`).
 #[derive(Clone, Copy, Debug)]
 pub struct HyperFetch;
 
-/// Fetches as `HyperFetch` does, and waits by a patience of its own. Where it has hosts, a URL of another host is
-/// Failed before a connection is made, and so is one whose listed name leads to no address but internal ones
-/// (`is_allowed`).
+/// Fetches as `HyperFetch` does, but with a patience of its own. If it has hosts, a URL of another host is `Failed`
+/// before a connection is made, and so is one whose listed name leads only to internal addresses (`is_allowed`).
 #[derive(Clone, Copy, Debug)]
 pub struct CarefulFetch<'a> {
     pub patience: Patience,

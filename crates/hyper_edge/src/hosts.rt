@@ -31,7 +31,7 @@ impl AllowedHost {
     }
 }
 
-/// The URL with this text between the scheme and the path, or None where that is no URL.
+/// The URL with this text between the scheme and the path, or `None` if that isn't a URL.
 fn read_around(alloc: Global, text: &str) -> Result<Option<Url>, AllocError>
     ensures { IfOk result (λ url. IsReading (parse_url None (url_around text.now)) url) }
 {
@@ -45,14 +45,14 @@ fn around(alloc: Global, text: &str) -> Result<String, AllocError>
     format!(in alloc; "http://{text}/")
 }
 
-/// Whether a URL's host and port are written so.
+/// Whether a URL's host and port are written like this text.
 fn has_host_written(url: &Url, text: &str) -> bool
     ensures { IsTrue result ↔ (text_between url.now Position.BeforeHost Position.AfterPort ≡ text.now) }
 {
     url.slice(Position::BeforeHost, Position::AfterPort) == text
 }
 
-/// The host and the port of a URL, where it has them.
+/// The host and the port of a URL, if it has them.
 fn entry_of(alloc: Global, url: &Url) -> Result<Option<AllowedHost>, AllocError>
     ensures { IfOk result (λ found.
         MatchOption found ((entry : Entry) → ¬ (IsEntryOf url.now entry)) (IsEntryOf url.now)) }
@@ -70,8 +70,8 @@ fn octets(alloc: Global, bytes: &[u8]) -> Result<Octets, AllocError>
     Ok(Octets::of(bytes.to_vec(alloc)?))
 }
 
-/// The entry that a text spells: the part of a URL between `http://` and its path, as `web.archive.org`, whose port is
-/// 80, or `127.0.0.1:8101`. None for a text that isn't just that, or isn't spelled as `url` spells it.
+/// Reads the entry that a text spells: the part of a URL between `http://` and the path, such as `web.archive.org`,
+/// whose port is 80, or `127.0.0.1:8101`. `None` if the text isn't exactly that, or isn't spelled as `url` spells it.
 pub fn read_host(alloc: Global, text: &str) -> Result<Option<AllowedHost>, AllocError>
     ensures { IfOk result (λ found. MatchOption found ((entry : Entry) → ¬ (Spells text.now entry)) (Spells text.now)) }
 {
@@ -84,7 +84,7 @@ pub fn read_host(alloc: Global, text: &str) -> Result<Option<AllowedHost>, Alloc
     entry_of(alloc, &url)
 }
 
-/// Whether the host and the port of a URL are one of these entries.
+/// Whether one of these entries has the host and the port of the URL.
 pub fn is_listed(hosts: &[AllowedHost], url: &Url) -> bool
     ensures { IsTrue result ↔ IsListed hosts.now url.now }
 {
@@ -94,7 +94,7 @@ pub fn is_listed(hosts: &[AllowedHost], url: &Url) -> bool
     hosts.iter().any(|entry| entry.is(host, port))
 }
 
-/// By the first two octets.
+/// Whether an IPv4 address with these first two octets is internal.
 fn is_internal_v4(first: u8, second: u8) -> bool
     ensures { result ≡ spec.is_internal_v4 first second }
 {
@@ -130,7 +130,7 @@ fn is_internal_v6(segments: [u16; 8]) -> bool
             && is_internal_v4((segments[6] / 256) as u8, (segments[6] % 256) as u8))
 }
 
-/// Whether an address is one of this machine, of a network of its own, or of no one machine.
+/// Whether an address belongs to this machine, to a private network, or to no single machine.
 fn is_internal(address: IpAddr) -> bool
     ensures { result ≡ spec.is_internal address }
 {
@@ -143,8 +143,8 @@ fn is_internal(address: IpAddr) -> bool
     }
 }
 
-/// Whether a listed host leads to an address that its look-up gave: a name leads to no internal address, so that
-/// nobody's name makes this machine ask itself or its network, and an address leads to itself alone.
+/// Whether a listed host leads to an address that looking it up gave. A name leads to no internal address, so that
+/// nobody's name can make this machine ask itself or its network. A host that is an address leads only to that address.
 pub fn is_allowed(host: &Host<&str>, address: IpAddr) -> bool
     ensures { result ≡ spec.is_allowed (borrowed_host host.now) address }
 {
@@ -156,7 +156,7 @@ pub fn is_allowed(host: &Host<&str>, address: IpAddr) -> bool
     }
 }
 
-/// Those of the addresses that a listed host leads to, in their order.
+/// The addresses, out of these, that a listed host leads to, in their order.
 pub fn allowed_addresses(
     alloc: Global,
     host: &Host<&str>,

@@ -1,4 +1,5 @@
-//! Worked examples, and what holds of all gates. No program calls these functions: each is a statement, and its proof.
+//! Worked examples, and laws that hold for all gates. No program calls these functions: each is a statement with its
+//! proof.
 ghost use Rattle.std.specs.Prelude.{◌≡◌, ℕ, List};
 ghost use Rattle.harvest_lattice.specs.Knowledge.{Harvested};
 ghost use Rattle.memento_index.specs.declared.merge.Merge.{Merge};
@@ -11,7 +12,7 @@ ghost use Rattle.hyper_edge.specs.Addresses.{AreAddresses};
 ghost use Rattle.hyper_edge.specs.Gates.{IsSomeReply};
 ghost use Rattle.hyper_edge.specs.Targets.{AreTargets};
 
-/// What the requests for some URLs name.
+/// The targets that the requests for some URLs name.
 pub fn targets_by_example()
     ensures { AreTargets }
 {}
@@ -21,8 +22,8 @@ pub fn addresses_by_example()
     ensures { AreAddresses }
 {}
 
-/// To a request that asks for no delta, whatever a gate may answer is the reply of a replica that has taken some
-/// harvests. And whatever a replica answers to a request, a gate may answer.
+/// If a request asks for no delta, whatever a gate may answer is the reply of a replica that has taken some harvests.
+/// Conversely, a gate may answer whatever a replica answers to a request.
 pub fn gates_answer_as_replicas()
     ensures taken { (q : Request) (made : Reply) → IsSomeReply q made → IsOfTaken q
         → (base : List ℕ) × (known : List Harvested) × (made ≡ reply base known q) }

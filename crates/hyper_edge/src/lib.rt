@@ -1,7 +1,7 @@
-//! Gates, fetches and pulls over sockets, by `hyper` and `tokio`.
+//! Gates, fetches and pulls over sockets, with `hyper` and `tokio`.
 //!
-//! What a gate answers is carried by HTTP/1.1: `GateService::respond` gives the form of a reply that the gate's type
-//! allows for the request, and nothing else. What crosses a socket, no contract can say: that is tested.
+//! HTTP/1.1 carries what a gate answers: `GateService::respond` gives the form of a reply that the gate's type allows
+//! for the request, and nothing else. No contract can say what crosses a socket, so that is tested.
 #![tactic(auto)]
 
 mod answers;

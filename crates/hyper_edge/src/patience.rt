@@ -1,13 +1,13 @@
-//! How long the other side of a connection is waited for.
+//! How long to wait for the other side of a connection.
 ghost use Rattle.std.specs.Prelude.{◌≡◌, ◌*◌, ◌-◌, ◌^◌, min};
 ghost use Rattle.std.specs.Duration.{as_nanos};
 
 use std::time::Duration;
 
-/// The seconds that are waited where nobody says otherwise.
+/// How many seconds to wait by default.
 pub const DEFAULT_PATIENCE: u64 = 60;
 
-/// How many times as long as for the head of an answer is waited for all of it.
+/// How many times as long as for an answer's head to wait for the whole answer.
 const HEADS_EACH_BODY: u64 = 10;
 
 /// How long a fetch or a pull waits for the other side.
@@ -17,7 +17,7 @@ pub struct Patience {
 }
 
 impl Patience {
-    /// So many seconds for the connection and the head of the answer.
+    /// A patience of this many seconds for the connection and the head of the answer.
     pub fn of_seconds(seconds: u64) -> Patience
         ensures { result ≡ record { seconds = seconds } }
     {
@@ -31,7 +31,8 @@ impl Patience {
         Duration::from_secs(self.seconds)
     }
 
-    /// How long the whole answer may take: ten times as long, as far as 64 bits tell its seconds.
+    /// How long the whole answer may take: ten times as long as the head, up to the most seconds that 64 bits can
+    /// count.
     pub fn for_body(self) -> Duration
         ensures { as_nanos result ≡ min (self.seconds * 10) (2 ^ 64 - 1) * 10 ^ 9 }
     {
@@ -39,7 +40,7 @@ impl Patience {
     }
 }
 
-/// The patience where nobody says otherwise: a minute.
+/// The default patience: a minute.
 impl Default for Patience {
     fn default() -> Patience {
         Patience::of_seconds(DEFAULT_PATIENCE)

@@ -1,4 +1,4 @@
-//! Pulls what peers have learnt.
+//! Pulls from peers what they have learnt.
 ghost use Rattle.std.specs.Prelude.{◌≡◌, ◌≢◌, ◌++◌, IfErr, IfOk, string_bytes};
 ghost use Rattle.timegate.specs.Route.{delta_target};
 ghost use Rattle.hyper_edge.specs.Pulls.{Brings, IsBrought, IsRefusedFor};
@@ -15,12 +15,12 @@ use std::random::RandomSource;
 use std::sync::Wait;
 use std::time::Clock;
 
-/// The most bytes that a delta's text may have.
+/// The most bytes that a delta's text can have.
 const MAX_DELTA: usize = 268_435_456;
 
-/// The delta of a peer from a cursor, or from none: what it answers for `/delta/I/N` or `/delta` under its base, which
-/// is kept without the last `/`. Where it starts is the peer's word: whoever takes it looks whether it fits. A peer
-/// whose answer doesn't come within a minute (`Patience::default`) is Failed.
+/// Pulls the delta of a peer from a cursor, or from none: what the peer answers for `/delta/I/N` or `/delta` under its
+/// base, which is kept without the last `/`. The peer says where its delta starts, so whoever takes it has to test
+/// whether it fits. A peer whose answer doesn't come within a minute (`Patience::default`) is `Failed`.
 pub fn pull_state<R>(rt: &R, peer: &Clean, cursor: Option<Cursor>) -> Result<Delta, PullFault>
 where
     R: Wait + Clock + Net<Listener = TcpListener, Stream = TcpStream> + RandomSource + AllocGlobal,
@@ -30,7 +30,7 @@ where
     pull_within(rt, Patience::default(), peer, cursor)
 }
 
-/// What `pull_state` gives, by a patience of its own.
+/// Pulls as `pull_state` does, but with a patience of its own.
 pub fn pull_within<R>(
     rt: &R,
     patience: Patience,
@@ -48,7 +48,7 @@ where
     delta_in(alloc, &answer)
 }
 
-/// The delta that a peer's answer brings, or why it brings none.
+/// The delta that a peer's answer has, or why it has none.
 fn delta_in(alloc: Global, answer: &Answer) -> Result<Delta, PullFault>
     ensures ok { IfOk result (Brings answer.now) }
     ensures err { IfErr result (IsRefusedFor answer.now) }

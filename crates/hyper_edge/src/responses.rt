@@ -23,7 +23,7 @@ fn head(alloc: Global, reply: &Reply) -> Result<Parts, FormFault>
     Ok(head)
 }
 
-/// The response with the reply's status, headers and body. `NoForm` where `http` refuses a part of it.
+/// The response with the reply's status, headers and body. `NoForm` where `http` refuses a part of the reply.
 pub fn form(alloc: Global, reply: &Reply) -> Result<Response<Bytes>, FormFault>
     ensures { IfOk result (IsFormOf reply.now) }
 {
@@ -32,7 +32,7 @@ pub fn form(alloc: Global, reply: &Reply) -> Result<Response<Bytes>, FormFault>
     Ok(Response::from_parts(head, body))
 }
 
-/// The form of a reply that isn't needed any more: its body isn't copied.
+/// The form of a reply that is no longer needed, so that its body isn't copied.
 pub(crate) fn into_form(alloc: Global, reply: Reply) -> Result<Response<Bytes>, FormFault>
     ensures { IfOk result (IsFormOf reply) }
 {

@@ -30,14 +30,14 @@ struct Shared<G, R> {
     gate: Mutex<G>,
 }
 
-/// A gate behind a lock, which the connections of a server share.
+/// A gate behind a lock that a server's connections share.
 #[derive(Drop)]
 pub struct GateService<G, R> {
     shared: Arc<Shared<G, R>>,
 }
 
 impl<G: Answers, R: Wait + Drop> GateService<G, R> {
-    /// The service of a gate. `rt` is what a call locks the gate by. Where memory is refused the gate is dropped.
+    /// The service of a gate. Calls lock the gate by `rt`. If memory is refused, the gate is dropped.
     pub fn new(alloc: Global, rt: R, gate: G) -> Result<GateService<G, R>, NoMemory> {
         let gate = Mutex::new(gate);
         let shared = Arc::new(alloc, Shared { rt, alloc, gate })?;
@@ -50,8 +50,8 @@ impl<G: Answers, R: Wait + Drop> GateService<G, R> {
         Ok(GateService { shared })
     }
 
-    /// The form of the reply that the gate gives. May wait for the lock. After a fault the gate is as its `answer` left
-    /// it.
+    /// The form of the reply that the gate gives. May wait for the lock. After a fault, the gate is as its `answer`
+    /// left it.
     pub fn respond(&self, request: &Request) -> Result<Response<Bytes>, RespondFault>
         ensures form { IfOk result
             (λ response. (reply : Answered) × G.replies request.now reply × IsFormOf reply response) }

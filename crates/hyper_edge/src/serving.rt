@@ -16,13 +16,14 @@ use std::time::{Clock, Duration};
 use tokio::io::{AsyncRead, AsyncWrite};
 use tokio::runtime::LocalRuntime;
 
-/// The most seconds that a client may take over the head of a request, from the accept or the reply before it on.
+/// The most seconds that a client may take for the head of a request, counted from when its connection was accepted or
+/// from the reply before.
 const HEAD_SECONDS: u64 = 10;
 
-/// Serves this many connections, one after the other, and answers how many of them ended with a connection fault.
+/// Serves this many connections, one after the other, and returns how many of them ended with a connection fault.
 ///
-/// Each request gets what `GateService::respond` gives, and 503 with an empty body for its fault. A connection is
-/// served until its client closes it, or lets the time for the head of a request pass.
+/// Each request gets what `GateService::respond` gives, or 503 with an empty body if that is a fault. A connection is
+/// served until its client closes it or takes too long for the head of a request.
 pub fn serve_gate<R, G>(
     rt: &R,
     bound: &mut Bound,
@@ -52,7 +53,7 @@ where
     Ok(faults)
 }
 
-/// Serves one connection to its end, and tells whether it ended well.
+/// Serves one connection to its end, and returns whether it ended well.
 fn serve_connection<R, G, I, T>(
     rt: &R,
     runtime: &mut LocalRuntime,

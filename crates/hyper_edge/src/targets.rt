@@ -5,7 +5,7 @@ ghost use Rattle.memento_time.specs.Text as text;
 
 use std::alloc::{AllocError, Global};
 
-/// What stands before the authority and the slashes in front of it, in any case.
+/// The text before the authority and the slashes in front of it, in any case.
 const SCHEME: &[u8] = b"http:";
 
 fn is_slash(byte: u8) -> bool
@@ -59,8 +59,8 @@ fn without_slash(path: &[u8]) -> &[u8]
     }
 }
 
-/// The target that a request for the URL names: its own text from behind the authority up to the fragment. None where
-/// it doesn't begin with `http:`, in any case.
+/// The target that a request for the URL names: the URL's own text after the authority, up to the fragment. `None` if
+/// the URL doesn't begin with `http:`, in any case.
 pub(crate) fn target_of(alloc: Global, url: &str) -> Result<Option<Vec<u8>>, AllocError>
     ensures { IfOk result (λ target. option_map (λ text. text.items) target ≡ spec.target_of url.now) }
 {

@@ -4,7 +4,7 @@ use std::alloc::AllocError;
 use std::time::{Clock, Instant, SystemTime};
 use tokio::time::{Handle, Sleep};
 
-/// A clock that `hyper` may keep a copy of, and the timers of the runtime that drives the connections.
+/// A clock of which `hyper` may keep copies, with the timers of the runtime that drives the connections.
 #[derive(Clone, Drop)]
 pub(crate) struct GateTimer<R> {
     clock: R,
