@@ -1,8 +1,8 @@
-//! A service by its settings: the text of the settings is read, and what it asks for is served.
+//! A service by its settings: reads the text of the settings, and serves what it asks for.
 //!
-//! `read_settings` gives `Settings` only where each key holds what it may, and `serve_settings` opens the gates in
-//! threads of their own, and makes rounds in the caller's: each archive is walked for each original, each peer is
-//! pulled, and what came is published to the gates. The program above it reads the file and says how a fault ends.
+//! `read_settings` gives `Settings` only if each key holds what it may. `serve_settings` opens the gates in threads of
+//! their own, and makes rounds in the caller's thread: it walks each archive for each original, pulls from each peer,
+//! and publishes what came to the gates. The program above this crate reads the file and says how a fault ends.
 #![tactic(auto)]
 
 mod clocks;

@@ -13,9 +13,9 @@ use std::fmt;
 /// Why a peer brought nothing in a round.
 #[derive(Clone, Copy, Debug, PartialEq, Eq)]
 pub(crate) enum PeerFault {
-    /// Its delta isn't pulled.
+    /// The peer's delta couldn't be pulled.
     Pull(PullFault),
-    /// Its delta isn't taken.
+    /// The peer's delta wasn't accepted.
     Take(TakeFault),
 }
 
@@ -30,11 +30,11 @@ impl fmt::Display for PeerFault {
     }
 }
 
-/// Why the first of some walks failed, and where it began.
+/// Why the first of the walks that failed did so, and where it began.
 #[derive(Clone, Copy)]
 pub(crate) enum Cause<'a> {
     Known { fault: WalkFault, url: &'a str },
-    /// Memory was refused for it.
+    /// Memory was refused for the cause.
     Unknown,
 }
 
@@ -49,12 +49,12 @@ impl<'a> fmt::Display for Cause<'a> {
     }
 }
 
-/// What is told of an archive.
+/// What the log says about an archive.
 #[derive(Clone, Copy)]
 pub(crate) enum Matter<'a> {
     /// Walks failed.
     Failed { counts: Counts, cause: Cause<'a> },
-    /// So many harvests came in part.
+    /// This many harvests came in part.
     Parts(u64),
 }
 
@@ -92,9 +92,9 @@ impl fmt::Display for Want {
 /// How a gate ended.
 #[derive(Clone, Copy, Debug, PartialEq, Eq)]
 pub(crate) enum GateEnd {
-    /// It has served its last connection.
+    /// The gate has served its last connection.
     Served,
-    /// It ended before, or never began.
+    /// The gate ended before that, or never began.
     Failed(EdgeFault),
 }
 
@@ -112,13 +112,13 @@ impl fmt::Display for GateEnd {
 /// What went wrong, each as one line.
 #[derive(Clone, Copy)]
 pub(crate) enum Line<'a> {
-    /// Something is told of this archive.
+    /// Something about this archive.
     Archive {
         round: u64,
         name: &'a str,
         matter: Matter<'a>,
     },
-    /// Memory was refused so often.
+    /// Memory was refused this many times.
     Wanting {
         round: u64,
         count: u64,
@@ -137,7 +137,7 @@ pub(crate) enum Line<'a> {
     },
     /// Standard output can't be written.
     Output,
-    /// The gate of this number ended.
+    /// The gate with this number ended.
     Gate {
         number: u64,
         address: &'a str,

@@ -12,7 +12,7 @@ use std::alloc::Global;
 use std::fmt;
 use std::io::Write;
 
-/// How many walks of an archive ended how, in a round.
+/// How many of an archive's walks ended in which way, in a round.
 #[derive(Clone, Copy, Debug, PartialEq, Eq)]
 pub(crate) struct Counts {
     walks: u64,
@@ -29,7 +29,7 @@ impl Counts {
         parts: 0,
     };
 
-    /// The counts with one walk more.
+    /// The counts with one more walk.
     fn with(self, walked: &Result<Harvest, WalkFault>) -> Counts
         ensures { result ≡ counted self walked.now }
     {
@@ -73,12 +73,12 @@ pub(crate) struct First {
 #[derive(Drop)]
 pub(crate) struct Noted {
     counts: Counts,
-    /// None too where memory was refused for its copy.
+    /// Also `None` if memory was refused for its copy.
     first: Option<First>,
 }
 
 impl Noted {
-    /// Takes a walk in, which began at this URL.
+    /// Takes in a walk that began at this URL.
     fn add(&mut self, url: &Clean, walked: &Result<Harvest, WalkFault>)
         ensures counts { self.new.counts ≡ counted self.old.counts walked.now }
         ensures first { self.old.counts.failed ≡ 0
@@ -93,7 +93,7 @@ impl Noted {
         self.counts = self.counts.with(walked);
     }
 
-    /// The lines of this archive.
+    /// Writes the lines of this archive.
     fn tell<L: Write + Copy>(&self, alloc: Global, round: u64, archive: &ArchiveName, log: Log<L>) {
         let name = name_text(archive);
         let counts = self.counts;
@@ -132,7 +132,7 @@ impl Noted {
     }
 }
 
-/// The first walk that failed; None where memory is refused.
+/// The first walk that failed; `None` if memory is refused.
 fn first_at(url: &Clean, fault: WalkFault) -> Option<First>
     ensures { IfSome result (IsFirst url.now fault) }
 {
@@ -143,14 +143,15 @@ fn first_at(url: &Clean, fault: WalkFault) -> Option<First>
 /// What a round notes of its walks.
 #[derive(Drop)]
 pub(crate) struct Notes {
-    /// In the order of the settings. Those behind the first that memory is refused for are missing.
+    /// The notes of the archives, in the order of the settings. From the first archive for which memory is refused,
+    /// they are missing.
     archives: Vec<Noted>,
     walked: u64,
     unkept: u64,
 }
 
 impl Notes {
-    /// Of a round that has walked nothing yet. Without a log nothing is noted of archives.
+    /// The notes of a round that has walked nothing yet. Without a log, nothing is noted about archives.
     pub(crate) fn new(alloc: Global, settings: &Settings) -> Notes {
         let mut archives = Vec::new(alloc);
         let count = if settings.log {
@@ -172,7 +173,7 @@ impl Notes {
         }
     }
 
-    /// Takes a walk in.
+    /// Takes in a walk.
     pub(crate) fn add(
         &mut self,
         settings: &Settings,
@@ -194,7 +195,7 @@ impl Notes {
         self.unkept = self.unkept.saturating_add(1);
     }
 
-    /// The lines of a round of so many jobs.
+    /// Writes the lines of a round of this many jobs.
     pub(crate) fn tell<L>(
         &self,
         alloc: Global,
@@ -215,14 +216,14 @@ impl Notes {
     }
 }
 
-/// Tells what memory was refused for, if for anything.
+/// Tells the log what memory was refused for, if for anything.
 fn tell_want<L: Write + Copy>(alloc: Global, round: u64, count: u64, want: Want, log: Log<L>) {
     if count > 0 {
         log.tell(alloc, Line::Wanting { round, count, want });
     }
 }
 
-/// The place of an archive in the settings, and behind the last where it isn't there.
+/// The place of an archive in the settings, or the place after the last one if it isn't there.
 fn place_of(settings: &Settings, archive: ArchiveName) -> usize {
     let place = settings
         .archives

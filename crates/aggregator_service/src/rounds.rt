@@ -1,4 +1,4 @@
-//! One round: each archive is walked for each original, each peer is pulled, and what came is published.
+//! One round: walks each archive for each original, pulls from each peer, and publishes what came.
 ghost use Rattle.std.specs.Prelude.{◌≡◌, ◌+◌, ◌*◌, ◌<◌, ◌++◌, All, IfSome, OnErr, OnOk, Some};
 ghost use Rattle.harvester.specs.Answers.{HasFirstUrl};
 ghost use Rattle.aggregator_service.specs.Lines.{round_words};
@@ -22,15 +22,15 @@ use std::ops::Range;
 use std::thread::{self, Threads};
 use std::time::{Clock, Duration};
 
-/// What a round came to.
+/// The outcome of a round.
 #[derive(Clone, Copy, Debug, PartialEq, Eq)]
 pub(crate) struct Round {
     jobs: u64,
-    /// Harvests that were appended, whole ones and those of a part.
+    /// How many harvests were appended, whole and part ones.
     harvests: u64,
-    /// Deltas of peers that were appended.
+    /// How many deltas of peers were appended.
     pulls: u64,
-    /// Whether what was appended is published; else it stays pending.
+    /// Whether what was appended is published; otherwise it stays pending.
     published: bool,
 }
 
@@ -48,8 +48,8 @@ impl fmt::Display for Round {
 }
 
 impl Round {
-    /// Makes the round of this number, and tells the log what went wrong. What is refused for memory isn't appended and
-    /// isn't counted.
+    /// Makes the round with this number, and tells the log what went wrong. What is refused for lack of memory isn't
+    /// appended and isn't counted.
     pub(crate) fn make<R, L>(
         rt: &R,
         number: u64,
@@ -83,8 +83,8 @@ impl Round {
         round
     }
 
-    /// Walks each archive for each original, a batch at a time. A batch has one job for each worker, since the answers
-    /// of its walks stand in memory together.
+    /// Walks each archive for each original, one batch at a time. A batch has one job for each worker, since the
+    /// answers of its walks are in memory at the same time.
     fn harvest<R>(&mut self, rt: &R, settings: &Settings, merger: &mut Merger) -> Notes
     where
         R: SocketRuntime + Threads + Sync,
@@ -146,7 +146,7 @@ impl Round {
         }
     }
 
-    /// Pulls each peer in the round of this number, and tells the log of those that bring nothing.
+    /// Pulls from each peer in the round with this number, and tells the log of those that bring nothing.
     fn pull_all<R, L>(
         &mut self,
         rt: &R,
@@ -168,8 +168,8 @@ impl Round {
         }
     }
 
-    /// Appends what the peer of this number has learnt since it was pulled last, where it answers with a delta that
-    /// follows on the held cursor. Else the cursor stays, and the next round asks from it again.
+    /// Appends what the peer with this number has learnt since the last pull, if it answers with a delta that follows
+    /// on the held cursor. Otherwise the cursor stays, and the next round asks from it again.
     fn pull<R>(
         &mut self,
         rt: &R,
@@ -204,8 +204,8 @@ struct Turn {
     original: usize,
 }
 
-/// Whose turn the job of this number is: archives come by turns, and all of them for an original before the next, so
-/// that no archive is asked by all workers where there are several. None where there is no archive.
+/// Whose turn the job with this number is. Archives take turns, and all of them come for one original before the next,
+/// so that no archive is asked by all workers if there are several archives. `None` if there is no archive.
 fn turn_of(number: usize, archives: usize) -> Option<Turn>
     ensures none { result ≡ None → archives ≡ 0 }
     ensures archive { IfSome result (λ turn. turn.archive < archives) }
@@ -220,7 +220,7 @@ fn turn_of(number: usize, archives: usize) -> Option<Turn>
     })
 }
 
-/// The jobs of these numbers, but for those that memory is refused for.
+/// The jobs with these numbers, except those for which memory is refused.
 fn jobs_of(alloc: Global, settings: &Settings, revision: u64, numbers: Range<usize>) -> Vec<Job> {
     let mut jobs = Vec::new(alloc);
     for number in numbers {
@@ -231,7 +231,7 @@ fn jobs_of(alloc: Global, settings: &Settings, revision: u64, numbers: Range<usi
     jobs
 }
 
-/// The job of this number, where there is one. None also where memory is refused, or its URL is too long.
+/// The job with this number, if there is one. Also `None` if memory is refused, or if its URL is too long.
 fn job_at(alloc: Global, settings: &Settings, revision: u64, number: usize) -> Option<Job> {
     let turn = turn_of(number, settings.archives.len())?;
     let (archive, timemap) = settings.archives.get(turn.archive)?;
@@ -239,8 +239,8 @@ fn job_at(alloc: Global, settings: &Settings, revision: u64, number: usize) -> O
     job_of(alloc, *archive, timemap, revision, original)
 }
 
-/// The job of an archive for an original: its first URL is the archive's `timemap` with the original behind it. None
-/// where memory is refused, or the URL is too long.
+/// The job of an archive for an original. Its first URL is the archive's `timemap` followed by the original. `None` if
+/// memory is refused, or if the URL is too long.
 fn job_of(
     alloc: Global,
     archive: ArchiveName,

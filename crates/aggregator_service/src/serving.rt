@@ -1,4 +1,4 @@
-//! Serving: gates in threads of their own, and rounds in the caller's.
+//! Serves: gates in threads of their own, and rounds in the caller's thread.
 ghost use Rattle.std.specs.Prelude.{OnOk};
 ghost use Rattle.std.specs.Io.KnownBytes.{Appends};
 ghost use Rattle.aggregator_service.specs.Lines.{round_line};
@@ -25,7 +25,7 @@ use std::time::Clock;
 pub enum ServeFault {
     /// A gate can't be bound, opened, or given a thread.
     NoGate,
-    /// Writing what is said, or accepting a connection, failed.
+    /// Writing the output, or accepting a connection, failed.
     Device,
     /// The allocator refused a growth.
     NoMemory,
@@ -69,12 +69,12 @@ impl From<OpenFault> for ServeFault {
     }
 }
 
-/// Serves by these settings until the last round and the last connection, and writes what it does, line by line. Where
-/// the settings ask for a log, what went wrong is written to `log`, a line by a call; each gate's thread has a copy of
-/// it.
+/// Serves by these settings until the last round and the last connection, and writes what it does to `out`, line by
+/// line. If the settings ask for a log, what went wrong is written to `log`, one line for each call; each gate's thread
+/// has a copy of it.
 ///
-/// `NoMemory` only before the first round, or where a gate that has ended ran out of it. After a failed write no
-/// further round is made, and Device is answered once the gates have ended.
+/// `NoMemory` only before the first round, or if a gate that has ended ran out of memory. After a failed write, no
+/// further round is made, and `Device` is returned once the gates have ended.
 pub fn serve_settings<R, W, L>(
     rt: &R,
     settings: &Settings,
@@ -131,7 +131,7 @@ where
         Ok(()) => make_rounds(rt, settings, merger, out, log),
         Err(fault) => Err(fault),
     };
-    // Gates may serve for long after the last round, so it is told now.
+    // Gates may serve for a long time after the last round, so the log is told now.
     if made.is_err() {
         log.tell(rt.alloc(), Line::Output);
     }
@@ -140,7 +140,7 @@ where
     ended
 }
 
-/// A line for each gate, in the order of the settings.
+/// Writes a line for each gate, in the order of the settings.
 fn say_ports<W: Write>(doors: &Doors, settings: &Settings, out: &mut W) -> Result<(), ServeFault> {
     for (address, port) in settings.gates.iter().zip(doors.ports()) {
         if let Ok(mut address) = address.parse::<SocketAddr>() {
@@ -152,7 +152,7 @@ fn say_ports<W: Write>(doors: &Doors, settings: &Settings, out: &mut W) -> Resul
     Ok(())
 }
 
-/// The rounds, each with a line of its own.
+/// Makes the rounds, and writes a line for each.
 fn make_rounds<R, W, L>(
     rt: &R,
     settings: &Settings,

@@ -1,6 +1,6 @@
 //! The settings of a service, read from TOML.
 //!
-//! Keys are looked for in the order of `Key`, and the first that is missing or holds what it may not is the fault. An
+//! Keys are looked for in the order of `Key`. The fault is the first key that is missing or holds what it may not. An
 //! optional key may be missing. Other keys aren't looked at.
 ghost use Rattle.std.specs.Prelude.{◌≡◌, ◌<◌, IfSome, length};
 ghost use Rattle.std.proofs.Props.{props};
@@ -26,21 +26,21 @@ use std::alloc::Global;
 use timemap_writer::Service;
 use toml::Table;
 
-/// The most bytes that a settings text may have.
+/// The most bytes that the text of settings can have.
 pub const MAX_TEXT: usize = 1_048_576;
 
-/// What a service is to do, by the keys of its settings, each within its limits (`Key::limits`).
+/// What a service has to do, by the keys of its settings, each within its limits (`Key::limits`).
 #[derive(Drop)]
 pub struct Settings {
     /// The address under which readers reach the service.
     pub base: Service,
-    /// Where gates listen: texts that std reads as socket addresses.
+    /// The addresses where gates listen: texts that std reads as socket addresses.
     pub gates: Vec<String>,
     /// How many connections each gate serves.
     pub connections: u64,
     /// How many rounds are made.
     pub rounds: u64,
-    /// Seconds between two rounds.
+    /// How many seconds to wait between two rounds.
     pub pause: u64,
     /// How many walks run at once.
     pub workers: usize,
@@ -48,12 +48,13 @@ pub struct Settings {
     pub originals: Vec<Original>,
     /// The bases of other replicas, each without the last `/`.
     pub peers: Vec<Clean>,
-    /// The archives: names, none twice, and the text that stands before an original in the address of its TimeMap.
+    /// The archives: their names, none twice, each with the text that comes before an original in the address of its
+    /// TimeMap.
     pub archives: Vec<(ArchiveName, Clean)>,
-    /// Seconds that an archive or a peer may take over a connection and the head of its answer; ten times as many for
-    /// the whole answer.
+    /// How many seconds an archive or a peer may take for a connection and the head of its answer. It may take ten
+    /// times as many for the whole answer.
     pub patience: u64,
-    /// The hosts that archives' pages are fetched from; all where it is None.
+    /// The hosts that archives' pages are fetched from; `None` allows all hosts.
     pub hosts: Option<Vec<AllowedHost>>,
     /// Whether what went wrong is told in a log.
     pub log: bool,
@@ -70,7 +71,7 @@ pub struct Settings {
     ghost few_hosts: { IfSome hosts (λ listed. IsWithin Hosts (length listed.items)) } by { Prim.hlevel props },
 }
 
-/// Reads settings: `Text` where the text is no TOML or has over 1,048,576 bytes.
+/// Reads settings. `Text` if the text isn't TOML or has more than 1,048,576 bytes.
 pub fn read_settings(alloc: Global, text: &str) -> Result<Settings, SettingsFault>
     ensures long { MAX_TEXT < length text.now → result ≡ Err SettingsFault.Text }
 {

@@ -23,7 +23,7 @@ fn head(alloc: Global, reply: &Reply) -> Result<Parts, FormFault>
     Ok(head)
 }
 
-/// The response with the reply's status, headers and body. `NoForm` where `http` refuses a part of the reply.
+/// The response with the reply's status, headers and body. `NoForm` if `http` refuses a part of the reply.
 pub fn form(alloc: Global, reply: &Reply) -> Result<Response<Bytes>, FormFault>
     ensures { IfOk result (IsFormOf reply.now) }
 {

@@ -48,8 +48,8 @@ impl Key {
         }
     }
 
-    /// The least and the greatest number at the key; for a list, of its elements. The base is one text. The
-    /// log is wanted (1) or not.
+    /// The least and the greatest number at the key; for a list, the least and the greatest number of its elements. The
+    /// base is one text. The log is wanted (1) or not.
     pub fn limits(self) -> (u64, u64)
         ensures { result ≡ limits self }
     {
@@ -72,7 +72,7 @@ impl Key {
 /// Why a text gives no settings.
 #[derive(Clone, Copy, Debug, PartialEq, Eq)]
 pub enum SettingsFault {
-    /// It is no TOML, or too long.
+    /// The text isn't TOML, or is too long.
     Text,
     /// The key is missing, or holds what it may not.
     Key(Key),

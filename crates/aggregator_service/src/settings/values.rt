@@ -1,4 +1,4 @@
-//! What stands at the keys of settings: numbers, and lists of texts.
+//! The values at the keys of settings: numbers, and lists of texts.
 ghost use Rattle.std.specs.Prelude.{◌≡◌, IfErr, IfOk, length};
 ghost use Rattle.aggregator_service.specs.Limits.{IsWithin};
 
@@ -11,7 +11,7 @@ use timemap_reader::{OriginalFault, read_original};
 use timemap_writer::{Service, ServiceFault};
 use toml::{Table, Value};
 
-/// The number at a key, where it is within the limits of that key.
+/// The number at a key, if it is within the limits of that key.
 pub(crate) fn number_at(table: &Table, key: Key) -> Result<u64, SettingsFault>
     ensures { IfOk result (IsWithin key) }
 {
@@ -24,7 +24,7 @@ pub(crate) fn number_at(table: &Table, key: Key) -> Result<u64, SettingsFault>
     }
 }
 
-/// The number at a key as `number_at` gives it, or `missing` where there is no such key.
+/// The number at a key as `number_at` gives it, or `missing` if there is no such key.
 pub(crate) fn number_or(table: &Table, key: Key, missing: u64) -> Result<u64, SettingsFault>
     requires { IsWithin key missing }
     ensures { IfOk result (IsWithin key) }
@@ -45,7 +45,7 @@ pub(crate) fn wants(table: &Table, key: Key) -> Result<bool, SettingsFault>
     value.as_bool().ok_or(SettingsFault::Key(key))
 }
 
-/// The list at a key, where the number of its elements is within the limits of that key.
+/// The list at a key, if the number of its elements is within the limits of that key.
 pub(crate) fn list_at<'a>(table: &'a Table, key: Key) -> Result<&'a [Value], SettingsFault>
     ensures { IfOk result (λ list. IsWithin key (length list.now)) }
 {
@@ -60,7 +60,7 @@ pub(crate) fn list_at<'a>(table: &'a Table, key: Key) -> Result<&'a [Value], Set
     Ok(list.as_slice())
 }
 
-/// The service whose base stands there.
+/// The service whose base is in the settings.
 pub(crate) fn service_at(alloc: Global, table: &Table) -> Result<Service, SettingsFault> {
     let Some(text) = table.get(Key::Base.name()).and_then(Value::as_str) else {
         return Err(SettingsFault::Key(Key::Base));
