@@ -32,7 +32,7 @@ pub(crate) fn settings_in<R: Files + AllocGlobal>(rt: &R, file: &str) -> Result<
     Ok(settings)
 }
 
-/// The bytes of a file, and of a longer one so many that it is seen to be too long.
+/// The bytes of a file. If the file is too long, only enough of them to show that it is.
 fn read_file<R: Files + AllocGlobal>(rt: &R, file: &str) -> io::Result<Vec<u8>> {
     let mut bytes = Vec::new(rt.alloc());
     fs::open(rt, file)?

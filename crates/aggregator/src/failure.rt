@@ -8,7 +8,7 @@ use replica_world::ReplayFault;
 use std::process::ExitCode;
 use std::{fmt, io};
 
-/// The input, the settings, or the words of the command line, were wrong.
+/// The input, the settings or the words of the command line were wrong.
 const BAD_INPUT: u8 = 2;
 
 /// A device failed, a gate couldn't be had, or memory was refused.
@@ -16,11 +16,11 @@ const BAD_MACHINE: u8 = 3;
 
 #[derive(Clone, Copy, Debug, PartialEq, Eq)]
 pub(crate) enum Failure {
-    /// The words of the command line ask for nothing that there is.
+    /// The words of the command line ask for something that doesn't exist.
     Usage,
-    /// The line of this number is no command.
+    /// The line with this number isn't a command.
     BadLine { number: u64 },
-    /// The settings are no TOML, or too long.
+    /// The settings aren't TOML, or are too long.
     BadText,
     /// The settings lack this key, or it holds what it may not.
     BadKey(Key),
@@ -99,7 +99,7 @@ impl From<ServeFault> for Failure {
 }
 
 impl Failure {
-    /// Why the words of the command line couldn't be had: memory, or one that isn't UTF-8.
+    /// Why the words of the command line couldn't be read: memory was refused, or a word isn't UTF-8.
     pub(crate) fn of_words(error: &io::Error) -> Failure {
         match error.kind() {
             io::ErrorKind::OutOfMemory => Failure::NoMemory,

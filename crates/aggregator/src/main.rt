@@ -1,7 +1,7 @@
-//! The program: what its words ask for, and what it says and answers when it ends.
+//! The program: what the words of its command line ask for, and what it says and returns when it ends.
 //!
-//! Standard output has what the command writes and nothing else. A failure is one line on standard error, behind the
-//! log where the settings ask for one.
+//! Standard output gets what the command writes and nothing else. A failure is one line on standard error, after the
+//! log if the settings ask for one.
 #![tactic(auto)]
 
 mod check;

@@ -11,8 +11,8 @@ use std::sync::Wait;
 use std::thread::Threads;
 use std::time::Clock;
 
-/// Serves by the settings of a file until the last round and the last connection, and writes what it does, line by
-/// line. The log, where the settings ask for one, goes to `log`.
+/// Serves by the settings of a file until the last round and the last connection, and writes what it does to `out`,
+/// line by line. The log goes to `log`, if the settings ask for one.
 pub(crate) fn serve_file<R, W, L>(rt: &R, file: &str, out: W, log: L) -> Result<(), Failure>
 where
     R: Threads

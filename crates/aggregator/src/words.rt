@@ -4,7 +4,7 @@ ghost use Rattle.aggregator.specs.Words.{asked_by};
 
 use crate::failure::Failure;
 
-/// What the program is to do.
+/// What the program has to do.
 #[derive(Drop)]
 pub(crate) enum Command {
     /// Replay the script on standard input.
@@ -15,7 +15,7 @@ pub(crate) enum Command {
     Serve(String),
 }
 
-/// What a word asks for, with the word behind it, if there is one.
+/// What a word asks for, with the word after it, if there is one.
 pub(crate) fn command_named(word: &str, file: Option<String>) -> Result<Command, Failure>
     ensures { result ≡ asked_by word.now file }
 {
