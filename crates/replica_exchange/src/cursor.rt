@@ -146,7 +146,7 @@ impl Cursors {
         Ok(())
     }
 
-    /// Does the same for a delta that `fits` has accepted.
+    /// Moves the peer's cursor as `take` does, for a delta that `fits` has accepted.
     pub fn advance(&mut self, peer: u64, delta: &Delta) -> Result<(), NoMemory>
         requires { rule.fits (map.get self.old peer) delta.now ≡ true }
         ensures taken { OnOk result (self.new ≡ rule.taken_from self.old peer delta.now) }

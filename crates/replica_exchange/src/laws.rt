@@ -35,7 +35,7 @@ pub fn lines_stand_in_order()
     ensures mementos { (mementos : Mementos) → IsStrictlySortedBy by_second_then_address (set.items mementos) }
 {}
 
-/// Merges have exactly one result: their state, and one stamp for each of its entries.
+/// Merges have only one result: their state, and one stamp for each of its entries.
 pub fn one_stamped_state()
     ensures { (merges : List Merge) (s t : StampedState) → IsStamped merges s → IsStamped merges t
         → s.incarnation ≡ t.incarnation → s ≡ t }
