@@ -5,7 +5,7 @@
 //! twice, and none before it. Nothing here takes memory: the caller has made room.
 ghost use Rattle.std.specs.Prelude.{◌≡◌, ◌+◌, ◌<◌, ◌≤◌, [], ◌++◌, Some, IfSome, option_to_list, reverse, vec_len};
 ghost use Rattle.std.specs.Prelude.{length};
-ghost use Rattle.memento_time.specs.declared.mementos.Memento.{Memento as AMemento};
+ghost use Rattle.memento_time.specs.declared.mementos.Memento.{Memento};
 ghost use Rattle.memento_index.specs.Counts.{whole, once, count_of, AreBelow, AreAbove, IsTally, beginnings, endings};
 ghost use Rattle.memento_index.specs.Counts.{IsRecounted};
 
@@ -68,7 +68,7 @@ pub fn count_in(list: &mut Tally, lifted: &mut Tally, memento: Memento)
     requires lifted_room { length list.old.entries + length lifted.old.entries ≤ lifted.old.room }
     requires few { count_of (whole list.old.entries lifted.old.entries) memento < 18446744073709551615 }
     ensures tally { IsTally (whole list.new.entries lifted.new.entries) }
-    ensures counts { (m : AMemento)
+    ensures counts { (m : Memento)
         → count_of (whole list.new.entries lifted.new.entries) m
         ≡ count_of (whole list.old.entries lifted.old.entries) m + once m memento }
     ensures len { length list.new.entries + length lifted.new.entries
@@ -91,7 +91,7 @@ pub fn count_out(list: &mut Tally, lifted: &mut Tally, memento: &Memento)
     requires lifted_room { length list.old.entries + length lifted.old.entries ≤ lifted.old.room }
     requires counted { 0 < count_of (whole list.old.entries lifted.old.entries) memento.now }
     ensures tally { IsTally (whole list.new.entries lifted.new.entries) }
-    ensures counts { (m : AMemento)
+    ensures counts { (m : Memento)
         → count_of (whole list.new.entries lifted.new.entries) m + once m memento.now
         ≡ count_of (whole list.old.entries lifted.old.entries) m }
     ensures len { length list.new.entries + length lifted.new.entries
@@ -135,8 +135,8 @@ pub fn recount(list: &mut Tally, lifted: &mut Tally, mut steps: Vec<Step>)
     requires settled { lifted.old.entries ≡ [] }
     requires list_room { length list.old.entries + vec_len steps ≤ list.old.room }
     requires lifted_room { length list.old.entries + vec_len steps ≤ lifted.old.room }
-    requires shown { (m : AMemento) → endings steps.items m ≤ count_of list.old.entries m }
-    requires few { (m : AMemento) → count_of list.old.entries m + beginnings steps.items m ≤ 18446744073709551615 }
+    requires shown { (m : Memento) → endings steps.items m ≤ count_of list.old.entries m }
+    requires few { (m : Memento) → count_of list.old.entries m + beginnings steps.items m ≤ 18446744073709551615 }
     ensures recounted { IsRecounted list.old.entries steps.items list.new.entries }
     ensures lifted_room { lifted.old.room ≤ lifted.new.room }
     ensures settled { lifted.new.entries ≡ [] }

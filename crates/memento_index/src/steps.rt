@@ -1,7 +1,7 @@
 //! What an entry begins and ceases to show.
 ghost use Rattle.std.specs.Prelude.{◌≡◌, ◌+◌, ◌<◌, ◌≤◌, ◌⊎◌, IfOk, length, slice_index_or};
 ghost use Rattle.std.specs.declared.cmp.Ordering.TheVariants.{Less as IsLess, Equal as IsEqual, Greater as IsGreater};
-ghost use Rattle.memento_time.specs.declared.mementos.Memento.{Memento as AMemento};
+ghost use Rattle.memento_time.specs.declared.mementos.Memento.{Memento};
 ghost use Rattle.memento_index.specs.Counts.{beginnings, endings, occurrences};
 
 use crate::counted::Step;
@@ -16,7 +16,7 @@ fn next_at(before: &[Memento], i: usize, after: &[Memento], j: usize) -> Orderin
     ensures greater { result ≡ IsGreater → j < length after.now }
     ensures equal { result ≡ IsEqual
         → (i < length before.now) × (j < length after.now)
-        × ((d : AMemento) → slice_index_or before.now i d ≡ slice_index_or after.now j d) }
+        × ((d : Memento) → slice_index_or before.now i d ≡ slice_index_or after.now j d) }
 {
     if j >= after.len() {
         return Ordering::Less;
@@ -55,9 +55,9 @@ pub fn steps_between(
     after: &[Memento],
 ) -> Result<Vec<Step>, NoMemory>
     ensures counts { IfOk result
-        (λ steps. (m : AMemento)
+        (λ steps. (m : Memento)
         → beginnings steps.items m + occurrences before.now m ≡ endings steps.items m + occurrences after.now m) }
-    ensures shown { IfOk result (λ steps. (m : AMemento) → endings steps.items m ≤ occurrences before.now m) }
+    ensures shown { IfOk result (λ steps. (m : Memento) → endings steps.items m ≤ occurrences before.now m) }
 {
     let mut steps = Vec::new(alloc);
     let mut i = 0;

@@ -6,7 +6,7 @@ ghost use Rattle.std.specs.List.{filter, list_all, list_any};
 ghost use Rattle.std.specs.List.Sorted.{IsStrictlySortedBy};
 ghost use Rattle.std.specs.Ordering.{eq_by_cmp};
 ghost use Rattle.memento_time.specs.Mementos.{memento_cmp};
-ghost use Rattle.memento_time.specs.declared.mementos.Memento.{Memento as AMemento};
+ghost use Rattle.memento_time.specs.declared.mementos.Memento.{Memento};
 ghost use Rattle.memento_sets.specs.Sets as set;
 ghost use Rattle.memento_sets.specs.MementoSets.{IsSubset, mementos_rise, mementos_with};
 
@@ -238,7 +238,7 @@ fn merge(list: &mut Vec<Memento>, mut lifted: Vec<Memento>, added: Vec<Memento>)
     requires added_in_order { IsStrictlySortedBy memento_cmp (list.old.items ++ added.items) }
     requires room { vec_len list.old + vec_len lifted + vec_len added ≤ vec_capacity list.old }
     ensures in_order { IsStrictlySortedBy memento_cmp list.new.items }
-    ensures members { (m : AMemento)
+    ensures members { (m : Memento)
         → list_any (eq_by_cmp memento_cmp m) list.new.items
         ≡ (list_any (eq_by_cmp memento_cmp m) (list.old.items ++ reverse lifted.items)
         || list_any (eq_by_cmp memento_cmp m) added.items) }
@@ -256,7 +256,7 @@ fn pass(list: &mut Vec<Memento>, lifted: &mut Vec<Memento>, memento: &Memento)
     requires below { IsStrictlySortedBy memento_cmp (list.old.items ++ memento.now ∷ []) }
     requires room { vec_len list.old + vec_len lifted.old ≤ vec_capacity list.old }
     ensures in_order { IsStrictlySortedBy memento_cmp (list.new.items ++ memento.now ∷ reverse lifted.new.items) }
-    ensures members { (m : AMemento)
+    ensures members { (m : Memento)
         → list_any (eq_by_cmp memento_cmp m) (list.new.items ++ memento.now ∷ reverse lifted.new.items)
         ≡ (eq_by_cmp memento_cmp m memento.now
         || list_any (eq_by_cmp memento_cmp m) (list.old.items ++ reverse lifted.old.items)) }

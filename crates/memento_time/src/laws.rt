@@ -10,7 +10,7 @@ ghost use Rattle.memento_time.specs.Civil.{civil_time};
 ghost use Rattle.memento_time.specs.Mementos.{text_cmp, memento_cmp};
 ghost use Rattle.memento_time.specs.Second.{IsSecond, imf, Reads, Asks};
 ghost use Rattle.memento_time.specs.SecondOf.{second_of, asked_of};
-ghost use Rattle.memento_time.specs.declared.mementos.Memento.{Memento as Captured};
+ghost use Rattle.memento_time.specs.declared.mementos.Memento.{Memento};
 
 use crate::lists::Octets;
 use crate::mementos::Memento;
@@ -31,7 +31,7 @@ pub fn orders_are_plain()
 /// Of two different mementos, exactly one comes before the other.
 pub fn mementos_are_ordered()
     ensures total { IsTotalOrder memento_cmp }
-    ensures exact { (a b : Captured) → memento_cmp a b ≡ Equal → a ≡ b }
+    ensures exact { (a b : Memento) → memento_cmp a b ≡ Equal → a ≡ b }
 {}
 
 /// The text of each second reads as that second, and no text reads as two seconds. The functions that read pages and

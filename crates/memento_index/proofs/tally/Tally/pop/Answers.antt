@@ -2,55 +2,40 @@ use Rattle.std.proofs.Common.{◌≡◌, length, sym, ap, ◌∙◌, arith}
 use Rattle.memento_index.specs.Tallies.{Tallied, beside}
 use Rattle.memento_index.proofs.Columns.{beside-append, length-beside}
 use Rattle.memento_index.proofs.tally.Tally.pop.Goals as goal
+use Rattle.memento_index.proofs.tally.Tally.pop.Goals.{In_ok-count}
+
+-- the columns stay of one length
+same : (c : In_ok-count) → length c.pop.new.self.items ≡ length c.pop-2.new.self.items
+same c = omega (
+  arith,
+  c.pop.new.self.ok.0,
+  c.pop-2.new.self.ok.0,
+  c.self.inside.mementos.ok.0,
+  c.self.inside.counts.ok.0,
+  c.self.invariant,
+  c.in_ok-memento.ensures.cases,
+  c.in_ok-count.ensures.cases,
+)
 
 pub returns-clause-entries : goal.returns-clause-entries
 returns-clause-entries c =
-    let ms = c.self.inside.mementos in
-    let ns = c.self.inside.counts in
-    let rest = c.pop.new.self in
-    let left = c.pop-2.new.self in
-    let same : length rest.items ≡ length left.items =
-    omega (
-      arith,
-      rest.ok.0,
-      left.ok.0,
-      ms.ok.0,
-      ns.ok.0,
-      c.self.invariant,
-      c.in_ok-memento.ensures.cases,
-      c.in_ok-count.ensures.cases,
-    ) in
+    let alike = same (goal.at.returns-clause-entries c).In_ok-count in
     sym (ap (λ (t : Tallied). t.entries) c.self.view_is)
     ∙ ((λ i. beside (c.in_ok-memento.ensures.items i) (c.in_ok-count.ensures.items i))
-    ∙ beside-append rest.items left.items c.in_ok-memento.memento c.in_ok-count.count same)
+    ∙ beside-append c.pop.new.self.items c.pop-2.new.self.items c.in_ok-memento.memento c.in_ok-count.count alike)
 
 pub returns-clause-spare : goal.returns-clause-spare
 returns-clause-spare c =
-    let ms = c.self.inside.mementos in
-    let ns = c.self.inside.counts in
-    let rest = c.pop.new.self in
-    let left = c.pop-2.new.self in
-    let alike = c.self.invariant in
-    let same : length rest.items ≡ length left.items =
+    let alike = same (goal.at.returns-clause-spare c).In_ok-count in
     omega (
       arith,
-      rest.ok.0,
-      left.ok.0,
-      ms.ok.0,
-      ns.ok.0,
-      alike,
-      c.in_ok-memento.ensures.cases,
-      c.in_ok-count.ensures.cases,
-    ) in
-    omega (
-      arith,
-      length-beside rest.items left.items same,
-      rest.ok.0,
-      ms.ok.1,
-      ns.ok.1,
+      length-beside c.pop.new.self.items c.pop-2.new.self.items alike,
+      c.pop.new.self.ok.0,
+      c.self.inside.mementos.ok.1,
+      c.self.inside.counts.ok.1,
       c.pop.ensures.capacity,
       c.pop-2.ensures.capacity,
       c.in_ok-memento.ensures.cases,
       c.in_ok-count.ensures.cases,
-      alike,
+      c.self.invariant,
     )
