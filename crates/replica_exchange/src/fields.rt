@@ -1,15 +1,12 @@
 //! The fields of a line, read from the front of a text.
 ghost use Rattle.std.specs.Prelude.{◌≡◌, ℕ, ◌<◌, List, ◌++◌, ◌∷◌, ◌↔◌, IfOk, IfErr, IsErrOf};
-ghost use Rattle.std.specs.Arc.{arc_value};
-ghost use Rattle.memento_time.specs.Text.{IsOriginal, IsClean};
+ghost use Rattle.memento_time.specs.Text.{IsOriginal};
 ghost use Rattle.text_fields.specs.Parts.{Lacks};
-ghost use Rattle.replica_exchange.specs.Ends.{IsEndOf};
 ghost use Rattle.replica_exchange.specs.Spelling.{Begins, Refuses, field, number};
 
 use crate::fault::StateFault;
-use memento_time::{Clean, CleanFault, Original};
+use memento_time::Original;
 use std::alloc::Global;
-use std::sync::Arc;
 use text_fields::{read_decimal, split_once};
 
 /// The field before the first of a byte, and what follows that byte.
@@ -46,19 +43,6 @@ pub fn read_number(text: &[u8], end: u8) -> Result<(u64, &[u8]), StateFault>
     }
 }
 
-/// The clean text that the line is, which stands in front of what is left of the buffer and shares it.
-fn shared_uri(buffer: &Arc<Vec<u8>>, text: &[u8], line: &[u8]) -> Result<Clean, CleanFault>
-    requires end { IsEndOf text.now (arc_value buffer.now).items }
-    requires line { (rest : List ℕ) × (text.now ≡ line.now ++ rest) }
-    ensures ok { IfOk result (λ clean. (clean ≡ line.now) × IsClean line.now) }
-    ensures not_clean { IsErrOf result CleanFault.NotClean ↔ ¬ IsClean line.now }
-{
-    let read = buffer.as_slice().len() - text.len();
-    let start = read as u32;
-    let len = line.len() as u32;
-    Clean::part(buffer, start, len)
-}
-
 /// An original and the end of its line, and what follows. The original has a buffer of its own, since a state keeps it
 /// as a key when the rest of the text is long gone.
 pub fn read_original(alloc: Global, text: &[u8]) -> Result<(Original, &[u8]), StateFault>
@@ -68,15 +52,4 @@ pub fn read_original(alloc: Global, text: &[u8]) -> Result<(Original, &[u8]), St
     let (line, rest) = cut(text, b'\n')?;
     let original = Original::new(alloc, line)?;
     Ok((original, rest))
-}
-
-/// A memento's URI and the end of its line, and what follows. The text is what is left of the buffer, which is shared.
-pub fn read_uri<'a>(buffer: &Arc<Vec<u8>>, text: &'a [u8]) -> Result<(Clean, &'a [u8]), StateFault>
-    requires { IsEndOf text.now (arc_value buffer.now).items }
-    ensures found { IfOk result (λ read. Begins (field IsClean 10) text.now read.0 read.1.now) }
-    ensures refused { IfErr result (λ fault. Refuses (field IsClean 10) text.now fault) }
-{
-    let (line, rest) = cut(text, b'\n')?;
-    let uri = shared_uri(buffer, text, line)?;
-    Ok((uri, rest))
 }
