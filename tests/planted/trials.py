@@ -41,11 +41,11 @@ def copy_repository(top, room):
 
 
 def leave_out_slow_tests(crates):
-    """Takes the slow tests out of a copy of the crates."""
+    """Takes the slow tests out of a copy of the crates, each with its comment."""
     for file, test in SLOW_TESTS:
         path = pathlib.Path(crates) / file
         text = path.read_text(encoding="utf-8")
-        found = re.search(rf"^#\[test\]\nfn {test}\(.*?^}}\n", text, re.M | re.S)
+        found = re.search(rf"^(?:///[^\n]*\n)*#\[test\]\nfn {test}\(.*?^}}\n", text, re.M | re.S)
         if not found:
             raise ValueError(f"{file} has no test {test}")
         path.write_text(text.replace(found[0], ""), encoding="utf-8")

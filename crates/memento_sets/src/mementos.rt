@@ -180,6 +180,11 @@ fn copy_missing(
 pub fn packed(alloc: Global, list: &[Memento]) -> Result<Vec<Memento>, NoMemory>
     ensures { IfOk result (λ copies. copies.items ≡ list.now) }
 {
+    if let [memento] = list {
+        let uri = memento.uri.packed(alloc)?;
+        let at = memento.at;
+        return Ok(vec![in alloc; Memento { at, uri }]?);
+    }
     let mut builder = MementosBuilder::new(alloc);
     for memento in list {
         append(&mut builder, memento)?;

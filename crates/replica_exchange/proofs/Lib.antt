@@ -4,7 +4,6 @@ pub mod FormatLemmas
 pub mod PartLemmas
 pub mod StateLemmas
 pub mod WritingLemmas
-pub mod EndLemmas
 pub mod StampLemmas
 pub mod DeltaLemmas
 pub mod OneReading

@@ -3,7 +3,6 @@ pub mod Faults
 pub mod Spelling
 pub mod Parts
 pub mod LineOrder
-pub mod Ends
 pub mod Stamps
 pub mod DeltaText
 pub mod CursorRule

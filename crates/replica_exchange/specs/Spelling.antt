@@ -14,6 +14,12 @@ pub record Begins {A : Type 0} (s : Spelling A) (text : List ℕ) (value : A) (r
   pub is : s.Is value
   pub whole : text ≡ s.spelled value ++ rest
 
+-- the text begins with a written value, which comes behind these
+pub record Adds {A : Type 0} (s : Spelling A) (before after : List A) (text rest : List ℕ) : Type 0 where
+  pub value : A
+  pub added : after ≡ before ++ value ∷ []
+  pub begins : Begins s text value rest
+
 -- a text is refused as malformed only where it begins with no written value
 abbrev pub Refuses : {A : Type 0} → Spelling A → List ℕ → StateFault → Type 0
 Refuses s text TooLong = ⊥

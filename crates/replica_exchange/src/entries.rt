@@ -1,77 +1,74 @@
 //! The entries of a state, read from their lines in either format.
 ghost use Rattle.std.specs.Prelude.{◌≡◌, ◌↔◌, ◌^◌, ◌<◌, ◌∷◌, [], codes, IsTrue, map as map_list, IfOk, IfErr};
-ghost use Rattle.std.specs.Arc.{arc_value};
 ghost use Rattle.harvest_lattice.specs.Parts.{kept_with};
 ghost use Rattle.harvest_lattice.specs.Rows.{row_entry};
-ghost use Rattle.replica_exchange.specs.Ends.{IsEndOf};
-ghost use Rattle.replica_exchange.specs.Spelling.{Begins, Refuses, RefusesWhole};
+ghost use Rattle.replica_exchange.specs.Spelling.{Begins, Adds, Refuses, RefusesWhole};
 ghost use Rattle.replica_exchange.specs.Parts.{memento, many, set_of, whole_ended, head, old_head, part_head, part};
 ghost use Rattle.replica_exchange.specs.Parts.{BeginsKept, new_entry, old_entry, entry, listing};
 
 use crate::fault::StateFault;
-use crate::fields::{cut, read_number, read_original, read_uri, skip};
+use crate::fields::{cut, read_number, read_original, skip};
 use crate::format::Format;
 use harvest_lattice::{Entry, Part, Row};
 use memento_sets::Mementos;
-use memento_time::{ArchiveName, Memento, Moment, Original};
+use memento_time::{ArchiveName, Memento, MementosBuilder, Moment, Original};
 use std::alloc::Global;
-use std::sync::Arc;
 use text_fields::read_decimal;
 
-/// A memento's line, and what follows.
-fn read_memento<'a>(
-    buffer: &Arc<Vec<u8>>,
-    text: &'a [u8],
-) -> Result<(Memento, &'a [u8]), StateFault>
-    requires { IsEndOf text.now (arc_value buffer.now).items }
-    ensures found { IfOk result (λ read. Begins memento text.now read.0 read.1.now) }
+/// Adds the memento whose line comes first, and gives what follows. Its address is copied.
+fn read_memento<'a>(mementos: &mut MementosBuilder, text: &'a [u8]) -> Result<&'a [u8], StateFault>
+    ensures found { IfOk result (λ rest. Adds memento mementos.old mementos.new text.now rest.now) }
     ensures refused { IfErr result (λ fault. Refuses memento text.now fault) }
 {
     let (second, rest) = read_number(text, b' ')?;
     let Some(at) = Moment::from_secs(second) else {
         return Err(StateFault::NotState);
     };
-    let (uri, rest) = read_uri(buffer, rest)?;
-    Ok((Memento { at, uri }, rest))
+    let (uri, rest) = cut(rest, b'\n')?;
+    mementos.push(at, uri)?;
+    Ok(rest)
 }
 
+<<<<<<< HEAD
 /// The lines of `count` mementos, and what follows. Reserves nothing for lines that may not come.
+=======
+/// The mementos of `count` lines, and what follows. Nothing is reserved for lines that may not come. The addresses are
+/// copied into one buffer that has nothing else, so that the text isn't kept for them.
+>>>>>>> h/costs
 fn read_mementos<'a>(
     alloc: Global,
-    buffer: &Arc<Vec<u8>>,
     count: u64,
     text: &'a [u8],
 ) -> Result<(Vec<Memento>, &'a [u8]), StateFault>
-    requires { IsEndOf text.now (arc_value buffer.now).items }
     ensures found { IfOk result (λ read.
         Begins (many count memento) text.now read.0.items read.1.now) }
     ensures refused { IfErr result (λ fault. Refuses (many count memento) text.now fault) }
 {
-    let mut mementos = Vec::new(alloc);
+    let mut mementos = MementosBuilder::new(alloc);
     let mut rest = text;
     for _ in 0..count {
-        let (memento, after) = read_memento(buffer, rest)?;
-        mementos.push(memento)?;
-        rest = after;
+        rest = read_memento(&mut mementos, rest)?;
     }
-    Ok((mementos, rest))
+    Ok((mementos.build(alloc)?, rest))
 }
 
+<<<<<<< HEAD
 /// The lines of `count` mementos in order, each once, and what follows. Their addresses are copied into one buffer that
 /// holds nothing else, so that they don't keep the text alive.
+=======
+/// The mementos of `count` lines in order, each once, and what follows.
+>>>>>>> h/costs
 fn read_set<'a>(
     alloc: Global,
-    buffer: &Arc<Vec<u8>>,
     count: u64,
     text: &'a [u8],
 ) -> Result<(Mementos, &'a [u8]), StateFault>
-    requires { IsEndOf text.now (arc_value buffer.now).items }
     ensures found { IfOk result (λ read. Begins (set_of count) text.now read.0 read.1.now) }
     ensures refused { IfErr result (λ fault. Refuses (set_of count) text.now fault) }
 {
-    let (mementos, rest) = read_mementos(alloc, buffer, count, text)?;
+    let (mementos, rest) = read_mementos(alloc, count, text)?;
     match Mementos::of_sorted(mementos) {
-        Some(set) => Ok((set.packed()?, rest)),
+        Some(set) => Ok((set, rest)),
         None => Err(StateFault::NotState),
     }
 }
@@ -146,17 +143,12 @@ fn read_part_head(text: &[u8]) -> Result<(PartHead, &[u8]), StateFault>
 }
 
 /// The line of a revision and those of its mementos, and what follows.
-fn read_part<'a>(
-    alloc: Global,
-    buffer: &Arc<Vec<u8>>,
-    text: &'a [u8],
-) -> Result<(Part, &'a [u8]), StateFault>
-    requires { IsEndOf text.now (arc_value buffer.now).items }
+fn read_part<'a>(alloc: Global, text: &'a [u8]) -> Result<(Part, &'a [u8]), StateFault>
     ensures found { IfOk result (λ read. Begins part text.now read.0 read.1.now) }
     ensures refused { IfErr result (λ fault. Refuses part text.now fault) }
 {
     let (head, rest) = read_part_head(text)?;
-    let (set, rest) = read_set(alloc, buffer, head.count, rest)?;
+    let (set, rest) = read_set(alloc, head.count, rest)?;
     let part = Part::new(head.revision, set)?;
     Ok((part, rest))
 }
@@ -164,18 +156,16 @@ fn read_part<'a>(
 /// `count` revisions, and what follows. Reserves nothing for revisions that may not come.
 fn read_parts<'a>(
     alloc: Global,
-    buffer: &Arc<Vec<u8>>,
     count: u64,
     text: &'a [u8],
 ) -> Result<(Vec<Part>, &'a [u8]), StateFault>
-    requires { IsEndOf text.now (arc_value buffer.now).items }
     ensures found { IfOk result (λ read. Begins (many count part) text.now read.0.items read.1.now) }
     ensures refused { IfErr result (λ fault. Refuses (many count part) text.now fault) }
 {
     let mut parts = Vec::new(alloc);
     let mut rest = text;
     for _ in 0..count {
-        let (part, after) = read_part(alloc, buffer, rest)?;
+        let (part, after) = read_part(alloc, rest)?;
         parts.push(part)?;
         rest = after;
     }
@@ -199,36 +189,29 @@ fn entry_of_one(whole: Option<u64>, part: Part) -> Option<Entry>
 /// single revision.
 fn read_kept<'a>(
     alloc: Global,
-    buffer: &Arc<Vec<u8>>,
     whole: Option<u64>,
     count: u64,
     text: &'a [u8],
 ) -> Result<(Option<Entry>, &'a [u8]), StateFault>
-    requires { IsEndOf text.now (arc_value buffer.now).items }
     ensures found { IfOk result (λ read. BeginsKept whole count text.now read.0 read.1.now) }
     ensures refused { IfErr result (λ fault. Refuses (many count part) text.now fault) }
 {
     if count == 1 {
-        let (part, rest) = read_part(alloc, buffer, text)?;
+        let (part, rest) = read_part(alloc, text)?;
         return Ok((entry_of_one(whole, part), rest));
     }
-    let (parts, rest) = read_parts(alloc, buffer, count, text)?;
+    let (parts, rest) = read_parts(alloc, count, text)?;
     let entry = Entry::with_parts(alloc, whole, parts)?;
     Ok((entry, rest))
 }
 
 /// An entry of format 2, and what follows.
-fn read_new_entry<'a>(
-    alloc: Global,
-    buffer: &Arc<Vec<u8>>,
-    text: &'a [u8],
-) -> Result<(Row, &'a [u8]), StateFault>
-    requires { IsEndOf text.now (arc_value buffer.now).items }
+fn read_new_entry<'a>(alloc: Global, text: &'a [u8]) -> Result<(Row, &'a [u8]), StateFault>
     ensures found { IfOk result (λ read. Begins new_entry text.now (row_entry read.0) read.1.now) }
     ensures refused { IfErr result (λ fault. Refuses new_entry text.now fault) }
 {
     let (head, rest) = read_head(alloc, text)?;
-    let (entry, rest) = read_kept(alloc, buffer, head.whole, head.revisions, rest)?;
+    let (entry, rest) = read_kept(alloc, head.whole, head.revisions, rest)?;
     let Some(entry) = entry else {
         return Err(StateFault::NotState);
     };
@@ -272,17 +255,12 @@ fn read_old_head(alloc: Global, text: &[u8]) -> Result<(OldHead, &[u8]), StateFa
 }
 
 /// An entry of format 1, and what follows.
-fn read_old_entry<'a>(
-    alloc: Global,
-    buffer: &Arc<Vec<u8>>,
-    text: &'a [u8],
-) -> Result<(Row, &'a [u8]), StateFault>
-    requires { IsEndOf text.now (arc_value buffer.now).items }
+fn read_old_entry<'a>(alloc: Global, text: &'a [u8]) -> Result<(Row, &'a [u8]), StateFault>
     ensures found { IfOk result (λ read. Begins old_entry text.now (row_entry read.0) read.1.now) }
     ensures refused { IfErr result (λ fault. Refuses old_entry text.now fault) }
 {
     let (head, rest) = read_old_head(alloc, text)?;
-    let (set, rest) = read_set(alloc, buffer, head.count, rest)?;
+    let (set, rest) = read_set(alloc, head.count, rest)?;
     let entry = Entry::of_part(true, Part::new(head.revision, set)?);
     let row = Row {
         archive: head.archive,
@@ -296,16 +274,14 @@ fn read_old_entry<'a>(
 fn read_entry<'a>(
     alloc: Global,
     format: Format,
-    buffer: &Arc<Vec<u8>>,
     text: &'a [u8],
 ) -> Result<(Row, &'a [u8]), StateFault>
-    requires { IsEndOf text.now (arc_value buffer.now).items }
     ensures found { IfOk result (λ read. Begins (entry format) text.now (row_entry read.0) read.1.now) }
     ensures refused { IfErr result (λ fault. Refuses (entry format) text.now fault) }
 {
     match format {
-        Format::One => read_old_entry(alloc, buffer, text),
-        Format::Two => read_new_entry(alloc, buffer, text),
+        Format::One => read_old_entry(alloc, text),
+        Format::Two => read_new_entry(alloc, text),
     }
 }
 
@@ -313,11 +289,9 @@ fn read_entry<'a>(
 fn read_entries<'a>(
     alloc: Global,
     format: Format,
-    buffer: &Arc<Vec<u8>>,
     count: u64,
     text: &'a [u8],
 ) -> Result<(Vec<Row>, &'a [u8]), StateFault>
-    requires { IsEndOf text.now (arc_value buffer.now).items }
     ensures found { IfOk result (λ read.
         Begins (many count (entry format)) text.now (map_list row_entry read.0.items) read.1.now) }
     ensures refused { IfErr result (λ fault. Refuses (many count (entry format)) text.now fault) }
@@ -325,7 +299,7 @@ fn read_entries<'a>(
     let mut rows = Vec::new(alloc);
     let mut rest = text;
     for _ in 0..count {
-        let (row, after) = read_entry(alloc, format, buffer, rest)?;
+        let (row, after) = read_entry(alloc, format, rest)?;
         rows.push(row)?;
         rest = after;
     }
@@ -338,6 +312,7 @@ fn is_end(text: &[u8]) -> bool
     text == b"end\n".as_slice()
 }
 
+<<<<<<< HEAD
 /// The entries from `entries N` to `end`, which nothing may follow.
 pub fn read_listing(
     alloc: Global,
@@ -346,13 +321,17 @@ pub fn read_listing(
     text: &[u8],
 ) -> Result<Vec<Row>, StateFault>
     requires { IsEndOf text.now (arc_value buffer.now).items }
+=======
+/// The entries from `entries N` to `end`, after which nothing comes.
+pub fn read_listing(alloc: Global, format: Format, text: &[u8]) -> Result<Vec<Row>, StateFault>
+>>>>>>> h/costs
     ensures found { IfOk result (λ rows.
         Begins (listing format) text.now (map_list row_entry rows.items) []) }
     ensures refused { IfErr result (λ fault. RefusesWhole (listing format) text.now fault) }
 {
     let rest = skip(text, b"entries ")?;
     let (count, rest) = read_number(rest, b'\n')?;
-    let (rows, rest) = read_entries(alloc, format, buffer, count, rest)?;
+    let (rows, rest) = read_entries(alloc, format, count, rest)?;
     if !is_end(rest) {
         return Err(StateFault::NotState);
     }

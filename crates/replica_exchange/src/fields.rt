@@ -1,15 +1,12 @@
 //! The fields of a line, read from the front of a text.
 ghost use Rattle.std.specs.Prelude.{◌≡◌, ℕ, ◌<◌, List, ◌++◌, ◌∷◌, ◌↔◌, IfOk, IfErr, IsErrOf};
-ghost use Rattle.std.specs.Arc.{arc_value};
-ghost use Rattle.memento_time.specs.Text.{IsOriginal, IsClean};
+ghost use Rattle.memento_time.specs.Text.{IsOriginal};
 ghost use Rattle.text_fields.specs.Parts.{Lacks};
-ghost use Rattle.replica_exchange.specs.Ends.{IsEndOf};
 ghost use Rattle.replica_exchange.specs.Spelling.{Begins, Refuses, field, number};
 
 use crate::fault::StateFault;
-use memento_time::{Clean, CleanFault, Original};
+use memento_time::Original;
 use std::alloc::Global;
-use std::sync::Arc;
 use text_fields::{read_decimal, split_once};
 
 /// The field before the first occurrence of a byte, and what follows that byte.
@@ -46,6 +43,7 @@ pub fn read_number(text: &[u8], end: u8) -> Result<(u64, &[u8]), StateFault>
     }
 }
 
+<<<<<<< HEAD
 /// The line as a clean text that shares the buffer. The line is at the front of what is left of the buffer.
 fn shared_uri(buffer: &Arc<Vec<u8>>, text: &[u8], line: &[u8]) -> Result<Clean, CleanFault>
     requires end { IsEndOf text.now (arc_value buffer.now).items }
@@ -59,6 +57,8 @@ fn shared_uri(buffer: &Arc<Vec<u8>>, text: &[u8], line: &[u8]) -> Result<Clean, 
     Clean::part(buffer, start, len)
 }
 
+=======
+>>>>>>> h/costs
 /// An original and the end of its line, and what follows. The original has a buffer of its own, since a state keeps it
 /// as a key long after the rest of the text is gone.
 pub fn read_original(alloc: Global, text: &[u8]) -> Result<(Original, &[u8]), StateFault>
@@ -69,6 +69,7 @@ pub fn read_original(alloc: Global, text: &[u8]) -> Result<(Original, &[u8]), St
     let original = Original::new(alloc, line)?;
     Ok((original, rest))
 }
+<<<<<<< HEAD
 
 /// A memento's URI and the end of its line, and what follows. `text` is what is left of the buffer, which the URI
 /// shares.
@@ -81,3 +82,5 @@ pub fn read_uri<'a>(buffer: &Arc<Vec<u8>>, text: &'a [u8]) -> Result<(Clean, &'a
     let uri = shared_uri(buffer, text, line)?;
     Ok((uri, rest))
 }
+=======
+>>>>>>> h/costs

@@ -1,9 +1,7 @@
 //! Reading a state or a delta from its text.
 ghost use Rattle.std.specs.Prelude.{◌≤◌, [], length, IfOk, IfErr};
-ghost use Rattle.std.specs.Arc.{arc_value};
 ghost use Rattle.replica_exchange.specs.StateText.{IsTextOf};
 ghost use Rattle.replica_exchange.specs.DeltaText.{IsDeltaText};
-ghost use Rattle.replica_exchange.specs.Ends.{IsEndOf};
 ghost use Rattle.replica_exchange.specs.Faults.{IsCause, IsDeltaCause, longest_text};
 ghost use Rattle.replica_exchange.specs.Spelling.{Begins, Refuses, RefusesWhole};
 ghost use Rattle.replica_exchange.specs.Parts.{stated, span};
@@ -15,11 +13,11 @@ use crate::fields::{read_number, skip};
 use crate::format::{Format, read_format};
 use harvest_lattice::State;
 use std::alloc::Global;
-use std::sync::Arc;
 
 /// The most bytes that the text of a state or a delta can have.
 const MAX_LEN: usize = 268_435_456;
 
+<<<<<<< HEAD
 /// The state from `entries N` to `end`, which nothing may follow.
 fn read_entries_of_state(
     alloc: Global,
@@ -28,10 +26,14 @@ fn read_entries_of_state(
     text: &[u8],
 ) -> Result<State, StateFault>
     requires { IsEndOf text.now (arc_value buffer.now).items }
+=======
+/// The state from `entries N` to `end`, after which nothing comes.
+fn read_entries_of_state(alloc: Global, format: Format, text: &[u8]) -> Result<State, StateFault>
+>>>>>>> h/costs
     ensures found { IfOk result (λ state. Begins (stated format) text.now state []) }
     ensures refused { IfErr result (λ fault. RefusesWhole (stated format) text.now fault) }
 {
-    let rows = read_listing(alloc, format, buffer, text)?;
+    let rows = read_listing(alloc, format, text)?;
     match State::of_rows(alloc, rows)? {
         Some(state) => Ok(state),
         None => Err(StateFault::NotState),
@@ -50,9 +52,7 @@ pub fn read_state(alloc: Global, text: &[u8]) -> Result<State, StateFault>
         return Err(StateFault::TooLong);
     }
     let (format, entries) = read_format(text, b"memento-state")?;
-    let copy = Vec::from_slice(alloc, text)?;
-    let buffer = Arc::new(alloc, copy)?;
-    let state = read_entries_of_state(alloc, format, &buffer, entries)?;
+    let state = read_entries_of_state(alloc, format, entries)?;
     Ok(state)
 }
 
@@ -97,9 +97,7 @@ pub fn read_delta(alloc: Global, text: &[u8]) -> Result<Delta, StateFault>
     }
     let (format, line) = read_format(text, b"memento-delta")?;
     let (span, entries) = read_span(line)?;
-    let copy = Vec::from_slice(alloc, text)?;
-    let buffer = Arc::new(alloc, copy)?;
-    let state = read_entries_of_state(alloc, format, &buffer, entries)?;
+    let state = read_entries_of_state(alloc, format, entries)?;
     Ok(Delta {
         incarnation: span.incarnation,
         start: span.start,

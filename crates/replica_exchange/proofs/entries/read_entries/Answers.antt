@@ -4,7 +4,6 @@ use Rattle.harvest_lattice.specs.Rows.{row_entry}
 use Rattle.replica_exchange.specs.Parts.{entry, many}
 use Rattle.replica_exchange.proofs.Sequences.{passed_on, refused_with, many_more, many_leaves}
 use Rattle.replica_exchange.proofs.PartLemmas.{entry_once}
-use Rattle.replica_exchange.proofs.EndLemmas.{end_after}
 use Rattle.replica_exchange.proofs.entries.read_entries.Goals as goal
 
 pub returns-in_err-row-clause-refused : goal.returns-in_err-row-clause-refused
@@ -24,5 +23,4 @@ loop-preserved c =
     record {
       lines = rw pushed (many_more (entry c.args.format) c.loop.counter c.args.text.now c.loop.rest.now _ (map row_entry c.loop.rows.items) (row_entry row) c.loop.invariant.lines
           c.in_ok-row.ensures.found);
-      end = end_after (entry c.args.format) _ _ _ _ c.loop.invariant.end c.in_ok-row.ensures.found;
     }

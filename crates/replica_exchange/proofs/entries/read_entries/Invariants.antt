@@ -1,5 +1,3 @@
-use Rattle.std.specs.Arc.{arc_value}
-use Rattle.replica_exchange.specs.Ends.{IsEndOf}
 use Rattle.std.proofs.Common.{map}
 use Rattle.harvest_lattice.specs.Rows.{row_entry}
 use Rattle.replica_exchange.specs.Spelling.{Begins}
@@ -9,5 +7,4 @@ use Rattle.replica_exchange.proofs.entries.read_entries.Given as goal
 abbrev pub invariant-loop : goal.invariant-loop
 invariant-loop l = record {
   lines : Begins (many l.counter (entry l.format)) l.text (map row_entry l.rows.items) l.rest;
-  end : IsEndOf l.rest (arc_value l.buffer).items;
 }

@@ -1,10 +1,8 @@
 use Rattle.std.proofs.Common.{refl}
-use Rattle.std.specs.Prelude.{codes}
 use Rattle.replica_exchange.specs.Spelling.{number}
 use Rattle.replica_exchange.specs.Parts.{entry, many, listing}
 use Rattle.replica_exchange.proofs.Sequences.{passed_on_whole, refused_whole, malformed_whole}
 use Rattle.replica_exchange.proofs.StateLemmas.{listing_has_front, listing_leaves_count, listing_leaves_entries, listing_unended, listing_found}
-use Rattle.replica_exchange.proofs.EndLemmas.{end_after, end_behind}
 use Rattle.replica_exchange.proofs.entries.read_listing.Goals as goal
 
 pub returns-in_err-rest-clause-refused : goal.returns-in_err-rest-clause-refused
@@ -33,6 +31,3 @@ returns-then-not-is_end-clause-refused c = listing_unended c.args.format c.args.
 
 pub returns-clause-found : goal.returns-clause-found
 returns-clause-found c = listing_found c.args.format c.args.text.now _ c.in_ok-rest.ensures.found _ _ c.in_ok-count.ensures.found _ _ c.in_ok-rows.ensures.found (c.if-not-is_end.ensures.0 refl)
-
-pub read_entries-requires : goal.read_entries-requires
-read_entries-requires c = end_after (number 10) _ _ _ _ (end_behind _ _ (codes "entries ") _ c.requires c.in_ok-rest.ensures.found) c.in_ok-count.ensures.found

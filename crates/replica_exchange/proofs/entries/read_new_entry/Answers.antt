@@ -2,7 +2,6 @@ use Rattle.std.proofs.Common.{sym, ◌∙◌}
 use Rattle.replica_exchange.specs.Parts.{head, part, new_entry, many}
 use Rattle.replica_exchange.proofs.Sequences.{passed_on, refused_with}
 use Rattle.replica_exchange.proofs.PartLemmas.{new_leaves_head, new_leaves_parts, new_unordered, new_found}
-use Rattle.replica_exchange.proofs.EndLemmas.{end_after}
 use Rattle.replica_exchange.proofs.entries.read_new_entry.Goals as goal
 
 pub returns-in_err-head-clause-refused : goal.returns-in_err-head-clause-refused
@@ -10,9 +9,6 @@ returns-in_err-head-clause-refused c =
     let text = c.args.text.now in
     passed_on new_entry text c.from_residual.result c.in_err-head.field-0.0 c.from_residual.ensures.1
     (refused_with head new_entry text text (new_leaves_head text) c.in_err-head.field-0.0 c.in_err-head.ensures.refused)
-
-pub read_kept-requires : goal.read_kept-requires
-read_kept-requires c = end_after head _ _ _ _ c.requires c.in_ok-head.ensures.found
 
 pub returns-in_err-entry-clause-refused : goal.returns-in_err-entry-clause-refused
 returns-in_err-entry-clause-refused c =

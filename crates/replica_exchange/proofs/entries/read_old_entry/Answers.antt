@@ -4,7 +4,6 @@ use Rattle.harvest_lattice.specs.Parts.{kept_in}
 use Rattle.replica_exchange.specs.Parts.{old_head, old_entry, set_of}
 use Rattle.replica_exchange.proofs.Sequences.{passed_on, refused_with}
 use Rattle.replica_exchange.proofs.PartLemmas.{old_leaves_head, old_leaves_set, old_found, one_made}
-use Rattle.replica_exchange.proofs.EndLemmas.{end_after}
 use Rattle.replica_exchange.proofs.entries.read_old_entry.Goals as goal
 
 pub returns-in_err-head-clause-refused : goal.returns-in_err-head-clause-refused
@@ -12,9 +11,6 @@ returns-in_err-head-clause-refused c =
     let text = c.args.text.now in
     passed_on old_entry text c.from_residual.result c.in_err-head.field-0.0 c.from_residual.ensures.1
     (refused_with old_head old_entry text text (old_leaves_head text) c.in_err-head.field-0.0 c.in_err-head.ensures.refused)
-
-pub read_set-requires : goal.read_set-requires
-read_set-requires c = end_after old_head _ _ _ _ c.requires c.in_ok-head.ensures.found
 
 pub returns-in_err-set-clause-refused : goal.returns-in_err-set-clause-refused
 returns-in_err-set-clause-refused c =

@@ -3,7 +3,6 @@ use Rattle.replica_exchange.specs.Spelling.{Begins}
 use Rattle.replica_exchange.specs.Parts.{part_head, part, set_of}
 use Rattle.replica_exchange.proofs.Sequences.{passed_on, refused_with}
 use Rattle.replica_exchange.proofs.PartLemmas.{part_leaves_head, part_leaves_set, part_found}
-use Rattle.replica_exchange.proofs.EndLemmas.{end_after}
 use Rattle.replica_exchange.proofs.entries.read_part.Goals as goal
 
 pub returns-in_err-head-clause-refused : goal.returns-in_err-head-clause-refused
@@ -11,9 +10,6 @@ returns-in_err-head-clause-refused c =
     let text = c.args.text.now in
     passed_on part text c.from_residual.result c.in_err-head.field-0.0 c.from_residual.ensures.1
     (refused_with part_head part text text (part_leaves_head text) c.in_err-head.field-0.0 c.in_err-head.ensures.refused)
-
-pub read_set-requires : goal.read_set-requires
-read_set-requires c = end_after part_head _ _ _ _ c.requires c.in_ok-head.ensures.found
 
 pub returns-in_err-set-clause-refused : goal.returns-in_err-set-clause-refused
 returns-in_err-set-clause-refused c =

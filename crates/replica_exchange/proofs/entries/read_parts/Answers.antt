@@ -1,7 +1,6 @@
 use Rattle.replica_exchange.specs.Parts.{part, many}
 use Rattle.replica_exchange.proofs.Sequences.{passed_on, refused_with, many_more, many_leaves}
 use Rattle.replica_exchange.proofs.PartLemmas.{part_once}
-use Rattle.replica_exchange.proofs.EndLemmas.{end_after}
 use Rattle.replica_exchange.proofs.entries.read_parts.Goals as goal
 
 pub returns-in_err-part-clause-refused : goal.returns-in_err-part-clause-refused
@@ -15,5 +14,4 @@ returns-in_err-part-clause-refused c =
 pub loop-preserved : goal.loop-preserved
 loop-preserved c = record {
   lines = rw c.in_ok-push.ensures.items (many_more part c.loop.counter c.args.text.now c.loop.rest.now _ c.loop.parts.items _ c.loop.invariant.lines c.in_ok-part.ensures.found);
-  end = end_after part _ _ _ _ c.loop.invariant.end c.in_ok-part.ensures.found;
 }

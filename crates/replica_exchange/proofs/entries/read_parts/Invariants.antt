@@ -1,5 +1,3 @@
-use Rattle.std.specs.Arc.{arc_value}
-use Rattle.replica_exchange.specs.Ends.{IsEndOf}
 use Rattle.replica_exchange.specs.Spelling.{Begins}
 use Rattle.replica_exchange.specs.Parts.{many, part}
 use Rattle.replica_exchange.proofs.entries.read_parts.Given as goal
@@ -7,5 +5,4 @@ use Rattle.replica_exchange.proofs.entries.read_parts.Given as goal
 abbrev pub invariant-loop : goal.invariant-loop
 invariant-loop l = record {
   lines : Begins (many l.counter part) l.text l.parts.items l.rest;
-  end : IsEndOf l.rest (arc_value l.buffer).items;
 }

@@ -1,9 +1,6 @@
-use Rattle.std.proofs.Common.{sym, subst, arith}
-use Rattle.std.specs.Prelude.{codes}
+use Rattle.std.proofs.Common.{sym, subst}
 use Rattle.replica_exchange.specs.Faults.{IsDeltaCause}
 use Rattle.replica_exchange.proofs.DeltaLemmas.{delta_cause_passed, delta_has_front, delta_refused_line, delta_refused, delta_found}
-use Rattle.replica_exchange.specs.Parts.{span, first_line}
-use Rattle.replica_exchange.proofs.EndLemmas.{whole_end, end_behind, end_after}
 use Rattle.replica_exchange.proofs.reading.read_delta.Goals as goal
 
 pub returns-in_err-format-clause-cause : goal.returns-in_err-format-clause-cause
@@ -25,13 +22,6 @@ returns-in_err-state-clause-cause c =
     delta_cause_passed text c.from_residual-in_err-state.result c.in_err-state.field-0.0 c.from_residual-in_err-state.ensures.1
     (delta_refused c.in_ok-format.format text c.in_ok-format.line.now c.in_ok-format.ensures.found _ c.in_ok-span.entries.now c.in_ok-span.ensures.found c.if-text-gt-MAX_LEN.false
     c.in_err-state.field-0.0 c.in_err-state.ensures.refused)
-
-pub read_entries_of_state-requires : goal.read_entries_of_state-requires
-read_entries_of_state-requires c =
-    rw (c.in_ok-buffer.ensures.ok, c.in_ok-copy.ensures.items)
-    (end_after span _ _ _ _
-    (end_behind c.args.text.now c.args.text.now (first_line (codes "memento-delta") c.in_ok-format.format) _
-    (whole_end c.args.text.now (omega (arith, c.if-text-gt-MAX_LEN.false))) c.in_ok-format.ensures.found) c.in_ok-span.ensures.found)
 
 pub returns-clause-found : goal.returns-clause-found
 returns-clause-found c =

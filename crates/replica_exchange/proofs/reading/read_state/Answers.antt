@@ -1,9 +1,6 @@
-use Rattle.std.proofs.Common.{sym, subst, arith}
-use Rattle.std.specs.Prelude.{codes}
+use Rattle.std.proofs.Common.{sym, subst}
 use Rattle.replica_exchange.specs.Faults.{IsCause}
-use Rattle.replica_exchange.specs.Parts.{first_line}
 use Rattle.replica_exchange.proofs.StateLemmas.{cause_passed, state_has_front, state_refused, state_found}
-use Rattle.replica_exchange.proofs.EndLemmas.{whole_end, end_behind}
 use Rattle.replica_exchange.proofs.reading.read_state.Goals as goal
 
 pub returns-in_err-format-clause-cause : goal.returns-in_err-format-clause-cause
@@ -21,9 +18,3 @@ returns-in_err-state-clause-cause c =
 
 pub returns-clause-found : goal.returns-clause-found
 returns-clause-found c = state_found c.in_ok-format.format c.args.text.now c.in_ok-format.entries.now c.in_ok-format.ensures.found c.in_ok-state.state c.in_ok-state.ensures.found
-
-pub read_entries_of_state-requires : goal.read_entries_of_state-requires
-read_entries_of_state-requires c =
-    rw (c.in_ok-buffer.ensures.ok, c.in_ok-copy.ensures.items)
-    (end_behind c.args.text.now c.args.text.now (first_line (codes "memento-state") c.in_ok-format.format) _
-    (whole_end c.args.text.now (omega (arith, c.if-text-gt-MAX_LEN.false))) c.in_ok-format.ensures.found)
