@@ -29,12 +29,8 @@ fn read_memento<'a>(mementos: &mut MementosBuilder, text: &'a [u8]) -> Result<&'
     Ok(rest)
 }
 
-<<<<<<< HEAD
-/// The lines of `count` mementos, and what follows. Reserves nothing for lines that may not come.
-=======
-/// The mementos of `count` lines, and what follows. Nothing is reserved for lines that may not come. The addresses are
-/// copied into one buffer that has nothing else, so that the text isn't kept for them.
->>>>>>> h/costs
+/// The mementos of `count` lines, and what follows. Reserves nothing for lines that may not come. The addresses are
+/// copied into one buffer that holds nothing else, so that they don't keep the text alive.
 fn read_mementos<'a>(
     alloc: Global,
     count: u64,
@@ -52,12 +48,7 @@ fn read_mementos<'a>(
     Ok((mementos.build(alloc)?, rest))
 }
 
-<<<<<<< HEAD
-/// The lines of `count` mementos in order, each once, and what follows. Their addresses are copied into one buffer that
-/// holds nothing else, so that they don't keep the text alive.
-=======
 /// The mementos of `count` lines in order, each once, and what follows.
->>>>>>> h/costs
 fn read_set<'a>(
     alloc: Global,
     count: u64,
@@ -312,19 +303,8 @@ fn is_end(text: &[u8]) -> bool
     text == b"end\n".as_slice()
 }
 
-<<<<<<< HEAD
 /// The entries from `entries N` to `end`, which nothing may follow.
-pub fn read_listing(
-    alloc: Global,
-    format: Format,
-    buffer: &Arc<Vec<u8>>,
-    text: &[u8],
-) -> Result<Vec<Row>, StateFault>
-    requires { IsEndOf text.now (arc_value buffer.now).items }
-=======
-/// The entries from `entries N` to `end`, after which nothing comes.
 pub fn read_listing(alloc: Global, format: Format, text: &[u8]) -> Result<Vec<Row>, StateFault>
->>>>>>> h/costs
     ensures found { IfOk result (λ rows.
         Begins (listing format) text.now (map_list row_entry rows.items) []) }
     ensures refused { IfErr result (λ fault. RefusesWhole (listing format) text.now fault) }

@@ -43,22 +43,6 @@ pub fn read_number(text: &[u8], end: u8) -> Result<(u64, &[u8]), StateFault>
     }
 }
 
-<<<<<<< HEAD
-/// The line as a clean text that shares the buffer. The line is at the front of what is left of the buffer.
-fn shared_uri(buffer: &Arc<Vec<u8>>, text: &[u8], line: &[u8]) -> Result<Clean, CleanFault>
-    requires end { IsEndOf text.now (arc_value buffer.now).items }
-    requires line { (rest : List ℕ) × (text.now ≡ line.now ++ rest) }
-    ensures ok { IfOk result (λ clean. (clean ≡ line.now) × IsClean line.now) }
-    ensures not_clean { IsErrOf result CleanFault.NotClean ↔ ¬ IsClean line.now }
-{
-    let read = buffer.as_slice().len() - text.len();
-    let start = read as u32;
-    let len = line.len() as u32;
-    Clean::part(buffer, start, len)
-}
-
-=======
->>>>>>> h/costs
 /// An original and the end of its line, and what follows. The original has a buffer of its own, since a state keeps it
 /// as a key long after the rest of the text is gone.
 pub fn read_original(alloc: Global, text: &[u8]) -> Result<(Original, &[u8]), StateFault>
@@ -69,18 +53,3 @@ pub fn read_original(alloc: Global, text: &[u8]) -> Result<(Original, &[u8]), St
     let original = Original::new(alloc, line)?;
     Ok((original, rest))
 }
-<<<<<<< HEAD
-
-/// A memento's URI and the end of its line, and what follows. `text` is what is left of the buffer, which the URI
-/// shares.
-pub fn read_uri<'a>(buffer: &Arc<Vec<u8>>, text: &'a [u8]) -> Result<(Clean, &'a [u8]), StateFault>
-    requires { IsEndOf text.now (arc_value buffer.now).items }
-    ensures found { IfOk result (λ read. Begins (field IsClean 10) text.now read.0 read.1.now) }
-    ensures refused { IfErr result (λ fault. Refuses (field IsClean 10) text.now fault) }
-{
-    let (line, rest) = cut(text, b'\n')?;
-    let uri = shared_uri(buffer, text, line)?;
-    Ok((uri, rest))
-}
-=======
->>>>>>> h/costs

@@ -17,19 +17,8 @@ use std::alloc::Global;
 /// The most bytes that the text of a state or a delta can have.
 const MAX_LEN: usize = 268_435_456;
 
-<<<<<<< HEAD
 /// The state from `entries N` to `end`, which nothing may follow.
-fn read_entries_of_state(
-    alloc: Global,
-    format: Format,
-    buffer: &Arc<Vec<u8>>,
-    text: &[u8],
-) -> Result<State, StateFault>
-    requires { IsEndOf text.now (arc_value buffer.now).items }
-=======
-/// The state from `entries N` to `end`, after which nothing comes.
 fn read_entries_of_state(alloc: Global, format: Format, text: &[u8]) -> Result<State, StateFault>
->>>>>>> h/costs
     ensures found { IfOk result (λ state. Begins (stated format) text.now state []) }
     ensures refused { IfErr result (λ fault. RefusesWhole (stated format) text.now fault) }
 {
