@@ -6,7 +6,7 @@ use replica_exchange::Stamped;
 use std::alloc::Global;
 use std::test::*;
 use text_trials::makers::service;
-use timegate::answer;
+use timegate::{answer, original_at};
 
 /// How a replica that knows nothing answers.
 fn status_of(alloc: Global, target: &str) -> Result<u16> {
@@ -24,6 +24,19 @@ fn nothing_is_shown(rt: HostRuntime) -> Result<()> {
         ("/timemap/link/nonsense", 400),
     ] {
         assert_eq!(rt; status_of(rt.alloc(), target)?, status);
+    }
+    Ok(())
+}
+
+#[test]
+fn bytes_name_an_original(rt: HostRuntime) -> Result<()> {
+    for (bytes, original) in [
+        (b"http://a.example".as_slice(), Some("http://a.example/")),
+        (b"nonsense", None),
+        (b"http://a.example/\xff", None),
+    ] {
+        let named = original_at(rt.alloc(), bytes)?;
+        assert!(rt; named.as_ref().map(|found| found.as_bytes()) == original.map(str::as_bytes));
     }
     Ok(())
 }

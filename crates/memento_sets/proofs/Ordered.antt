@@ -1,15 +1,16 @@
 -- Sorted lists of mementos, and the sets that they are.
-use Rattle.std.proofs.Common.{◌≡◌, Bool, true, false, cond, ◌||◌, ◌++◌, List, [], ◌∷◌, refl, sym, ap, subst, ◌∙◌}
+use Rattle.std.proofs.Common.{◌≡◌, ◌↔◌, Bool, true, false, cond, ◌||◌, ◌++◌, List, Contains, [], ◌∷◌, refl, sym, ap, subst, ◌∙◌}
 use Rattle.std.specs.Prelude.{T}
 use Rattle.std.specs.declared.cmp.Ordering.TheVariants.{Less}
 use Rattle.std.specs.List.{list_any, dedup, dedup_from, AllByRecursion}
 use Rattle.std.specs.List.Sorted.{IsStrictlySortedBy, IsPermutation}
 use Rattle.std.specs.Ordering.{eq_by_cmp, is_lt}
-use Rattle.std.specs.Cmp.{Equal-is}
+use Rattle.std.specs.Cmp.{eq_by_cmp_equiv, Equal-is}
 use Rattle.std.specs.FinMap.{is_sorted}
 use Rattle.std.specs.FinMap.Entries.{below_all}
 use Rattle.std.proofs.lemmas.List.Folds.{list_any-append}
 use Rattle.std.proofs.lemmas.List.Sorted.{list_any-IsPermutation}
+use Rattle.std.proofs.lemmas.Map.Views.{Contains-from_any, list_any-from_Contains}
 use Rattle.memento_time.specs.Mementos.{memento_cmp}
 use Rattle.memento_time.proofs.MementoLemmas.{memento_cmp_total, memento_cmp_exact}
 use Rattle.memento_time.specs.declared.mementos.Memento.{Memento}
@@ -57,6 +58,25 @@ module _ (E : Memento → Memento → Bool) (ties : (x y : Memento) → E x y �
       ∙ (any_dedup (eq_by_cmp memento_cmp m) ys
       ∙ (sym (list_any-IsPermutation (eq_by_cmp memento_cmp m) xs ys moved)
       ∙ sym (contains-from_list memento_cmp_total memento_cmp_exact xs m))))
+
+-- lists with the same members are one set
+pub set_of_members : (xs ys : List Memento) → ((m : Memento) → Contains xs m ↔ Contains ys m)
+    → set.from_list {R = memento_cmp} xs ≡ set.from_list ys
+set_of_members xs ys same = same_set memento_cmp_total memento_cmp_exact _ _ (λ m.
+    contains-from_list memento_cmp_total memento_cmp_exact xs m
+    ∙ (both_ways _ _ (λ h. has ys m ((same m).0 (member xs m h))) (λ h. has xs m ((same m).1 (member ys m h)))
+    ∙ sym (contains-from_list memento_cmp_total memento_cmp_exact ys m)))
+  where
+    member : (list : List Memento) (m : Memento) → list_any (eq_by_cmp memento_cmp m) list ≡ true → Contains list m
+    member list m h = Contains-from_any (λ x y t. memento_cmp_exact x y ((Equal-is (memento_cmp x y)).0 t)) m list h
+
+    has : (list : List Memento) (m : Memento) → Contains list m → list_any (eq_by_cmp memento_cmp m) list ≡ true
+    has list m h = list_any-from_Contains (eq_by_cmp_equiv memento_cmp_total) m list h
+
+    both_ways : (a b : Bool) → (a ≡ true → b ≡ true) → (b ≡ true → a ≡ true) → a ≡ b
+    both_ways true b f g = sym (f refl)
+    both_ways false true f g = g refl
+    both_ways false false f g = refl
 
 pub set-append : (xs ys : List Memento) → set.from_list {R = memento_cmp} (xs ++ ys) ≡ set.union (set.from_list xs) (set.from_list ys)
 set-append xs ys = same_set memento_cmp_total memento_cmp_exact _ _ (λ m.

@@ -10,7 +10,7 @@ ghost use Rattle.memento_time.specs.declared.mementos.Memento.{Memento};
 ghost use Rattle.memento_sets.specs.Sets as set;
 ghost use Rattle.memento_sets.specs.MementoSets.{IsSubset, mementos_rise, mementos_with};
 
-use memento_time::{Memento, MementosBuilder, NoMemory};
+use memento_time::{Memento, MementosBuilder, NoMemory, in_order};
 use std::alloc::{AllocError, Global};
 use std::cmp::Ordering;
 use std::marker::Model;
@@ -38,15 +38,12 @@ impl Model for Mementos {
 impl Mementos {
     /// The set of these mementos, which may come in any order and more than once. Takes no memory, and only one walk if
     /// they are already in order.
-    pub fn of(mut mementos: Vec<Memento>) -> Mementos
+    pub fn of(mementos: Vec<Memento>) -> Mementos
         ensures { result ≡ set.from_list mementos.items }
     {
-        if mementos_rise(&mementos) {
-            return Mementos { list: mementos };
+        Mementos {
+            list: in_order(mementos),
         }
-        mementos.sort_unstable();
-        mementos.dedup();
-        Mementos { list: mementos }
     }
 
     /// The set of these mementos; `None` unless they are in order, each once.

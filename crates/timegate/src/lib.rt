@@ -16,3 +16,4 @@ pub use laws::{
 };
 pub use reply::{Header, Reply};
 pub use request::Request;
+pub use route::original_at;

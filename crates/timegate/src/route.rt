@@ -93,7 +93,7 @@ pub fn is_timegate(request: &Request) -> bool
 }
 
 /// The original that bytes name.
-fn original_at(alloc: Global, bytes: &[u8]) -> Result<Option<Original>, NoMemory>
+pub fn original_at(alloc: Global, bytes: &[u8]) -> Result<Option<Original>, NoMemory>
     ensures read { IfOk result (λ original. original ≡ original_at bytes.now) }
     ensures kept { IfOk result (λ original. IfSome original IsAsked) }
 {

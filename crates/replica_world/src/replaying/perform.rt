@@ -3,7 +3,6 @@ ghost use Rattle.std.specs.Prelude.{◌≡◌, ◌∷◌, ◌<◌, ◌≤◌, le
 ghost use Rattle.std.specs.List.Sorted.{IsStrictlySortedBy};
 ghost use Rattle.memento_time.specs.Mementos.{memento_cmp};
 ghost use Rattle.memento_sets.specs.Sets as set;
-ghost use Rattle.timegate.specs.Route.{original_at};
 ghost use Rattle.timemap_reader.specs.declared.page.Page.{Page as PageRead};
 ghost use Rattle.replica_world.specs.Output.{IsPage};
 ghost use Rattle.replica_world.specs.Performing.{IsHappening, IsHarvestTaken, IsPageTaken, IsPerformed};
@@ -18,22 +17,8 @@ use harvest_lattice::{Harvest, HarvestFault};
 use memento_time::{ArchiveName, Memento, NoMemory, Original};
 use replica_events::Event;
 use std::alloc::Global;
-use timemap_reader::{OriginalFault, Page, PageFault, read_original, read_page};
-
-/// The original that bytes name.
-#[tactic(auto, unfolding(crate::specs::Fields::utf8_text))]
-fn original(alloc: Global, text: &[u8]) -> Result<Option<Original>, NoMemory>
-    ensures { IfOk result (λ original. original ≡ original_at text.now) }
-{
-    let Some(text) = utf8_text(text) else {
-        return Ok(None);
-    };
-    match read_original(alloc, text) {
-        Ok(original) => Ok(Some(original)),
-        Err(OriginalFault::NoMemory) => Err(NoMemory),
-        Err(OriginalFault::NotUrl | OriginalFault::NotHttp | OriginalFault::TooLong) => Ok(None),
-    }
-}
+use timegate::original_at;
+use timemap_reader::{Page, PageFault, read_page};
 
 /// The page that a body makes if it was fetched from an address.
 fn page(alloc: Global, address: &[u8], body: &[u8]) -> Result<Option<Page>, NoMemory>
@@ -120,7 +105,7 @@ fn take_harvest(
 fn take(alloc: Global, world: &mut World, taking: &Taking<'_>) -> Result<Output, NoMemory>
     ensures { IfOk result (λ text. IsPageTaken world.old (taking_view taking.now) text world.new) }
 {
-    let Some(original) = original(alloc, taking.original)? else {
+    let Some(original) = original_at(alloc, taking.original)? else {
         return refusal_text(alloc, "bad original");
     };
     let Some(page) = page(alloc, taking.address, taking.body)? else {

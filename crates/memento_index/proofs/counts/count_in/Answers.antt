@@ -30,7 +30,7 @@ pub returns-clause-tally : goal.returns-clause-tally
 returns-clause-tally c =
     let at = goal.at.returns-clause-tally c in
     subst (λ (xs : List Counted). IsTally (whole xs c.take_out.new.lifted.entries)) (sym (put at.After-push))
-        (tally_with _ _ _ _ _ c.match-take_out.count (parted at.After-take_out) (omega (arith, count at.After-push)))
+    (tally_with _ _ _ _ _ c.match-take_out.count (parted at.After-take_out) (omega (arith, count at.After-push)))
 
 pub returns-clause-counts : goal.returns-clause-counts
 returns-clause-counts c m =

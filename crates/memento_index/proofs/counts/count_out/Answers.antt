@@ -16,14 +16,14 @@ put : (c : After-push) → c.push.new.self.entries
     ≡ c.take_out.new.list.entries ++ record { memento = c.args.memento.now; count = c.in-Some.counted.count - 1 } ∷ []
 put c =
     let as_taken : c.push.new.self.entries
-        ≡ c.take_out.new.list.entries ++ record { memento = c.in-Some.counted.memento; count = c.in-Some.counted.count - 1 } ∷ [] = grind (arith, common_steps) in
+    ≡ c.take_out.new.list.entries ++ record { memento = c.in-Some.counted.memento; count = c.in-Some.counted.count - 1 } ∷ [] = grind (arith, common_steps) in
     as_taken ∙ ap (λ (m : Memento). c.take_out.new.list.entries ++ record { memento = m; count = c.in-Some.counted.count - 1 } ∷ []) c.in-Some.ensures.found
 
 pub returns-then-counted-gt1-clause-tally : goal.returns-then-counted-gt1-clause-tally
 returns-then-counted-gt1-clause-tally c =
     let at = goal.at.returns-then-counted-gt1-clause-tally c in
     subst (λ (xs : List Counted). IsTally (whole xs c.take_out.new.lifted.entries)) (sym (put at.After-push))
-        (tally_with _ _ _ _ _ (c.in-Some.counted.count - 1) (parted at.After-take_out) (omega arith))
+    (tally_with _ _ _ _ _ (c.in-Some.counted.count - 1) (parted at.After-take_out) (omega arith))
 
 pub returns-then-counted-gt1-clause-counts : goal.returns-then-counted-gt1-clause-counts
 returns-then-counted-gt1-clause-counts c m =
