@@ -8,8 +8,10 @@
 //! With the word `calls` it makes public calls of the crates below instead, and names each that is refused.
 #![tactic(auto)]
 
-mod calls;
 mod exchange;
+mod lattice;
+mod makers;
+mod replicas;
 mod replies;
 mod texts;
 mod walks;
@@ -17,6 +19,7 @@ mod walks;
 use crate::exchange::{Exchange, begin};
 use crate::replies::{is_same, replies_of_all};
 use anyhow::{Result, bail};
+use refused_calls::insist as insist_call;
 use replica_world::{Answer, Event, Refused, Said, World};
 use std::alloc::Global;
 use std::env;
@@ -92,7 +95,9 @@ fn main(rt: HostRuntime) -> Result<()> {
     let alloc = rt.alloc();
     if asks_for_calls(&rt).or_else(|_| asks_for_calls(&rt))? {
         texts::perform(&rt, alloc)?;
-        return calls::perform(&rt, alloc);
+        lattice::perform(&rt, alloc)?;
+        replicas::perform(&rt, alloc)?;
+        return insist_call(&rt, walks::Adding::MemoryFetchAdd, || walks::try_add(&rt));
     }
     perform_exchange(&rt, alloc)?;
     let archive = walks::make_archive(alloc).or_else(|_| walks::make_archive(alloc))?;

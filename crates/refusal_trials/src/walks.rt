@@ -1,9 +1,11 @@
 //! A walk over three pages of a TimeMap, of which a fourth is lost, and rounds of such walks.
 use anyhow::{Context, Result, bail};
 use harvester::{
-    Answer, Job, MAX_WORKERS, MemoryFetch, Outcome, WalkFault, have_first_urls, run_round, walk,
+    Answer, Fetch, Job, MAX_WORKERS, MemoryFetch, Outcome, WalkFault, have_first_urls, run_round,
+    walk,
 };
 use memento_time::{ArchiveName, Clean, Items, Octets, Original};
+use refused_calls::Tried;
 use std::alloc::{AllocGlobal, Global};
 use std::io::Write;
 use std::net::{Net, TcpListener, TcpStream};
@@ -168,4 +170,26 @@ where
         bail!("a refused round fetched something else");
     }
     Ok(again)
+}
+
+/// The call that adds a page to what is answered.
+#[derive(Clone, Copy, Debug)]
+pub(crate) enum Adding {
+    MemoryFetchAdd,
+}
+
+/// Adds a page, once more where memory is refused and nothing is answered.
+pub(crate) fn try_add<R>(rt: &R) -> Option<Tried>
+where
+    R: Wait + Clock + Net<Listener = TcpListener, Stream = TcpStream> + RandomSource + AllocGlobal,
+{
+    let alloc = rt.alloc();
+    let url = Clean::new(alloc, b"http://arc.example/i").ok()?;
+    let mut fetch = MemoryFetch::new(alloc);
+    if add(&mut fetch, alloc, b"http://arc.example/i", b"x").is_ok() {
+        return Some(Tried::Answered);
+    }
+    let is_as_before = fetch.fetch(rt, &url).is_err();
+    let is_repeated = add(&mut fetch, alloc, b"http://arc.example/i", b"x").is_ok();
+    Some(Tried::of_change(false, is_as_before, is_repeated))
 }

@@ -187,6 +187,18 @@ fn parts(rt: HostRuntime) -> Result<(), Fail> {
     Ok(())
 }
 
+/// A part of a buffer, and then a text that has its buffer to itself.
+#[test]
+fn packed_texts(rt: HostRuntime) -> Result<(), Fail> {
+    let alloc = rt.alloc();
+    let buffer = Arc::new(alloc, Vec::from_slice(alloc, b"ab x:/#top")?)?;
+    let part = Clean::part(&buffer, 3, 7)?;
+    let packed = part.packed(alloc)?;
+    assert!(rt; packed == part);
+    assert!(rt; packed.packed(alloc)? == part);
+    Ok(())
+}
+
 /// Captures in no order, one of them twice.
 const CAPTURES: [(u64, &[u8]); 4] = [
     (THIRD_DAY, b"b"),

@@ -1,0 +1,14 @@
+//! Makes the public calls of mergers and gates, and of what stands between them and HTTP, while requests for memory may
+//! be refused, and names each that is. `tests/memory/run` refuses each request in turn.
+//!
+//! `refusal_trials` does so for the crates below.
+#![tactic(auto)]
+
+mod services;
+
+use anyhow::Result;
+
+fn main(rt: HostRuntime) -> Result<()> {
+    let alloc = rt.alloc();
+    services::perform(&rt, alloc)
+}

@@ -1,0 +1,257 @@
+//! Calls of mergers and gates, of what stands between them and HTTP, and of settings.
+use anyhow::Result;
+use hyper_edge::{Answers, GateService, allowed_addresses, form, read_host, request_of};
+use memento_time::{Items, Octets};
+use published_index::{Gate, GateFault, Merger, ask_both, open};
+use refused_calls::{Tried, insist};
+use replica_exchange::{Delta, read_delta};
+use std::alloc::Global;
+use std::net::{IpAddr, Ipv4Addr, SocketAddr};
+use std::sync::Wait;
+use std::sync::atomic::{AtomicU64, Ordering};
+use timegate::{Reply, Request};
+use timemap_writer::Service;
+use url::Host;
+
+const DELTA: &[u8] = b"memento-delta 2
+from 1 0 1
+entries 1
+entry a1 1 1 http://a.example/
+at 1 1
+946684800 http://m.example/1
+end
+";
+
+/// Calls without a runtime.
+#[derive(Clone, Copy, Debug)]
+enum OnEdge {
+    ReadHost,
+    AllowedAddresses,
+    RequestOf,
+    Form,
+}
+
+const ON_EDGE: [OnEdge; 4] = [
+    OnEdge::ReadHost,
+    OnEdge::AllowedAddresses,
+    OnEdge::RequestOf,
+    OnEdge::Form,
+];
+
+fn octets(alloc: Global, text: &[u8]) -> Option<Octets> {
+    Some(Octets::of(Vec::from_slice(alloc, text).ok()?))
+}
+
+fn service(alloc: Global) -> Option<Service> {
+    Service::new(alloc, "http://agg.example").ok()
+}
+
+/// GET of this target, without a datetime.
+fn get(alloc: Global, target: &[u8]) -> Option<Request> {
+    Some(Request {
+        method: octets(alloc, b"GET")?,
+        target: octets(alloc, target)?,
+        asked: Items::of(Vec::new(alloc)),
+    })
+}
+
+fn reply(alloc: Global) -> Option<Reply> {
+    Some(Reply {
+        status: 404,
+        headers: Items::of(Vec::new(alloc)),
+        body: octets(alloc, b"no memento")?,
+    })
+}
+
+fn try_on_edge(alloc: Global, call: OnEdge) -> Option<Tried> {
+    let is_answered = match call {
+        OnEdge::ReadHost => read_host(alloc, "a.example:8080").is_ok(),
+        OnEdge::AllowedAddresses => {
+            let address = SocketAddr::new(IpAddr::V4(Ipv4Addr::new(192, 0, 2, 1)), 80);
+            allowed_addresses(alloc, &Host::Domain("a.example"), &[address]).is_ok()
+        }
+        OnEdge::RequestOf => request_of(alloc, &http::Request::new(alloc, ())).is_ok(),
+        OnEdge::Form => form(alloc, &reply(alloc)?).is_ok(),
+    };
+    Some(Tried::of(is_answered))
+}
+
+/// Answers each request alike, without a body.
+#[derive(Clone, Copy)]
+struct Steady {
+    alloc: Global,
+}
+
+impl Answers for Steady {
+    ghost use Rattle.std.specs.Prelude.{⊤};
+
+    ghost replies = { λ _ _. ⊤ };
+
+    ghost may_close = { ⊤ };
+
+    fn answer(&mut self, _request: &Request) -> Result<Reply, GateFault> {
+        let body = Vec::from_slice(self.alloc, b"no memento").map_err(|_| GateFault::NoMemory)?;
+        Ok(Reply {
+            status: 404,
+            headers: Items::of(Vec::new(self.alloc)),
+            body: Octets::of(body),
+        })
+    }
+}
+
+/// Calls of a service, of a merger and of its gates.
+#[derive(Clone, Copy, Debug)]
+enum OnGate {
+    Open,
+    GateAnswerThen,
+    AskBoth,
+    MergerAppendDelta,
+}
+
+/// The call of a service.
+#[derive(Clone, Copy, Debug)]
+enum Responding {
+    GateServiceRespond,
+}
+
+const ON_GATES: [OnGate; 4] = [
+    OnGate::Open,
+    OnGate::GateAnswerThen,
+    OnGate::AskBoth,
+    OnGate::MergerAppendDelta,
+];
+
+fn try_open<R: Wait>(rt: &R, alloc: Global) -> Option<Tried> {
+    let base = service(alloc)?;
+    let Ok((merger, _gates)) = open(rt, alloc, base, 1, 1) else {
+        return Some(Tried::Refused);
+    };
+    merger.close(rt);
+    Some(Tried::Answered)
+}
+
+/// Asks a gate, with something to do before its entry ends, which counts; returns whether there is a reply.
+fn answer_counting(gate: &mut Gate, question: &Request, done: &AtomicU64) -> bool {
+    gate.answer_then(question, || {
+        done.fetch_add(1, Ordering::SeqCst);
+    })
+    .is_ok()
+}
+
+/// What a gate is to do is done once with a reply, and not where the reply is refused.
+fn answer_and_count(gate: &mut Gate, question: &Request) -> Tried {
+    let done = AtomicU64::new(0);
+    if answer_counting(gate, question, &done) {
+        return Tried::of(done.load(Ordering::SeqCst) == 1);
+    }
+    let is_as_before = done.load(Ordering::SeqCst) == 0;
+    let is_repeated = answer_counting(gate, question, &done) && done.load(Ordering::SeqCst) == 1;
+    Tried::of_change(false, is_as_before, is_repeated)
+}
+
+fn try_answer_then<R: Wait>(rt: &R, alloc: Global) -> Option<Tried> {
+    let question = get(alloc, b"/state")?;
+    let base = service(alloc)?;
+    let Ok((merger, mut gates)) = open(rt, alloc, base, 1, 1) else {
+        return None;
+    };
+    let mut tried = None;
+    if let Some(mut gate) = gates.pop() {
+        tried = Some(answer_and_count(&mut gate, &question));
+    }
+    merger.close(rt);
+    tried
+}
+
+fn try_ask_both<R: Wait>(rt: &R, alloc: Global) -> Option<Tried> {
+    let question = get(alloc, b"/state")?;
+    let base = service(alloc)?;
+    let Ok((merger, mut gates)) = open(rt, alloc, base, 2, 1) else {
+        return None;
+    };
+    let mut tried = None;
+    if let (Some(mut one), Some(mut other)) = (gates.pop(), gates.pop()) {
+        tried = Some(Tried::of(ask_both(&mut one, &mut other, &question).is_ok()));
+    }
+    merger.close(rt);
+    tried
+}
+
+/// What a gate answers once all that is pending is published.
+fn status_after_publish<R: Wait>(
+    rt: &R,
+    merger: &mut Merger,
+    gate: &mut Gate,
+    question: &Request,
+) -> Option<u16> {
+    merger.publish(rt).ok()?;
+    let reply = gate.answer(question).ok()?;
+    Some(reply.status)
+}
+
+/// Appends a peer's delta: where it is refused no cursor moves and nothing is pending.
+fn append_delta<R: Wait>(
+    rt: &R,
+    merger: &mut Merger,
+    gate: &mut Gate,
+    delta: &Delta,
+    question: &Request,
+) -> Tried {
+    if merger.append_delta(1, delta).is_ok() {
+        return Tried::Answered;
+    }
+    let is_as_before = merger.cursor(1).is_none()
+        && status_after_publish(rt, merger, gate, question) == Some(404);
+    let is_repeated = merger.append_delta(1, delta).is_ok()
+        && status_after_publish(rt, merger, gate, question) == Some(302);
+    Tried::of_change(false, is_as_before, is_repeated)
+}
+
+fn try_append_delta<R: Wait>(rt: &R, alloc: Global) -> Option<Tried> {
+    let delta = read_delta(alloc, DELTA).ok()?;
+    let question = get(alloc, b"/timegate/http://a.example/")?;
+    let base = service(alloc)?;
+    let Ok((mut merger, mut gates)) = open(rt, alloc, base, 1, 1) else {
+        return None;
+    };
+    let mut tried = None;
+    if let Some(mut gate) = gates.pop() {
+        tried = Some(append_delta(rt, &mut merger, &mut gate, &delta, &question));
+    }
+    merger.close(rt);
+    tried
+}
+
+fn try_on_gate<R: Wait>(rt: &R, alloc: Global, call: OnGate) -> Option<Tried> {
+    match call {
+        OnGate::Open => try_open(rt, alloc),
+        OnGate::GateAnswerThen => try_answer_then(rt, alloc),
+        OnGate::AskBoth => try_ask_both(rt, alloc),
+        OnGate::MergerAppendDelta => try_append_delta(rt, alloc),
+    }
+}
+
+fn try_respond<R: Wait + Clone + Drop>(rt: &R, alloc: Global) -> Option<Tried> {
+    let question = get(alloc, b"/state")?;
+    let own = rt.clone().ok()?;
+    let service = GateService::new(alloc, own, Steady { alloc }).ok()?;
+    Some(Tried::of(service.respond(&question).is_ok()))
+}
+
+/// Makes each call, and names it.
+pub(crate) fn perform<R: Wait + Print + Eprint + Clone + Drop>(
+    rt: &R,
+    alloc: Global,
+) -> Result<()> {
+    for call in ON_EDGE {
+        insist(rt, call, || try_on_edge(alloc, call))?;
+    }
+    for call in ON_GATES {
+        insist(rt, call, || try_on_gate(rt, alloc, call))?;
+    }
+    insist(
+        rt,
+        Responding::GateServiceRespond,
+        || try_respond(rt, alloc),
+    )
+}
