@@ -1,4 +1,5 @@
 pub mod BlankLemmas
+pub mod BlockLemmas
 pub mod CivilLemmas
 pub mod ReadLemmas
 pub mod StandardFacts
