@@ -1,5 +1,4 @@
 pub mod BlankLemmas
-pub mod BlockLemmas
 pub mod CivilLemmas
 pub mod ReadLemmas
 pub mod StandardFacts

@@ -5,7 +5,6 @@ ghost use Rattle.memento_time.specs.Clock.{clock_text, day_of};
 ghost use Rattle.memento_time.specs.Second.{imf, Reads};
 ghost use Rattle.memento_time.specs.SecondOf.{second_of};
 
-use crate::blocks::is_same;
 use crate::moments::Moment;
 use std::marker::Model;
 
@@ -141,6 +140,18 @@ fn read_clock(text: &[u8; 29]) -> Option<u64>
     } else {
         None
     }
+}
+
+/// Whether the bytes are the same. Looks at all of them, because a loop without an early exit compares many at once.
+#[inline(always)]
+fn is_same<const N: usize>(a: &[u8; N], b: &[u8; N]) -> bool
+    ensures { IsTrue result → a.now ≡ b.now }
+{
+    let mut same = true;
+    for k in 0..N {
+        same &= a[k] == b[k];
+    }
+    same
 }
 
 /// The number that these two digits write; any number if they aren't digits.
