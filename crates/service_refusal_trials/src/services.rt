@@ -67,7 +67,7 @@ fn try_on_edge(alloc: Global, call: OnEdge) -> Option<Tried> {
     let is_answered = match call {
         OnEdge::ReadHost => read_host(alloc, "a.example:8080").is_ok(),
         OnEdge::AllowedAddresses => {
-            let address = SocketAddr::new(IpAddr::V4(Ipv4Addr::new(192, 0, 2, 1)), 80);
+            let address = SocketAddr::new(IpAddr::V4(Ipv4Addr::new(9, 9, 9, 9)), 80);
             allowed_addresses(alloc, &Host::Domain("a.example"), &[address]).is_ok()
         }
         OnEdge::RequestOf => request_of(alloc, &http::Request::new(alloc, ())).is_ok(),
