@@ -8,6 +8,8 @@
 #![tactic(auto)]
 
 ghost use Rattle.std.specs.Fn.{FnReturnsAt};
+ghost use Rattle.std.specs.Prelude.{◌≡◌, true, false, cond};
+ghost use Rattle.refused_calls.specs.declared.Tried.TheVariants.{Answered, Refused, Repeated, Changed};
 
 use anyhow::{Result, bail};
 use std::fmt::Debug;
@@ -25,7 +27,9 @@ pub enum Tried {
 
 impl Tried {
     /// What came of a call that changes nothing.
-    pub fn of(is_answered: bool) -> Tried {
+    pub fn of(is_answered: bool) -> Tried
+        ensures { result ≡ cond is_answered Answered Refused }
+    {
         if is_answered {
             Tried::Answered
         } else {
@@ -35,7 +39,12 @@ impl Tried {
 
     /// What came of a call that changes something: whether it was answered, whether all was as before where it wasn't,
     /// and whether it was answered then.
-    pub fn of_change(is_answered: bool, is_as_before: bool, is_repeated: bool) -> Tried {
+    pub fn of_change(is_answered: bool, is_as_before: bool, is_repeated: bool) -> Tried
+        ensures answered { is_answered ≡ true → result ≡ Answered }
+        ensures changed { is_answered ≡ false → is_as_before ≡ false → result ≡ Changed }
+        ensures repeated { is_answered ≡ false → is_as_before ≡ true
+            → result ≡ cond is_repeated Repeated Refused }
+    {
         if is_answered {
             Tried::Answered
         } else if !is_as_before {
