@@ -27,6 +27,19 @@ SLOW_TESTS = (
 TRIED = HERE / "tried"
 
 
+# How many seconds the tests of a crate may take without a proof: more than they do on a busy machine.
+PATIENCE = "900"
+
+
+def failed_test(said):
+    """The line of a test that failed, in what `rt try --test` said; None where there is none. One that didn't end in time
+    is called FAILED too, and says nothing of a bug."""
+    for found in re.finditer(r"^test .* FAILED\n(.*)$", said, re.M):
+        if "no-answer" not in found[1]:
+            return found[0].split("\n")[0]
+    return None
+
+
 def crate_of_tests(crate):
     return next((trials for trials, tested in TRIALS.items() if crate in tested), crate)
 
