@@ -8,7 +8,7 @@
 #![tactic(auto)]
 
 ghost use Rattle.std.specs.Fn.{FnReturnsAt};
-ghost use Rattle.std.specs.Prelude.{◌≡◌, true, false, cond};
+ghost use Rattle.std.specs.Prelude.{◌≡◌, ◌⊎◌, true, false, cond, Some, IfOk};
 ghost use Rattle.refused_calls.specs.declared.Tried.TheVariants.{Answered, Refused, Repeated, Changed};
 
 use anyhow::{Result, bail};
@@ -30,11 +30,7 @@ impl Tried {
     pub fn of(is_answered: bool) -> Tried
         ensures { result ≡ cond is_answered Answered Refused }
     {
-        if is_answered {
-            Tried::Answered
-        } else {
-            Tried::Refused
-        }
+        Tried::of_change(is_answered, true, false)
     }
 
     /// What came of a call that changes something: whether it was answered, whether all was as before where it wasn't,
@@ -60,6 +56,7 @@ impl Tried {
 /// What came of a call, which is made again where what it is made on was refused.
 fn attempt<F: Fn() -> Option<Tried>>(call: F) -> Option<Tried>
     requires { F.IsAlwaysCallable call }
+    ensures { F.post call result }
 {
     match call() {
         Some(tried) => Some(tried),
@@ -74,6 +71,7 @@ pub fn insist<R: Print + Eprint, N: Debug + Copy, F: Fn() -> Option<Tried>>(
     call: F,
 ) -> Result<()>
     requires { F.IsAlwaysCallable call }
+    ensures { IfOk result (λ _. F.post call (Some Answered) ⊎ F.post call (Some Repeated)) }
 {
     println!(rt; "{name:?}")?;
     let tried = attempt(&call);
@@ -99,6 +97,7 @@ pub fn share<R: Print, N: Debug + Copy, F: Fn() -> Option<Tried>>(
     call: F,
 ) -> Result<()>
     requires { F.IsAlwaysCallable call }
+    ensures { IfOk result (λ _. F.post call (Some Answered)) }
 {
     println!(rt; "{name:?}, which asks for none")?;
     if attempt(call) != Some(Tried::Answered) {
@@ -110,6 +109,7 @@ pub fn share<R: Print, N: Debug + Copy, F: Fn() -> Option<Tried>>(
 /// What may be asked for again where a helper of these files is refused.
 pub fn again<T, F: Fn() -> Option<T>>(make: F) -> Result<T>
     requires { F.IsAlwaysCallable make }
+    ensures { IfOk result (λ made. F.post make (Some made)) }
 {
     match make() {
         Some(made) => Ok(made),
