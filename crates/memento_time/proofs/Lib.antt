@@ -11,3 +11,4 @@ pub mod FirstLemmas
 pub mod SetLemmas
 pub mod BuilderLemmas
 pub mod DayLemmas
+pub mod BlockLemmas
