@@ -1,7 +1,8 @@
 //! Looks at sixteen bytes of a text at a time.
-ghost use Rattle.std.specs.Prelude.{◌≡◌, ◌↔◌, ◌==◌, ◌≤◌, IsTrue, length, take};
+ghost use Rattle.std.specs.Prelude.{◌≡◌, ◌↔◌, ◌==◌, ◌≤◌, All, IsTrue, length, take};
 ghost use Rattle.std.specs.Cmp.Lexicographic.{pointwise, slice_cmp};
 ghost use Rattle.std.specs.Ordering.{nat_cmp};
+ghost use Rattle.memento_time.specs.Text.{IsCleanByte};
 
 use std::simd::prelude::*;
 
@@ -31,4 +32,36 @@ pub(crate) fn past_same_blocks<'a>(left: &'a [u8], right: &'a [u8]) -> (&'a [u8]
         other = &other[LANES..];
     }
     (one, other)
+}
+
+/// Whether the first sixteen bytes are clean.
+#[inline(always)]
+fn is_clean_block(text: &[u8]) -> bool
+    requires { LANES ≤ length text.now }
+    ensures { IsTrue result ↔ All IsCleanByte (take LANES text.now) }
+{
+    let block = u8x16::from_slice(text);
+    let unclean = block.simd_lt(u8x16::splat(0x21))
+        | block.simd_gt(u8x16::splat(0x7E))
+        | block.simd_eq(u8x16::splat(b'"'))
+        | block.simd_eq(u8x16::splat(b'<'))
+        | block.simd_eq(u8x16::splat(b'>'));
+    unclean.to_bitmask() == 0
+}
+
+/// Whether each byte is clean. The last block reaches back into the one before, so that no byte has to be tested alone.
+#[inline]
+pub(crate) fn are_clean_blocks(text: &[u8]) -> bool
+    requires { LANES ≤ length text.now }
+    ensures { IsTrue result ↔ All IsCleanByte text.now }
+{
+    let last = text.len() - LANES;
+    let mut start = 0;
+    while start < last {
+        if !is_clean_block(&text[start..]) {
+            return false;
+        }
+        start += LANES;
+    }
+    is_clean_block(&text[last..])
 }

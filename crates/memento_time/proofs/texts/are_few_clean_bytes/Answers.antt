@@ -3,7 +3,7 @@ use Rattle.std.specs.List.{list_all}
 use Rattle.std.proofs.lemmas.List.{take_all}
 use Rattle.memento_time.specs.Text.{is_clean_byte}
 use Rattle.memento_time.proofs.CleanLemmas.{clean_bytes, are_clean}
-use Rattle.memento_time.proofs.texts.are_clean_bytes.Goals as goal
+use Rattle.memento_time.proofs.texts.are_few_clean_bytes.Goals as goal
 
 pub returns : goal.returns
 returns c =
