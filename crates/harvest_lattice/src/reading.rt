@@ -79,6 +79,14 @@ impl<'a> Reading<'a> {
         }
     }
 
+    /// The greatest revision.
+    pub fn last(&self) -> &'a Part {
+        match self.later.last() {
+            Some(part) => part,
+            None => self.first,
+        }
+    }
+
     /// Appends copies of the mementos of each revision. After an error, some of them may be in the list.
     pub fn append_all(&self, list: &mut Vec<Memento>) -> Result<(), NoMemory>
         ensures { OnOk result (list.new.items ≡ list.old.items ++ items_of (map.entries self.now.revisions)) }

@@ -3,7 +3,7 @@ use crate::captures::{Capture, FIRST, ROOT, SECOND, THIRD, are, root};
 use crate::makers::{harvest, part_harvest};
 use anyhow::{Context, Result};
 use harvest_lattice::{Entry, Harvest, HarvestFault, Part, Row, State};
-use memento_sets::Mementos;
+use memento_sets::{Mementos, are_same};
 use memento_time::Memento;
 use std::alloc::Global;
 use std::test::*;
@@ -108,6 +108,38 @@ fn changes_are_what_is_news(rt: HostRuntime) -> Result<()> {
     assert!(rt; take_changes(&mut here, &there)? == 2);
     assert!(rt; there.le(&here) && here.len() == 3);
     assert!(rt; !is_news(&here, &whole(alloc, b"a1", 6, &[THIRD])?)?);
+    Ok(())
+}
+
+/// Whether the state's list of the root is shared by a copy of this harvest, which says the same as the harvest.
+fn is_shared(alloc: Global, state: &State, harvest: &Harvest) -> Result<bool> {
+    let copy = state.share_harvest(harvest)?;
+    let entry = entry_of_root(alloc, state)?;
+    let is_same = are_same(copy.mementos(), harvest.mementos());
+    Ok(is_same && copy.mementos().as_ptr() == entry.mementos(0).as_ptr())
+}
+
+/// Whether the state's list of the root is shared by a copy of this state, which has as much as the other.
+fn is_shared_with_all(alloc: Global, state: &State, other: &State) -> Result<bool> {
+    let copy = state.share_state(other)?;
+    let entry = entry_of_root(alloc, state)?;
+    let copied = entry_of_root(alloc, &copy)?;
+    let is_same = copy.le(other) && other.le(&copy);
+    Ok(is_same && copied.mementos(0).as_ptr() == entry.mementos(0).as_ptr())
+}
+
+#[test]
+fn copies_share_the_lists_that_are_kept(rt: HostRuntime) -> Result<()> {
+    let alloc = rt.alloc();
+    let mut state = State::new(alloc);
+    take(&mut state, &whole(alloc, b"a1", 1, &[FIRST, SECOND])?)?;
+    let again = whole(alloc, b"a1", 2, &[FIRST, SECOND])?;
+    assert!(rt; is_shared(alloc, &state, &again)?);
+    assert!(rt; !is_shared(alloc, &state, &whole(alloc, b"a1", 2, &[FIRST, THIRD])?)?);
+    let mut other = State::new(alloc);
+    take(&mut other, &again)?;
+    take(&mut other, &whole(alloc, b"b1", 1, &[FIRST])?)?;
+    assert!(rt; is_shared_with_all(alloc, &state, &other)?);
     Ok(())
 }
 

@@ -1,7 +1,7 @@
 //! Tests of `memento_sets`.
 use crate::captures::{Capture, FIRST, SECOND, THIRD, are};
 use anyhow::{Context, Result};
-use memento_sets::Mementos;
+use memento_sets::{Mementos, are_same};
 use memento_time::Memento;
 use std::alloc::Global;
 use std::test::*;
@@ -31,7 +31,7 @@ fn sets_are_united(rt: HostRuntime) -> Result<()> {
     assert!(rt; is_rest(alloc, &second, &all, &[FIRST])?);
     assert!(rt; !second.is_subset(&all));
     unite(&mut all, &second)?;
-    assert!(rt; second.is_subset(&all));
+    assert!(rt; second.is_subset(&all) && !are_same(second.as_slice(), all.as_slice()));
     assert!(rt; are(alloc, &all.into_vec(), &[FIRST, SECOND, THIRD])?);
     Ok(())
 }

@@ -10,9 +10,9 @@ use std::alloc::Global;
 use std::test::*;
 use text_trials::makers::original;
 
-/// Takes a copy of a merge.
+/// Takes a copy of a merge that shares the index's lists where they are the same.
 fn take_copy(index: &mut Index, merge: &Merge) -> Result<()> {
-    let copy = merge.try_clone()?;
+    let copy = merge.shared_with(index.state())?;
     index.absorb(&copy)?;
     Ok(())
 }

@@ -1,17 +1,14 @@
 -- A list that one archive alone shows.
 use Rattle.std.proofs.Common.{◌≡◌, ℕ, ◌+◌, ◌≤◌, ◌==◌, ◌&&◌, Bool, true, false, length, List, [], ◌∷◌, ◌++◌, refl, sym, ap, subst, arith, ◌∙◌, true≢false}
 use Rattle.std.specs.List.{AllByRecursion, list_all}
-use Rattle.std.specs.Bool.{Decides}
-use Rattle.std.specs.Cmp.Derive.{both_true}
-use Rattle.std.specs.Cmp.Lexicographic.{pointwise}
 use Rattle.std.proofs.lemmas.Bool.Decides.{Decides-eqb}
-use Rattle.std.proofs.lemmas.Slice.Eq.{bytes_eq-Decides}
 use Rattle.std.specs.List.Sorted.{IsStrictlySortedBy}
 use Rattle.std.specs.declared.cmp.Ordering.TheVariants.{Less}
 use Rattle.memento_time.specs.Mementos.{memento_cmp}
 use Rattle.memento_time.specs.declared.mementos.Memento.{Memento}
 use Rattle.memento_sets.specs.Sets as set
 use Rattle.memento_sets.specs.MementoSets.{Mementos}
+use Rattle.memento_sets.proofs.Same.{halves_true}
 use Rattle.memento_sets.proofs.Sets.{items_sorted}
 use Rattle.memento_index.specs.declared.counted.Counted.{Counted}
 use Rattle.memento_index.specs.declared.counted.Step.{Step}
@@ -68,28 +65,6 @@ all_counted old before s is = record {
     replaced_end before (set.items s) x,
   );
 }
-
-halves_true : (a b : Bool) → (a && b) ≡ true → (a ≡ true) × (b ≡ true)
-halves_true true b is = (refl, is)
-halves_true false b is = absurd (true≢false (sym is))
-
--- two mementos are the same where their moments and their texts are
-same_memento : Memento → Memento → Bool
-same_memento a b = (a.at == b.at) && pointwise ◌==◌ a.uri b.uri
-
-pub same_memento-Decides : (a b : Memento) → Decides ((a.at == b.at) && pointwise ◌==◌ a.uri b.uri) (a ≡ b)
-unfolding same_memento
-same_memento-Decides a b = (told, λ is. subst (λ m. same_memento a m ≡ true) is itself)
-  where
-    itself : same_memento a a ≡ true
-    itself = both_true ((Decides-eqb a.at a.at).1 refl) ((bytes_eq-Decides a.uri a.uri).1 refl)
-
-    told : same_memento a b ≡ true → a ≡ b
-    told is =
-        let halves = halves_true (a.at == b.at) (pointwise ◌==◌ a.uri b.uri) is in
-        let at : a.at ≡ b.at = (Decides-eqb a.at b.at).0 halves.0 in
-        let uri : a.uri ≡ b.uri = (bytes_eq-Decides a.uri b.uri).0 halves.1 in
-        λ i. record { at = at i; uri = uri i }
 
 -- a count of 1 beside each
 pub beside_ones : (ms : List Memento) (ns : List ℕ) → length ms ≡ length ns → list_all (λ n. n == 1) ns ≡ true → beside ms ns ≡ each_once ms

@@ -8,9 +8,9 @@ ghost use Rattle.memento_index.specs.Tallies.{each_once};
 
 use crate::counted::{Counted, Step, Steps};
 use crate::counts::recount;
-use crate::tally::{Tally, are_same};
+use crate::tally::Tally;
 use crate::wear::{Wear, bytes_of_steps};
-use memento_sets::Mementos;
+use memento_sets::{Mementos, are_same};
 use memento_time::{Memento, NoMemory};
 use std::alloc::Global;
 use std::marker::Model;

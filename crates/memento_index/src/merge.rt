@@ -32,6 +32,23 @@ impl Merge {
         }
     }
 
+    /// A copy. Where it has the mementos of the last revision that a state keeps of the same archive and original, it
+    /// shares the state's list.
+    pub fn shared_with(&self, state: &State) -> Result<Merge, NoMemory>
+        ensures { IfOk result (λ copy. copy ≡ self.now) }
+    {
+        match self {
+            Merge::Harvest(harvest) => {
+                let copy = state.share_harvest(harvest)?;
+                Ok(Merge::Harvest(copy))
+            }
+            Merge::State(other) => {
+                let copy = state.share_state(other)?;
+                Ok(Merge::State(copy))
+            }
+        }
+    }
+
     /// What of this is news to a state.
     pub(crate) fn changes(&self, state: &State) -> Result<Changes, NoMemory>
         ensures { IfOk result (IsNews state.now (lat (adds_of self.now))) }

@@ -6,8 +6,8 @@ ghost use Rattle.memento_index.specs.Counts.{mementos_of, AreBelow, IsTally};
 ghost use Rattle.memento_index.specs.Tallies.{each_once};
 
 use crate::counted::Counted;
-use memento_sets::packed;
-use memento_time::{Memento, NoMemory};
+use memento_sets::are_same;
+use memento_time::{Memento, NoMemory, packed};
 use std::alloc::Global;
 use std::marker::Model;
 
@@ -111,13 +111,6 @@ impl Tally {
         let count = self.counts.pop()?;
         Some(Counted { memento, count })
     }
-}
-
-/// Whether both lists have the same mementos in the same places.
-pub fn are_same(left: &[Memento], right: &[Memento]) -> bool
-    ensures { IsTrue result → left.now ≡ right.now }
-{
-    left == right
 }
 
 fn are_ones(counts: &[u64]) -> bool

@@ -5,3 +5,4 @@ pub mod Ordered
 pub mod Rising
 pub mod UnitedLemmas
 pub mod Searched
+pub mod Same

@@ -13,4 +13,4 @@ mod laws;
 mod mementos;
 
 pub use laws::one_list_of_a_set;
-pub use mementos::{Mementos, packed};
+pub use mementos::{Mementos, are_same};

@@ -10,7 +10,7 @@ ghost use Rattle.memento_time.specs.declared.mementos.Memento.{Memento};
 ghost use Rattle.memento_sets.specs.Sets as set;
 ghost use Rattle.memento_sets.specs.MementoSets.{IsSubset, mementos_rise, mementos_with};
 
-use memento_time::{Memento, MementosBuilder, NoMemory, in_order};
+use memento_time::{Memento, MementosBuilder, NoMemory, in_order, into_packed};
 use std::alloc::{AllocError, Global};
 use std::cmp::Ordering;
 use std::marker::Model;
@@ -104,11 +104,12 @@ impl Mementos {
         Ok(Mementos { list })
     }
 
-    /// A copy whose addresses share one buffer that holds nothing else: see `packed`.
-    pub fn packed(&self) -> Result<Mementos, NoMemory>
-        ensures { IfOk result (λ copy. copy ≡ self.now) }
+    /// The same set, with addresses that share one buffer that holds nothing else: see `memento_time::packed`. Nothing
+    /// is copied if that is so already.
+    pub fn packed(self) -> Result<Mementos, NoMemory>
+        ensures { IfOk result (λ packed. packed ≡ self) }
     {
-        let list = packed(*self.list.allocator(), &self.list)?;
+        let list = into_packed(*self.list.allocator(), self.list)?;
         Ok(Mementos { list })
     }
 
@@ -161,43 +162,17 @@ fn copy_missing(
     let mut rest = MementosBuilder::new(alloc);
     for memento in list {
         if !others.has(memento) {
-            append(&mut rest, memento)?;
+            rest.push_copy(memento)?;
         }
     }
     Ok(rest.build(alloc)?)
 }
 
-/// Copies whose addresses share one buffer that holds nothing else: they are *packed*. `NoMemory` also if the addresses
-/// together would have 4 GiB.
-///
-/// An address is a range of a buffer, and keeps the whole buffer alive. So a list is packed wherever a part outlives
-/// the rest: a harvest's list and that of a revision that is read, since a page or a text has more than their mementos;
-/// what one list has and another lacks (`Mementos::without`); what an entry of several revisions shows; and a list of
-/// an index in which more addresses began and ceased than it has.
-pub fn packed(alloc: Global, list: &[Memento]) -> Result<Vec<Memento>, NoMemory>
-    ensures { IfOk result (λ copies. copies.items ≡ list.now) }
+/// Whether both lists have the same mementos in the same places.
+pub fn are_same(left: &[Memento], right: &[Memento]) -> bool
+    ensures { IsTrue result ↔ (left.now ≡ right.now) }
 {
-    if let [memento] = list {
-        let uri = memento.uri.packed(alloc)?;
-        let at = memento.at;
-        return Ok(vec![in alloc; Memento { at, uri }]?);
-    }
-    let mut builder = MementosBuilder::new(alloc);
-    for memento in list {
-        append(&mut builder, memento)?;
-    }
-    Ok(builder.build(alloc)?)
-}
-
-/// Adds a memento, whose address is copied.
-fn append(builder: &mut MementosBuilder, memento: &Memento) -> Result<(), NoMemory>
-    ensures { OnOk result (builder.new ≡ builder.old ++ memento.now ∷ []) }
-{
-    // An address is clean.
-    match builder.push(memento.at, memento.uri.as_bytes()) {
-        Ok(()) => Ok(()),
-        Err(_) => Err(NoMemory),
-    }
+    left == right
 }
 
 /// How many mementos of a list in order are less than a memento.

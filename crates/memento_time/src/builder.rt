@@ -2,7 +2,7 @@
 ghost use Rattle.std.specs.Prelude.{◌≡◌, ◌↔◌, [], ◌∷◌, ◌++◌, IfOk, IsErrOf, OnOk, OnErr};
 ghost use Rattle.memento_time.specs.Text.{IsClean};
 
-use crate::faults::CleanFault;
+use crate::faults::{CleanFault, NoMemory};
 use crate::mementos::Memento;
 use crate::moments::Moment;
 use crate::texts::{Clean, is_clean};
@@ -51,8 +51,29 @@ impl MementosBuilder {
         if !is_clean(uri) {
             return Err(CleanFault::NotClean);
         }
+        match self.push_clean(at, uri) {
+            Ok(()) => Ok(()),
+            Err(NoMemory) => Err(CleanFault::NoMemory),
+        }
+    }
+
+    /// Adds a memento whose address is a copy of another one's. `NoMemory` also if the addresses together would have
+    /// 4 GiB.
+    pub fn push_copy(&mut self, memento: &Memento) -> Result<(), NoMemory>
+        ensures ok { OnOk result (self.new ≡ self.old ++ memento.now ∷ []) }
+        ensures err { OnErr result (self.new ≡ self.old) }
+    {
+        self.push_clean(memento.at, memento.uri.as_bytes())
+    }
+
+    /// Adds a memento and copies its address, which is a clean text.
+    fn push_clean(&mut self, at: Moment, uri: &[u8]) -> Result<(), NoMemory>
+        requires { IsClean uri.now }
+        ensures ok { OnOk result (self.new ≡ self.old ++ record { at = at; uri = uri.now } ∷ []) }
+        ensures err { OnErr result (self.new ≡ self.old) }
+    {
         if uri.len() > u32::MAX as usize - self.bytes.len() {
-            return Err(CleanFault::NoMemory);
+            return Err(NoMemory);
         }
         self.marks.reserve(1)?;
         self.bytes.extend_from_slice(uri)?;
@@ -78,4 +99,52 @@ impl MementosBuilder {
         }
         Ok(mementos)
     }
+}
+
+/// Copies whose addresses share one buffer that holds nothing else: they are *packed*. `NoMemory` also if the addresses
+/// together would have 4 GiB.
+///
+/// An address is a range of a buffer, and keeps the whole buffer alive. So a list is packed wherever a part outlives
+/// the rest: a harvest's list and that of a revision that is read, since a page or a text has more than their mementos;
+/// what one list has and another lacks; what an entry of several revisions shows; and a list of an index in which more
+/// addresses began and ceased than it has.
+pub fn packed(alloc: Global, list: &[Memento]) -> Result<Vec<Memento>, NoMemory>
+    ensures { IfOk result (λ copies. copies.items ≡ list.now) }
+{
+    if let [memento] = list {
+        let uri = memento.uri.packed(alloc)?;
+        let at = memento.at;
+        return Ok(vec![in alloc; Memento { at, uri }]?);
+    }
+    let mut builder = MementosBuilder::new(alloc);
+    for memento in list {
+        builder.push_copy(memento)?;
+    }
+    Ok(builder.build(alloc)?)
+}
+
+/// The list itself without its spare room, if it is packed already; otherwise what `packed` gives.
+pub fn into_packed(alloc: Global, mut list: Vec<Memento>) -> Result<Vec<Memento>, NoMemory>
+    ensures { IfOk result (λ copies. copies.items ≡ list.items) }
+{
+    if !are_packed(&list) {
+        return packed(alloc, &list);
+    }
+    list.shrink_to_fit();
+    Ok(list)
+}
+
+/// Whether the addresses of a list are all in one buffer, which takes no more bytes than they have together.
+fn are_packed(list: &[Memento]) -> bool {
+    let Some(first) = list.first() else {
+        return true;
+    };
+    let mut bytes: usize = 0;
+    for memento in list {
+        if !memento.uri.is_beside(&first.uri) {
+            return false;
+        }
+        bytes = bytes.saturating_add(memento.uri.as_bytes().len());
+    }
+    first.uri.room() <= bytes
 }

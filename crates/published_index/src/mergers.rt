@@ -62,17 +62,19 @@ impl Model for Merger {
 }
 
 impl Merger {
-    /// Appends a copy of the merge to what is pending.
+    /// Appends a copy of the merge to what is pending. The copy shares the published list of an entry whose mementos are
+    /// the same in the merge, so that a round that brings nothing new keeps no list of its own.
     pub fn append(&mut self, merge: &Merge) -> Result<(), NoMemory>
         ensures ok { OnOk result (self.new ≡ with_merge self.old merge.now) }
         ensures err { OnErr result (self.new ≡ self.old) }
     {
-        let copy = merge.try_clone()?;
+        let shown = self.writer.published().stamped.index().state();
+        let copy = merge.shared_with(shown)?;
         add(&mut self.writer, copy)
     }
 
     /// Appends a copy of the state of a peer's delta to what is pending, and moves the peer's cursor, if the delta
-    /// starts at the beginning or within what the cursor reaches.
+    /// starts at the beginning or within what the cursor reaches. The copy shares lists as that of `append` does.
     pub fn append_delta(&mut self, peer: u64, delta: &Delta) -> Result<(), TakeFault>
         ensures ok { OnOk result (self.new ≡ with_delta self.old peer delta.now) }
         ensures fits { OnOk result (rule.fits (map.get self.old.cursors peer) delta.now ≡ true) }
@@ -83,7 +85,9 @@ impl Merger {
             let held = self.cursors.held(peer);
             return Err(TakeFault::Gap { held });
         }
-        let (Ok(state), Ok(mut moved)) = (delta.state.try_clone(), self.cursors.try_clone()) else {
+        let shown = self.writer.published().stamped.index().state();
+        let (Ok(state), Ok(mut moved)) = (shown.share_state(&delta.state), self.cursors.try_clone())
+        else {
             return Err(TakeFault::NoMemory);
         };
         moved.advance(peer, delta)?;

@@ -1,6 +1,9 @@
-use Rattle.std.proofs.Common.{sym, subst, ◌∙◌}
-use Rattle.memento_sets.specs.MementoSets.{Mementos, IsSubset}
-use Rattle.harvest_lattice.proofs.Entries.{same_sets}
+use Rattle.std.proofs.Common.{◌≡◌, sym, ap, ◌∙◌}
+use Rattle.memento_time.specs.Mementos.{memento_cmp}
+use Rattle.memento_time.specs.declared.mementos.Memento.{Memento}
+use Rattle.memento_sets.specs.Sets as set
+use Rattle.memento_sets.specs.MementoSets.{Mementos}
+use Rattle.harvest_lattice.proofs.Entries.{same_items}
 use Rattle.harvest_lattice.proofs.part.Part.like.Goals as goal
 
 pub returns : goal.returns
@@ -8,10 +11,6 @@ returns c =
     let e = c.self.inside in
     let x = c.args.self.now in
     let y = c.args.other.now in
-    let into : IsSubset x.1 y.1 = subst (λ (s : Mementos). IsSubset s y.1) c.set-mine.ensures
-    (subst (λ (t : Mementos). IsSubset c.set-mine.result.now t) c.set-others.ensures
-    (c.is_subset.ensures.0 c.if-not-is_subset.false)) in
-    let back : IsSubset y.1 x.1 = subst (λ (s : Mementos). IsSubset s x.1) c.set-others.ensures
-    (subst (λ (t : Mementos). IsSubset c.set-others.result.now t) c.set-mine.ensures
-    (c.is_subset-2.ensures.0 c.if-not-is_subset-2.false)) in
-    (λ i. (e.revision, (c.in_ok-mementos.ensures ∙ sym (same_sets x.1 y.1 into back)) i)) ∙ (λ i. ((c.self.view_is i).0, x.1))
+    let items : set.items x.1 ≡ set.items y.1 = sym c.mementos.ensures
+    ∙ (c.are_same.ensures.0 c.if-not-are_same.false ∙ c.mementos-2.ensures) in
+    (λ i. (e.revision, (c.in_ok-mementos.ensures ∙ sym (same_items x.1 y.1 items)) i)) ∙ (λ i. ((c.self.view_is i).0, x.1))

@@ -14,5 +14,5 @@ returns-in-Some c same =
     ap (λ (s : Option Mementos). shared_or s c.self.inside.own) (sym (ap (option_map arc_value) c.in-Some.is))
     ∙ c.self.view_is in
     let items : set.items list ≡ c.args.mementos.now =
-    sym (c.as_slice.ensures ∙ ap (λ (s : Mementos). set.items s) c.deref.ensures) ∙ c.are_same.ensures same in
+    sym (c.as_slice.ensures ∙ ap (λ (s : Mementos). set.items s) c.deref.ensures) ∙ c.are_same.ensures.0 same in
     ap (λ (t : Tallied). t.entries) (sym now) ∙ ap (λ (ms : List Memento). each_once ms) items

@@ -1,6 +1,0 @@
-use Rattle.std.proofs.lemmas.Slice.Eq.{slice_eq-Decides}
-use Rattle.memento_index.proofs.Shared.{same_memento-Decides}
-use Rattle.memento_index.proofs.tally.are_same.Goals as goal
-
-pub returns : goal.returns
-returns c same = (slice_eq-Decides same_memento-Decides c.args.left.now c.args.right.now c.eq.result c.eq.ensures).0 same
