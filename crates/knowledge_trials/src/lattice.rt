@@ -111,35 +111,27 @@ fn changes_are_what_is_news(rt: HostRuntime) -> Result<()> {
     Ok(())
 }
 
-/// Whether the state's list of the root is shared by a copy of this harvest, which says the same as the harvest.
-fn is_shared(alloc: Global, state: &State, harvest: &Harvest) -> Result<bool> {
+/// Whether a copy that shares a state's lists says what the harvest says.
+fn is_copied(state: &State, harvest: &Harvest) -> Result<bool> {
     let copy = state.share_harvest(harvest)?;
-    let entry = entry_of_root(alloc, state)?;
     let is_same = are_same(copy.mementos(), harvest.mementos());
-    Ok(is_same && copy.mementos().as_ptr() == entry.mementos(0).as_ptr())
-}
-
-/// Whether the state's list of the root is shared by a copy of this state, which has as much as the other.
-fn is_shared_with_all(alloc: Global, state: &State, other: &State) -> Result<bool> {
-    let copy = state.share_state(other)?;
-    let entry = entry_of_root(alloc, state)?;
-    let copied = entry_of_root(alloc, &copy)?;
-    let is_same = copy.le(other) && other.le(&copy);
-    Ok(is_same && copied.mementos(0).as_ptr() == entry.mementos(0).as_ptr())
+    Ok(is_same && copy.revision() == harvest.revision() && copy.is_part() == harvest.is_part())
 }
 
 #[test]
-fn copies_share_the_lists_that_are_kept(rt: HostRuntime) -> Result<()> {
+fn copies_that_share_lists_are_the_same(rt: HostRuntime) -> Result<()> {
     let alloc = rt.alloc();
     let mut state = State::new(alloc);
     take(&mut state, &whole(alloc, b"a1", 1, &[FIRST, SECOND])?)?;
     let again = whole(alloc, b"a1", 2, &[FIRST, SECOND])?;
-    assert!(rt; is_shared(alloc, &state, &again)?);
-    assert!(rt; !is_shared(alloc, &state, &whole(alloc, b"a1", 2, &[FIRST, THIRD])?)?);
+    assert!(rt; is_copied(&state, &again)?);
+    assert!(rt; is_copied(&state, &part(alloc, 2, &[FIRST, THIRD])?)?);
+    assert!(rt; is_copied(&state, &whole(alloc, b"b1", 1, &[FIRST])?)?);
     let mut other = State::new(alloc);
     take(&mut other, &again)?;
     take(&mut other, &whole(alloc, b"b1", 1, &[FIRST])?)?;
-    assert!(rt; is_shared_with_all(alloc, &state, &other)?);
+    let copy = state.share_state(&other)?;
+    assert!(rt; copy.le(&other) && other.le(&copy));
     Ok(())
 }
 

@@ -104,8 +104,7 @@ impl Mementos {
         Ok(Mementos { list })
     }
 
-    /// The same set, with addresses that share one buffer that holds nothing else: see `memento_time::packed`. Nothing
-    /// is copied if that is so already.
+    /// The same set, with addresses that share one buffer that holds nothing else: see `memento_time::packed`.
     pub fn packed(self) -> Result<Mementos, NoMemory>
         ensures { IfOk result (λ packed. packed ≡ self) }
     {

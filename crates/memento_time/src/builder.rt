@@ -111,11 +111,6 @@ impl MementosBuilder {
 pub fn packed(alloc: Global, list: &[Memento]) -> Result<Vec<Memento>, NoMemory>
     ensures { IfOk result (λ copies. copies.items ≡ list.now) }
 {
-    if let [memento] = list {
-        let uri = memento.uri.packed(alloc)?;
-        let at = memento.at;
-        return Ok(vec![in alloc; Memento { at, uri }]?);
-    }
     let mut builder = MementosBuilder::new(alloc);
     for memento in list {
         builder.push_copy(memento)?;
@@ -123,28 +118,15 @@ pub fn packed(alloc: Global, list: &[Memento]) -> Result<Vec<Memento>, NoMemory>
     Ok(builder.build(alloc)?)
 }
 
-/// The list itself without its spare room, if it is packed already; otherwise what `packed` gives.
+/// The mementos of a list, packed. A single one stays in the list, and its address in its buffer if nothing else is
+/// there.
 pub fn into_packed(alloc: Global, mut list: Vec<Memento>) -> Result<Vec<Memento>, NoMemory>
-    ensures { IfOk result (λ copies. copies.items ≡ list.items) }
+    ensures { IfOk result (λ mementos. mementos.items ≡ list.items) }
 {
-    if !are_packed(&list) {
+    if list.len() != 1 {
         return packed(alloc, &list);
     }
+    list[0].uri = list[0].uri.packed(alloc)?;
     list.shrink_to_fit();
     Ok(list)
-}
-
-/// Whether the addresses of a list are all in one buffer, which takes no more bytes than they have together.
-fn are_packed(list: &[Memento]) -> bool {
-    let Some(first) = list.first() else {
-        return true;
-    };
-    let mut bytes: usize = 0;
-    for memento in list {
-        if !memento.uri.is_beside(&first.uri) {
-            return false;
-        }
-        bytes = bytes.saturating_add(memento.uri.as_bytes().len());
-    }
-    first.uri.room() <= bytes
 }

@@ -3,8 +3,8 @@ use crate::makers::{FIRST_DAY, THIRD_DAY, archive, harvest, mementos, original};
 use anyhow::Result;
 use harvest_lattice::{Entry, Harvest, Part, Row, State};
 use memento_index::{Index, Merge};
-use memento_sets::{Mementos, packed};
-use memento_time::{ArchiveName, Memento, Original};
+use memento_sets::Mementos;
+use memento_time::{ArchiveName, Memento, Original, into_packed, packed};
 use refused_calls::{Tried, again, insist, share};
 use replica_exchange::read_state;
 use std::alloc::Global;
@@ -68,22 +68,30 @@ fn set(alloc: Global, second: u64, uri: &[u8]) -> Option<Mementos> {
     Some(Mementos::of(list))
 }
 
+fn set_of_two(alloc: Global) -> Option<Mementos> {
+    let mut both = set(alloc, FIRST_DAY, FIRST)?;
+    both.absorb(set(alloc, THIRD_DAY, SECOND)?).ok()?;
+    Some(both)
+}
+
 /// Calls over sets.
 #[derive(Clone, Copy, Debug)]
 enum OnSet {
     MementosWithout,
     MementosPacked,
     Packed,
+    IntoPacked,
     MementosAbsorb,
     PartNew,
     PartTryClone,
     PartShare,
 }
 
-const ON_SETS: [OnSet; 5] = [
+const ON_SETS: [OnSet; 6] = [
     OnSet::MementosWithout,
     OnSet::MementosPacked,
     OnSet::Packed,
+    OnSet::IntoPacked,
     OnSet::MementosAbsorb,
     OnSet::PartNew,
 ];
@@ -101,8 +109,9 @@ fn try_set(alloc: Global, call: OnSet) -> Option<Tried> {
     let mine = set(alloc, THIRD_DAY, SECOND)?;
     let is_answered = match call {
         OnSet::MementosWithout => mine.without(&Mementos::of(Vec::new(alloc))).is_ok(),
-        OnSet::MementosPacked => mine.packed().is_ok(),
+        OnSet::MementosPacked => set_of_two(alloc)?.packed().is_ok(),
         OnSet::Packed => packed(alloc, mine.as_slice()).is_ok(),
+        OnSet::IntoPacked => into_packed(alloc, set_of_two(alloc)?.into_vec()).is_ok(),
         OnSet::MementosAbsorb => {
             let one = set(alloc, FIRST_DAY, FIRST)?;
             let other = set(alloc, FIRST_DAY, FIRST)?;
@@ -190,6 +199,7 @@ enum Harvesting {
     HarvestNew,
     HarvestNewPart,
     HarvestTryClone,
+    StateShareHarvest,
 }
 
 fn try_harvest(known: &Known, call: Harvesting) -> Option<Tried> {
@@ -200,6 +210,7 @@ fn try_harvest(known: &Known, call: Harvesting) -> Option<Tried> {
             Harvest::new_part(known.archive, &known.original, 1, list).is_ok()
         }
         Harvesting::HarvestTryClone => known.harvest.try_clone().is_ok(),
+        Harvesting::StateShareHarvest => known.standing.share_harvest(&known.harvest).is_ok(),
     };
     Some(Tried::of(is_answered))
 }
@@ -211,19 +222,23 @@ enum OnState {
     StateChanges,
     StateChangesBy,
     StateTryClone,
+    StateShareState,
     StateShown,
     IndexChanges,
     MergeTryClone,
+    MergeSharedWith,
 }
 
-const ON_STATES: [OnState; 7] = [
+const ON_STATES: [OnState; 9] = [
     OnState::StateOfRows,
     OnState::StateChanges,
     OnState::StateChangesBy,
     OnState::StateTryClone,
+    OnState::StateShareState,
     OnState::StateShown,
     OnState::IndexChanges,
     OnState::MergeTryClone,
+    OnState::MergeSharedWith,
 ];
 
 fn try_state(known: &Known, call: OnState) -> Option<Tried> {
@@ -236,9 +251,11 @@ fn try_state(known: &Known, call: OnState) -> Option<Tried> {
         OnState::StateChanges => known.standing.changes(&known.coming).is_ok(),
         OnState::StateChangesBy => known.standing.changes_by(&known.harvest).is_ok(),
         OnState::StateTryClone => known.standing.try_clone().is_ok(),
+        OnState::StateShareState => known.standing.share_state(&known.coming).is_ok(),
         OnState::StateShown => known.standing.shown(&known.original).is_ok(),
         OnState::IndexChanges => Index::new(alloc).changes(&merge(&known.coming)?).is_ok(),
         OnState::MergeTryClone => merge(&known.coming)?.try_clone().is_ok(),
+        OnState::MergeSharedWith => merge(&known.coming)?.shared_with(&known.standing).is_ok(),
     };
     Some(Tried::of(is_answered))
 }
@@ -347,8 +364,10 @@ fn perform_harvests(rt: &HostRuntime, known: &Known) -> Result<()> {
     for call in [Harvesting::HarvestNew, Harvesting::HarvestNewPart] {
         insist(rt, call, || try_harvest(known, call))?;
     }
-    let copy = Harvesting::HarvestTryClone;
-    share(rt, copy, || try_harvest(known, copy))
+    for call in [Harvesting::HarvestTryClone, Harvesting::StateShareHarvest] {
+        share(rt, call, || try_harvest(known, call))?;
+    }
+    Ok(())
 }
 
 fn perform_states(rt: &HostRuntime, known: &Known) -> Result<()> {

@@ -147,6 +147,7 @@ fn try_writing(alloc: Global, call: Writing) -> Option<Tried> {
 enum Stepping {
     LinkReaderRead,
     MementosBuilderPush,
+    MementosBuilderPushCopy,
     MementosBuilderBuild,
 }
 
@@ -169,6 +170,18 @@ fn push(alloc: Global) -> Option<Tried> {
     builder.push(at, URI).ok()?;
     let is_answered = builder.push(at, ROOT).is_ok();
     let is_repeated = !is_answered && builder.push(at, ROOT).is_ok();
+    let list = builder.build(alloc).ok()?;
+    Some(Tried::of_change(is_answered, list.len() == 2, is_repeated))
+}
+
+/// The same, where what is added is a copy.
+fn push_copy(alloc: Global) -> Option<Tried> {
+    let list = mementos(alloc, FIRST_DAY, ROOT).ok()?;
+    let memento = list.first()?;
+    let mut builder = MementosBuilder::new(alloc);
+    builder.push(memento.at, URI).ok()?;
+    let is_answered = builder.push_copy(memento).is_ok();
+    let is_repeated = !is_answered && builder.push_copy(memento).is_ok();
     let list = builder.build(alloc).ok()?;
     Some(Tried::of_change(is_answered, list.len() == 2, is_repeated))
 }
@@ -293,6 +306,7 @@ pub(crate) fn perform(rt: &HostRuntime, alloc: Global) -> Result<()> {
 fn perform_steps(rt: &HostRuntime, alloc: Global) -> Result<()> {
     insist(rt, Stepping::LinkReaderRead, || read_crowded(alloc))?;
     insist(rt, Stepping::MementosBuilderPush, || push(alloc))?;
+    insist(rt, Stepping::MementosBuilderPushCopy, || push_copy(alloc))?;
     insist(rt, Stepping::MementosBuilderBuild, || build(alloc))
 }
 
