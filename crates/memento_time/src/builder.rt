@@ -118,15 +118,59 @@ pub fn packed(alloc: Global, list: &[Memento]) -> Result<Vec<Memento>, NoMemory>
     Ok(builder.build(alloc)?)
 }
 
-/// The mementos of a list, packed. A single one stays in the list, and its address in its buffer if nothing else is
-/// there.
+/// The mementos of a list, packed. No address is copied if they already stand one after the other in a buffer of just
+/// their length, as those of a page do that is in order and has no repeats.
 pub fn into_packed(alloc: Global, mut list: Vec<Memento>) -> Result<Vec<Memento>, NoMemory>
     ensures { IfOk result (λ mementos. mementos.items ≡ list.items) }
 {
-    if list.len() != 1 {
+    if !are_in_a_row(&list) || !share_first(&mut list)? {
         return packed(alloc, &list);
     }
-    list[0].uri = list[0].uri.packed(alloc)?;
     list.shrink_to_fit();
     Ok(list)
+}
+
+/// Whether the addresses stand one after the other, and the first one's buffer has just their length. They may stand in
+/// several buffers.
+fn are_in_a_row(list: &[Memento]) -> bool {
+    let mut end: usize = 0;
+    for memento in list {
+        if memento.uri.start() != end {
+            return false;
+        }
+        end = end.saturating_add(memento.uri.as_bytes().len());
+    }
+    match list.first() {
+        Some(first) => first.uri.room() == end,
+        None => true,
+    }
+}
+
+/// Has the addresses share the first one's buffer, up to one that it lacks. Returns whether it has all of them.
+fn share_first(list: &mut Vec<Memento>) -> Result<bool, NoMemory>
+    ensures { list.new.items ≡ list.old.items }
+{
+    let Some(first) = list.first() else {
+        return Ok(true);
+    };
+    let first = first.uri.try_clone()?;
+    for k in 0..list.len() {
+        if !share(&mut list[k], &first)? {
+            return Ok(false);
+        }
+    }
+    Ok(true)
+}
+
+/// Has a memento's address share the buffer of another one, if that has it at the same place.
+fn share(memento: &mut Memento, first: &Clean) -> Result<bool, NoMemory>
+    ensures { memento.new ≡ memento.old }
+{
+    match memento.uri.moved_to(first)? {
+        Some(uri) => {
+            memento.uri = uri;
+            Ok(true)
+        }
+        None => Ok(false),
+    }
 }
