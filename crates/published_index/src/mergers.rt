@@ -62,8 +62,8 @@ impl Model for Merger {
 }
 
 impl Merger {
-    /// Appends a copy of the merge to what is pending. The copy shares the published list of an entry whose mementos are
-    /// the same in the merge, so that a round that brings nothing new keeps no list of its own.
+    /// Appends a copy of the merge to what is pending. The copy shares the published list of an entry whose mementos
+    /// are the same in the merge, so that a round that brings nothing new keeps no list of its own.
     pub fn append(&mut self, merge: &Merge) -> Result<(), NoMemory>
         ensures ok { OnOk result (self.new ≡ with_merge self.old merge.now) }
         ensures err { OnErr result (self.new ≡ self.old) }
