@@ -21,8 +21,8 @@ fn are_same_blocks(left: &[u8], right: &[u8]) -> bool
     differ.to_bitmask() == 0
 }
 
-/// Whether two texts of one length are the same. The last block reaches back into the one before, so that no byte has to
-/// be compared alone.
+/// Whether two texts of one length are the same. The last block reaches back into the one before, so that no byte has
+/// to be compared alone.
 #[inline]
 pub(crate) fn are_same_long(left: &[u8], right: &[u8]) -> bool
     requires long { LANES ≤ length left.now }
@@ -60,8 +60,8 @@ fn compare_blocks(left: &[u8], right: &[u8]) -> Ordering
     }
 }
 
-/// The order of two texts of which neither is too short for a block. The last block reaches back into the one before, so
-/// that no byte has to be compared alone.
+/// The order of two texts of which neither is too short for a block. The last block reaches back into the one before,
+/// so that no byte has to be compared alone.
 #[inline]
 fn compare_long(left: &[u8], right: &[u8]) -> Ordering
     requires left { LANES ≤ length left.now }
