@@ -1,5 +1,5 @@
 //! Reads an entry.
-ghost use Rattle.std.specs.Prelude.{◌≡◌, ◌↔◌, ◌<◌, ◌∷◌, ◌++◌, [], IsTrue, IfOk, OnOk, Some, slice_get, option_copied};
+ghost use Rattle.std.specs.Prelude.{◌≡◌, ◌↔◌, ◌<◌, ◌-◌, ◌∷◌, ◌++◌, [], IsTrue, IfOk, OnOk, Some, slice_get, option_copied};
 ghost use Rattle.std.specs.List.{All};
 ghost use Rattle.std.specs.FinMap as map;
 ghost use Rattle.memento_sets.specs.Sets as set;
@@ -80,7 +80,9 @@ impl<'a> Reading<'a> {
     }
 
     /// The greatest revision.
-    pub fn last(&self) -> &'a Part {
+    pub fn last(&self) -> &'a Part
+        ensures { slice_get (map.entries self.now.revisions) (map.len self.now.revisions - 1) ≡ Some result.now }
+    {
         match self.later.last() {
             Some(part) => part,
             None => self.first,

@@ -82,3 +82,25 @@ pub(crate) fn take_texts<R: Print + AllocGlobal>(rt: &R, count: u32) -> Result<(
     }
     tell(rt, &index)
 }
+
+/// Merges that an index tries `count` times to take, of 1,000 mementos of each original. Prints how many were refused
+/// memory, which has to be seen to from outside.
+pub(crate) fn try_again<R: Print + AllocGlobal>(rt: &R, count: u32) -> Result<()> {
+    let alloc: Global = rt.alloc();
+    let mut index = begun(alloc)?;
+    let mut merges = Vec::new(alloc);
+    for number in 0..ORIGINALS {
+        let taken = harvest(alloc, "one.example", number, 1, 1000)?;
+        merges.push(Merge::Harvest(taken))?;
+    }
+    let mut refused: u32 = 0;
+    for _ in 0..count {
+        for merge in &merges {
+            if index.absorb(merge).is_err() {
+                refused = refused.saturating_add(1);
+            }
+        }
+    }
+    println!(rt; "{refused}")?;
+    Ok(())
+}

@@ -13,6 +13,8 @@
 //! - `layer_bench rounds COUNT`: fills it with these in COUNT revisions, each of which has one memento more.
 //! - `layer_bench repeats COUNT`: fills it with these in one revision that comes COUNT times, each time with one more.
 //! - `layer_bench texts COUNT`: fills an index from COUNT texts of states, each of which has one key more.
+//! - `layer_bench refused COUNT`: has an index try COUNT times to take 1,000 mementos of each of ten originals, and
+//!   goes on where memory is refused.
 //! - `layer_bench stamped COUNT`: takes these mementos with a replica that stamps its entries.
 //! - `layer_bench last COUNT`, `layer_bench all COUNT`: takes them too, and writes 10,000 times the delta with the last
 //!   merge, or ten times that with all merges.
@@ -56,6 +58,7 @@ fn measure(rt: &HostRuntime, kind: &str, count: u32) -> Result<()> {
         "rounds" => growth::take_rounds(rt, count),
         "repeats" => growth::take_repeats(rt, count),
         "texts" => growth::take_texts(rt, count),
+        "refused" => growth::try_again(rt, count),
         "stamped" => deltas::fill(rt, count),
         "last" => deltas::write_last(rt, count),
         "all" => deltas::write_all(rt, count),

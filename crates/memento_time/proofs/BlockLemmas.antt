@@ -5,7 +5,7 @@ use Rattle.std.proofs.lemmas.Bool.Decides.{nat_tests}
 use Rattle.std.proofs.Math.Bool.{not-not}
 use Rattle.std.proofs.Math.Seq.{take-add}
 use Rattle.std.proofs.lemmas.Bool.{agree_below_at}
-use Rattle.std.proofs.lemmas.List.{drop-drop, length-map, map-id, take-append-drop, take-take}
+use Rattle.std.proofs.lemmas.List.{drop-drop, length-map, map-id, take-append-drop, take-take, take_rest}
 use Rattle.std.proofs.lemmas.List.Elements.{All-append, All-drop, All-same}
 use Rattle.std.proofs.lemmas.List.Sums.{prefix_len_stops}
 use Rattle.std.proofs.lemmas.Map.Lookups.{exact_bytes}
@@ -63,6 +63,22 @@ order_of_ends zero (x ∷ xs) (y ∷ ys) h = absurd (omega arith)
 order_of_ends (suc n) [] ys h = absurd (omega arith)
 order_of_ends (suc n) (x ∷ xs) [] h = absurd (omega arith)
 order_of_ends (suc n) (x ∷ xs) (y ∷ ys) h = grind (arith, nat_tests, order_of_ends n xs ys (omega arith))
+
+-- two texts have the same front of `start` bytes, and it ends within both
+pub record HaveSameFront (xs ys : List ℕ) (start : ℕ) : Type 0 where
+  pub same : take start xs ≡ take start ys
+  pub within_left : start ≤ length xs
+  pub within_right : start ≤ length ys
+
+-- the first block of the slice from `start` on is the block at `start`
+pub block_of_rest : (xs : List ℕ) (start : ℕ) → take 16 (take (length xs - start) (drop start xs)) ≡ take 16 (drop start xs)
+block_of_rest xs start = ap (take 16) (take_rest xs start)
+
+-- the first blocks of two such slices are ordered as the blocks at `start`
+pub order_of_blocks : (xs ys : List ℕ) (start : ℕ)
+    → slice_cmp nat_cmp (take 16 (take (length xs - start) (drop start xs))) (take 16 (take (length ys - start) (drop start ys)))
+    ≡ slice_cmp nat_cmp (take 16 (drop start xs)) (take 16 (drop start ys))
+order_of_blocks xs ys start = λ i. slice_cmp nat_cmp (block_of_rest xs start i) (block_of_rest ys start i)
 
 -- the same front, and the same block after it
 pub same_more : (xs ys : List ℕ) (start : ℕ) → take start xs ≡ take start ys → take 16 (drop start xs) ≡ take 16 (drop start ys)

@@ -14,7 +14,8 @@ use Rattle.memento_time.specs.declared.faults.CleanFault.TheVariants.{NotClean, 
 use Rattle.replica_exchange.specs.Faults.{fault_of}
 use Rattle.text_fields.specs.Parts.{Lacks}
 use Rattle.text_fields.proofs.PartLemmas.{one_split, no_split}
-use Rattle.text_fields.proofs.DecimalLemmas.{decimal_lacks}
+use Rattle.text_fields.specs.Decimals.{BeginsWithDecimal}
+use Rattle.text_fields.proofs.DecimalLemmas.{decimal_lacks, one_leading}
 use Rattle.replica_exchange.specs.StateText.{whole_field}
 use Rattle.replica_exchange.specs.Parts.{IsWholeField, whole_ended}
 use Rattle.replica_exchange.specs.Spelling.{Spelling, Begins, Refuses, ended, field, number}
@@ -98,6 +99,20 @@ name_lacks text name = All-weaker IsNameByte (λ b. b ≢ 32) name_byte text nam
 
 pub number_once : (byte : ℕ) → byte < 48 → Once (number byte)
 number_once byte low = ended_once (λ n. n < 2 ^ 64) decimal byte (decimal_lacks byte low) decimal_injective
+
+-- what a number's end byte follows is the decimal that the text begins with
+number_leads : (byte : ℕ) → byte < 48 → (text : List ℕ) (n : ℕ) (rest : List ℕ) → Begins (number byte) text n rest → BeginsWithDecimal text n (byte ∷ rest)
+number_leads byte low text n rest begins = record {
+  small = begins.is;
+  whole = regrouped (λ n. n < 2 ^ 64) decimal byte text n rest begins;
+  ended = λ digit. omega (arith, low, digit);
+}
+
+-- a text whose decimal another byte follows begins with no number
+pub number_refused : (byte : ℕ) → byte < 48 → (text : List ℕ) (m : ℕ) (tail : List ℕ) → BeginsWithDecimal text m tail → ((rest : List ℕ) → ¬ (tail ≡ byte ∷ rest))
+    → (n : ℕ) (rest : List ℕ) → ¬ Begins (number byte) text n rest
+number_refused byte low text m tail leads other n rest begins =
+    other rest (one_leading text m n tail (byte ∷ rest) leads (number_leads byte low text n rest begins)).1
 
 pub archive_once : Once (field IsArchiveName 32)
 archive_once = ended_once IsArchiveName (λ text. text) 32 name_lacks (λ x y _ _ same. same)

@@ -7,7 +7,7 @@ ghost use Rattle.replica_exchange.specs.Spelling.{Begins, Refuses, field, number
 use crate::fault::StateFault;
 use memento_time::Original;
 use std::alloc::Global;
-use text_fields::{read_decimal, split_once};
+use text_fields::{leading_decimal, split_once};
 
 /// The field before the first occurrence of a byte, and what follows that byte.
 pub fn cut(text: &[u8], byte: u8) -> Result<(&[u8], &[u8]), StateFault>
@@ -36,11 +36,16 @@ pub fn read_number(text: &[u8], end: u8) -> Result<(u64, &[u8]), StateFault>
     ensures found { IfOk result (λ read. Begins (number end) text.now read.0 read.1.now) }
     ensures refused { IfErr result (λ fault. Refuses (number end) text.now fault) }
 {
-    let (digits, rest) = cut(text, end)?;
-    match read_decimal(digits) {
-        Some(number) => Ok((number, rest)),
-        None => Err(StateFault::NotState),
+    let Some((number, behind)) = leading_decimal(text) else {
+        return Err(StateFault::NotState);
+    };
+    let [byte, rest @ ..] = behind else {
+        return Err(StateFault::NotState);
+    };
+    if *byte != end {
+        return Err(StateFault::NotState);
     }
+    Ok((number, rest))
 }
 
 /// An original and the end of its line, and what follows. The original has a buffer of its own, since a state keeps it

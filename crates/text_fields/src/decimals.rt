@@ -1,11 +1,11 @@
 //! Decimals of 64-bit numbers.
-ghost use Rattle.std.specs.Prelude.{◌≡◌, ◌↔◌, ℕ, ◌+◌, ◌-◌, ◌*◌, ◌^◌, ◌<◌, ◌++◌, length};
+ghost use Rattle.std.specs.Prelude.{◌≡◌, ◌↔◌, ℕ, List, ◌+◌, ◌-◌, ◌*◌, ◌^◌, ◌<◌, ◌++◌, length, drop};
 ghost use Rattle.std.specs.Prelude.{slice_index, IsTrue, IfSome, IfNone, OnOk, OnErr};
 ghost use Rattle.std.specs.Option.{SomeIff};
 ghost use Rattle.std.specs.Int.{IsInRange};
 ghost use Rattle.std.specs.Fmt.{decimal};
-ghost use Rattle.std.specs.Str.Parse.{AllDigits, digits_value};
-ghost use Rattle.text_fields.specs.Decimals.{IsDecimal, number_of};
+ghost use Rattle.text_fields.specs.Decimals.{IsDecimal, number_of, Writes, IsTooLarge};
+ghost use Rattle.text_fields.specs.Decimals.{BeginsOtherwise, BeginsWithDecimal};
 
 use itoa::Buffer;
 use std::alloc::AllocError;
@@ -31,16 +31,37 @@ fn append_digit(number: u64, digit: u8) -> Option<u64>
     number.checked_mul(10)?.checked_add(u64::from(digit - b'0'))
 }
 
-/// The number that digits write, however many zeros are in front.
-fn read_digits(digits: &[u8]) -> Option<u64>
-    ensures { let value = digits_value 10 digits.now in
-        SomeIff result (AllDigits 10 digits.now × (value < 2 ^ 64)) value }
+/// So many digits can't write a number of more than 64 bits.
+const FEW: usize = 19;
+
+/// The number that the first digits of a text write, `FEW` of them at most, and how many they are.
+#[inline]
+fn read_few(text: &[u8]) -> (u64, usize)
+    ensures { Writes text.now result.1 result.0 }
 {
-    let mut number = 0;
-    for digit in digits {
-        number = append_digit(number, *digit)?;
+    let end = text.len().min(FEW);
+    let mut number: u64 = 0;
+    let mut count = 0;
+    while count < end && text[count].is_ascii_digit() {
+        number = number * 10 + u64::from(text[count] - b'0');
+        count += 1;
     }
-    Some(number)
+    (number, count)
+}
+
+/// Reads on where so many digits are read, which write this number: the number that all digits at the front write, and
+/// how many they are. `None` if the number is too large.
+fn read_on(text: &[u8], mut number: u64, mut count: usize) -> Option<(u64, usize)>
+    requires { Writes text.now count number }
+    ensures found { IfSome result (λ read. Writes text.now read.1 read.0) }
+    ensures stops { IfSome result (λ read. BeginsOtherwise (drop read.1 text.now)) }
+    ensures none { IfNone result (IsTooLarge text.now) }
+{
+    while count < text.len() && text[count].is_ascii_digit() {
+        number = append_digit(number, text[count])?;
+        count += 1;
+    }
+    Some((number, count))
 }
 
 /// Whether there are digits, and no zero in front of another digit.
@@ -55,14 +76,28 @@ fn has_decimal_front(digits: &[u8]) -> bool
     }
 }
 
+/// The 64-bit number whose decimal a text begins with, and what follows it, which begins with no digit.
+pub fn leading_decimal(text: &[u8]) -> Option<(u64, &[u8])>
+    ensures found { IfSome result (λ read. BeginsWithDecimal text.now read.0 read.1.now) }
+    ensures none { IfNone result ((n : ℕ) (rest : List ℕ) → ¬ BeginsWithDecimal text.now n rest) }
+{
+    let (number, count) = read_few(text);
+    let (number, count) = read_on(text, number, count)?;
+    if !has_decimal_front(&text[..count]) {
+        return None;
+    }
+    Some((number, &text[count..]))
+}
+
 /// The 64-bit number whose decimal this is.
 pub fn read_decimal(digits: &[u8]) -> Option<u64>
     ensures found { IfSome result (IsDecimal digits.now) }
     ensures none { IfNone result ((n : ℕ) → ¬ IsDecimal digits.now n) }
     ensures value { result ≡ number_of digits.now }
 {
-    if !has_decimal_front(digits) {
+    let (number, rest) = leading_decimal(digits)?;
+    if !rest.is_empty() {
         return None;
     }
-    read_digits(digits)
+    Some(number)
 }

@@ -1,8 +1,8 @@
 //! The fields and the decimals of a text's lines (`text_fields`).
 use std::test::Fail;
 use text_fields::{
-    decimals_are_read_back, next_field, next_line, parts_are_read_back, read_decimal, split_once,
-    write_decimal,
+    decimals_are_read_back, leading_decimal, next_field, next_line, parts_are_read_back,
+    read_decimal, split_once, write_decimal,
 };
 
 #[test]
@@ -26,6 +26,27 @@ fn decimals(rt: HostRuntime) -> Result<(), Fail> {
     write_decimal(&mut out, u64::MAX)?;
     assert!(rt; &out[1..] == most.as_slice());
     Ok(())
+}
+
+#[test]
+fn leading_decimals(rt: HostRuntime) {
+    let most = b"18446744073709551615/";
+    assert!(rt; leading_decimal(b"0:7") == Some((0, b":7".as_slice())));
+    assert!(rt; leading_decimal(b"1262304000 x") == Some((1_262_304_000, b" x".as_slice())));
+    assert!(rt;
+        leading_decimal(b"9999999999999999999") == Some((9_999_999_999_999_999_999, b"".as_slice()))
+    );
+    assert!(rt; leading_decimal(most) == Some((u64::MAX, b"/".as_slice())));
+    for text in [
+        b"18446744073709551616".as_slice(),
+        b"100000000000000000000 ",
+        b"00000000000000000000001",
+        b"007",
+        b":7",
+        b"",
+    ] {
+        assert!(rt; leading_decimal(text).is_none());
+    }
 }
 
 #[test]

@@ -1,6 +1,6 @@
 use Rattle.std.proofs.Common.{◌≡◌, ◌+◌, ◌-◌, true, length, take, drop, sym, ap, ◌∙◌, arith, rules}
-use Rattle.std.proofs.lemmas.List.{take_all, take_rest}
-use Rattle.memento_time.proofs.BlockLemmas.{same_less, same_more}
+use Rattle.std.proofs.lemmas.List.{take_all}
+use Rattle.memento_time.proofs.BlockLemmas.{block_of_rest, same_less, same_more}
 use Rattle.memento_time.proofs.blocks.are_same_long.Goals as goal
 
 pub returns-then-not-are_same_blocks : goal.returns-then-not-are_same_blocks
@@ -19,7 +19,7 @@ loop-start-preserved c =
     let right = c.args.right.now in
     let start = c.loop-start.start in
     let block : take 16 (drop start left) ≡ take 16 (drop start right) =
-    rw (← take_rest left start, ← take_rest right start) (c.are_same_blocks.ensures.0 c.if-not-are_same_blocks.false) in
+    sym (block_of_rest left start) ∙ c.are_same_blocks.ensures.0 c.if-not-are_same_blocks.false ∙ block_of_rest right start in
     record {
       same = same_more left right start c.loop-start.invariant.same block;
       within_left = omega arith;
@@ -33,7 +33,7 @@ returns c =
     let last = length left - 16 in (
       λ same.
           let block : take 16 (drop last left) ≡ take 16 (drop last right) =
-          rw (← take_rest left last, ← take_rest right last) (c.are_same_blocks-2.ensures.0 same) in
+          sym (block_of_rest left last) ∙ c.are_same_blocks-2.ensures.0 same ∙ block_of_rest right last in
           let front = same_less left right c.loop-start.start last (omega arith) c.loop-start.invariant.same in
           sym (take_all (last + 16) left (omega arith)) ∙ same_more left right last front block ∙ take_all (last + 16) right (omega arith),
       λ same. c.are_same_blocks-2.ensures.1 (ap (λ text. take 16 (take (length text - last) (drop last text))) same),

@@ -1,10 +1,15 @@
-use Rattle.std.proofs.Common.{◌<◌, ◌^◌}
-use Rattle.std.specs.Fmt.{decimal}
-use Rattle.text_fields.proofs.DecimalLemmas.{decimal_lacks}
-use Rattle.replica_exchange.proofs.SpellingLemmas.{ended_refused}
+use Rattle.std.proofs.Common.{length, ap, arith}
+use Rattle.replica_exchange.proofs.SpellingLemmas.{number_refused}
 use Rattle.replica_exchange.proofs.fields.read_number.Goals as goal
 
-pub returns-in-None-clause-refused : goal.returns-in-None-clause-refused
-returns-in-None-clause-refused c =
-    ended_refused (λ n. n < 2 ^ 64) decimal c.args.end (decimal_lacks c.args.end c.requires) _ _ _ c.in_ok-digits.ensures.found c.in_ok-digits.ensures.first
-    (λ n small same. c.in-None.ensures.none n (small, same))
+pub returns-in_default-behind-clause-refused : goal.returns-in_default-behind-clause-refused
+returns-in_default-behind-clause-refused c =
+    let decimal = c.in-Some in
+    number_refused c.args.end c.requires c.args.text.now decimal.number decimal.behind.now decimal.ensures.found
+    (λ rest same. let long = ap length same in omega (arith, long, c.in_default-behind.len_below))
+
+pub returns-then-byte-end-clause-refused : goal.returns-then-byte-end-clause-refused
+returns-then-byte-end-clause-refused c =
+    let decimal = c.in-Some in
+    number_refused c.args.end c.requires c.args.text.now decimal.number decimal.behind.now decimal.ensures.found
+    (λ rest same. c.if-byte-end.true (cc))

@@ -1,8 +1,5 @@
-use Rattle.std.proofs.Common.{◌≡◌, sym, ap, ◌∙◌}
-use Rattle.memento_time.specs.Mementos.{memento_cmp}
-use Rattle.memento_time.specs.declared.mementos.Memento.{Memento}
+use Rattle.std.proofs.Common.{◌≡◌, sym, ◌∙◌}
 use Rattle.memento_sets.specs.Sets as set
-use Rattle.memento_sets.specs.MementoSets.{Mementos}
 use Rattle.harvest_lattice.proofs.Entries.{same_items}
 use Rattle.harvest_lattice.proofs.part.Part.like.Goals as goal
 

@@ -2,7 +2,7 @@ use Rattle.std.proofs.Common.{◌≡◌, ◌++◌, List, [], map, sym, ap, subst
 use Rattle.std.specs.Prelude.{T}
 use Rattle.std.proofs.lemmas.List.{append-nil}
 use Rattle.std.specs.FinMap as fmap
-use Rattle.harvest_lattice.specs.Lattice.{Key, key_cmp, Kept, Entries, join}
+use Rattle.harvest_lattice.specs.Lattice.{Key, Kept, Entries, join}
 use Rattle.harvest_lattice.specs.Rows.{row_entry, keys_rise}
 use Rattle.harvest_lattice.proofs.Made.{map_of_entries}
 use Rattle.harvest_lattice.proofs.RowLemmas.{join_empty}
