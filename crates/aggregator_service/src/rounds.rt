@@ -71,7 +71,11 @@ impl Round {
         notes.tell(rt.alloc(), number, settings, round.jobs, log);
         round.pull_all(rt, number, settings, merger, log);
         match merger.publish(rt) {
-            Ok(_) => round.published = true,
+            Ok(_) => {
+                round.published = true;
+                // The next round begins with nothing of this one in the merger's log.
+                merger.settle(rt);
+            }
             Err(fault) => {
                 let line = Line::Unpublished {
                     round: number,

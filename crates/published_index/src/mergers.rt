@@ -9,7 +9,7 @@ use crate::faults::PublishRefused;
 use crate::marks::{Head, Mark};
 use crate::receipts::Receipt;
 use crate::rules::EditionWriter;
-use crate::writing::{add, offer, show};
+use crate::writing::{add, catch_up, offer, show};
 use core::mem::replace_with;
 use memento_index::Merge;
 use memento_time::NoMemory;
@@ -111,8 +111,8 @@ impl Merger {
     /// its merges (`a_publish_is_events`), for which enough numbers are left.
     ///
     /// It is refused if a growth is refused, and if there are more merges than a 64-bit number can count. It may wait
-    /// for gates that are about to answer from what was published before. Takes time in what is pending and in what the
-    /// previous publish took in.
+    /// for gates that are about to answer from what was published before. Takes time in what is pending, and in what the
+    /// previous publish took in unless `settle` was called since.
     pub fn publish<R: Wait>(&mut self, rt: &R) -> Result<Receipt, PublishRefused>
         ensures ok { OnOk result (self.new ≡ with_publish self.old) }
         ensures receipt { IfOk result (λ told. told ≡ receipt_of self.new) }
@@ -129,6 +129,15 @@ impl Merger {
         self.mark = self.mark.record_success(rt, &self.head);
         self.last_success = self.mark.copy();
         Ok(self.tell())
+    }
+
+    /// Has the copy that gates no longer enter take in what the last publish showed, which the log otherwise keeps for
+    /// the next publish. Nothing else changes: it does nothing while a merge is pending, and where memory is refused
+    /// the next publish brings that copy up. It may wait for gates that are about to answer.
+    pub fn settle<R: Wait>(&mut self, rt: &R)
+        ensures { self.new ≡ self.old }
+    {
+        replace_with(&mut self.writer, rt, catch_up::<R>);
     }
 
     /// A receipt of the whole published list.

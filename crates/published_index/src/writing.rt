@@ -93,3 +93,17 @@ pub(crate) fn show<R: Wait>(
     let _number = writer.published().stamped.number();
     (writer, shown)
 }
+
+/// Has the copy that isn't shown take in what it lacks of the other, and shows it in its place. It does nothing while a
+/// change is pending, since that would be shown too.
+pub(crate) fn catch_up<R: Wait>(writer: EditionWriter, rt: &R) -> (EditionWriter, ())
+    ensures shown { result.0.desk.shown.value ≡ writer.desk.shown.value }
+    ensures pending { drop result.0.behind result.0.log.items ≡ drop writer.behind writer.log.items }
+{
+    if writer.has_pending_operations() {
+        return (writer, ());
+    }
+    // Where memory is refused, the next publish brings that copy up.
+    let (writer, _) = show(writer, rt);
+    (writer, ())
+}
