@@ -149,8 +149,8 @@ impl Stamped {
     /// changes get that number as their stamp.
     ///
     /// It gets all its memory before the first change. In addition to what `Index::absorb` takes, it takes time in the
-    /// size of the merge and, for each entry that changes, time logarithmic in the number of keys. After as many
-    /// changes as there are keys, it looks up the stamp of every row; there are then two rows for each key.
+    /// size of the merge and, for each entry that changes, time logarithmic in the number of keys. After a quarter as
+    /// many changes as there are keys, it sorts a row for each key anew.
     pub fn absorb(&mut self, merge: &Merge) -> Result<(), StampFault>
         ensures ok { OnOk result (IsAbsorbed self.old merge.now self.new) }
         ensures stands { (merges : List Merge) → IsStamped merges self.old
