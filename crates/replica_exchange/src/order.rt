@@ -61,7 +61,7 @@ fn count_until(rows: &[OrderRow], stamp: u64) -> usize
     )
 }
 
-/// How many rows may stand there at most: a quarter more than there are keys, and a few.
+/// How many rows may stand there before they are made anew: a quarter more than there are keys, and a few.
 fn most_rows(keys: usize) -> usize {
     keys.saturating_add(keys / 4).saturating_add(16)
 }
@@ -107,8 +107,8 @@ fn list_shelf(
 /// The stamps that merges gave, in order, each with the key that got it: a row for each key and its stamp, and rows of
 /// stamps that their keys no longer have.
 ///
-/// A key gets a row with each merge that changes it. If there would be more rows than keys and a quarter, and a few,
-/// the rows are made anew first, from the stamps that the keys have: one row for each key.
+/// A key gets a row with each merge that changes it. Before a merge that would leave a quarter more rows than keys, and
+/// a few, the rows are made anew from the stamps that the keys have: one row for each key.
 #[derive(Debug, Drop)]
 pub struct StampOrder {
     alloc: Global,
