@@ -104,6 +104,16 @@ one_grows m n a w put grow o =
       | false ↦ λ _. grows_same (tree.get text_cmp m o)
     ] refl)
 
+-- one put where just that was
+pub one_stays : (m n : Lists) (a : List ℕ) (w : Tallied)
+    → ((q : List ℕ) → tree.get text_cmp n q ≡ cond (is_at (text_cmp a) q) (Some w) (tree.get text_cmp m q))
+    → tree.get text_cmp m a ≡ Some w → (o : List ℕ) → tree.get text_cmp n o ≡ tree.get text_cmp m o
+one_stays m n a w put there o =
+    put o ∙ elim (is_at (text_cmp a) o) as (λ b. is_at (text_cmp a) o ≡ b → cond b (Some w) (tree.get text_cmp m o) ≡ tree.get text_cmp m o) [
+      | true ↦ λ t. sym there ∙ ap (λ p. tree.get text_cmp m p) (same_text a o t)
+      | false ↦ λ _. refl
+    ] refl
+
 -- ---- a walk over the steps of each original
 
 -- an original's steps are still to come, or it has its room

@@ -12,7 +12,7 @@ ghost use Rattle.memento_index.specs.Lists.{Grows, FitLists, HaveRoom, AreNews};
 
 use crate::gather::gather_steps;
 use crate::last::last_of;
-use crate::lists::{Lists, StepLists, drop_empty, make_rooms, recount_all};
+use crate::lists::{Lists, StepLists, drop_empty, make_rooms, recount_all, share_list};
 use crate::merge::Merge;
 use crate::nearest::nearest_of;
 use crate::tally::Tally;
@@ -113,6 +113,17 @@ impl Index {
                 Err(refused)
             }
         }
+    }
+
+    /// Shares the memory of an original's list with another index, which may be a second copy of this one.
+    ///
+    /// If both list the same mementos of the original, at most 64, and neither has counts of its own for them, this index
+    /// takes over the other's list and lets go of its own. It takes time in the length of a list of 64 at most, beside
+    /// the time to find both, and needs no memory. If a handle is refused, the list stays.
+    pub fn share_list(&mut self, original: &Original, other: &Index)
+        ensures { self.new ≡ self.old }
+    {
+        share_list(&mut self.lists, original, &other.lists);
     }
 
     /// The mementos that are shown of an original, each once, by datetime, then by URI.

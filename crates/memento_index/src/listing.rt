@@ -16,6 +16,9 @@ use std::alloc::Global;
 use std::marker::Model;
 use std::sync::Arc;
 
+/// Lists of this many mementos at most are compared, so that two indexes can share them.
+const SHORT: usize = 64;
+
 /// A list that only one archive shows is the set of that archive's entry, shared if the entry has one revision, and has
 /// no columns. It gets columns of its own when another archive's mementos are added, or more of the same revision.
 #[derive(Debug, Drop)]
@@ -66,6 +69,17 @@ impl Listing {
         match &self.shared {
             Some(shared) => are_same(shared.as_slice(), mementos),
             None => self.own.has_just(mementos),
+        }
+    }
+
+    /// Takes over the other's set, if both have the same one and it is short. If a handle is refused, the list stays.
+    pub fn share_with(&mut self, other: &Listing)
+        ensures { self.new ≡ self.old }
+    {
+        if let Some(shared) = &mut self.shared {
+            if let Some(others) = &other.shared {
+                share_same(shared, others);
+            }
         }
     }
 
@@ -121,6 +135,20 @@ impl Listing {
             let bytes = bytes_of_steps(&steps);
             recount(&mut self.own, lifted, steps);
             self.wear.pack_worn(&mut self.own, bytes);
+        }
+    }
+}
+
+/// Puts the other set in the place of the first, if they are the same and short.
+fn share_same(shared: &mut Arc<Mementos>, others: &Arc<Mementos>)
+    ensures { set.items (arc_value shared.new) ≡ set.items (arc_value shared.old) }
+{
+    if shared.len() > SHORT || others.len() > SHORT {
+        return;
+    }
+    if are_same(shared.as_slice(), others.as_slice()) {
+        if let Ok(copy) = Arc::try_clone(others) {
+            *shared = copy;
         }
     }
 }

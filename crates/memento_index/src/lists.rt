@@ -101,6 +101,17 @@ fn reserve(lists: &mut Lists, original: &Original, more: usize) -> Result<usize,
     }
 }
 
+/// Has the list of an original share the memory of another, if both list the same and can: see `Listing::share_with`.
+pub fn share_list(lists: &mut Lists, original: &Original, others: &Lists)
+    ensures { (o : List ℕ) → tree.get text_cmp lists.new o ≡ tree.get text_cmp lists.old o }
+{
+    if let Some(other) = others.get(original) {
+        if let Some(list) = lists.get_mut(original) {
+            list.share_with(other);
+        }
+    }
+}
+
 /// Drops the lists of these originals that are empty. Takes no memory.
 pub fn drop_empty(lists: &mut Lists, all: &StepLists)
     ensures gone { (o : List ℕ) → IsSome (tree.get text_cmp all.now o) → IsListed (tree.get text_cmp lists.new o) }

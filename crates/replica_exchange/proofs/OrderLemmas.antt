@@ -2,21 +2,26 @@
 use Rattle.std.proofs.Common.{◌≡◌, ℕ, ◌+◌, ◌-◌, ◌<◌, ◌≤◌, Bool, true, false, ◌||◌, cond, List, [], ◌∷◌, ◌++◌, length, map, take, drop, Option, Some, None, refl, sym, ap, subst}
 use Rattle.std.proofs.Common.{◌∙◌, append_assoc, inl, inr, ◌⊎◌, eqb-true, eq-eqb, ltb-true, lt-ltb, arith}
 use Rattle.std.specs.Prelude.{◌==◌, IfSome, get_or}
-use Rattle.std.specs.List.{All, AllWithin, Contains, filter, flat_map}
+use Rattle.std.specs.List.{All, AllWithin, Contains, flat_map}
 use Rattle.std.specs.List.Sorted.{IsNonDecreasingBy, IsPermutation}
 use Rattle.std.specs.Ordering.{eq_by_cmp, is_eq}
 use Rattle.std.specs.Cmp.{Equal-is, tied_itself}
 use Rattle.std.specs.FinMap as fmap
-use Rattle.std.specs.BTreeMap.{is_at}
+use Rattle.std.specs.Prelude.{T}
+use Rattle.std.specs.Cmp.Lexicographic.{nat_list_cmp_total}
+use Rattle.std.specs.FinMap.Entries.{below_all}
+use Rattle.std.specs.BTreeMap as tree
+use Rattle.std.specs.BTreeMap.{is_at, IsOrdered}
 use Rattle.std.specs.Map.{lookup}
 use Rattle.std.proofs.lemmas.Bool.{true≢false}
-use Rattle.std.proofs.lemmas.Option.{none-some, same_Some}
+use Rattle.std.proofs.lemmas.Option.{none-some, same_Some, slice_get-get_or}
+use Rattle.std.proofs.lemmas.Map.Entries.{btree_map_get_place}
+use Rattle.std.proofs.lemmas.Map.Views.{Contains-from_lookup}
 use Rattle.std.proofs.lemmas.List.{append-nil, map-append, take-append-drop, take_at, get_or-drop, get_or-take, get_or-map, map_more, length-map, length-drop, length-take-le}
 use Rattle.std.proofs.lemmas.Grind.{flat_map-append}
-use Rattle.std.proofs.lemmas.List.Elements.{All-nil, All-cons, All-head, All-tail, All-append, All-push, All-map, All-filter, All-contains, Contains-append_left}
+use Rattle.std.proofs.lemmas.List.Elements.{All-nil, All-cons, All-head, All-tail, All-append, All-push, All-map, All-contains, Contains-append_left}
 use Rattle.std.proofs.lemmas.List.Elements.{Contains-append_right, Contains-push, Contains-push_cases, Contains-append_cases}
-use Rattle.std.proofs.lemmas.List.Kept.{IsNonDecreasingBy-filter}
-use Rattle.std.proofs.lemmas.List.Sorted.{IsNonDecreasingBy-push, IsPermutation-map, All-permutation, Contains-permutation}
+use Rattle.std.proofs.lemmas.List.Sorted.{IsNonDecreasingBy-push, IsNonDecreasingBy-from_default, IsPermutation-map, All-permutation, Contains-permutation}
 use Rattle.harvest_lattice.specs.declared.row.Row.{Row}
 use Rattle.harvest_lattice.specs.Lattice.{Key, key_cmp, Kept, Entries}
 use Rattle.harvest_lattice.specs.Rows.{row_entry, keys_rise, map_with}
@@ -26,7 +31,10 @@ use Rattle.replica_exchange.specs.declared.order.OrderRow.{OrderRow}
 use Rattle.replica_exchange.specs.declared.stamps.ChangedKey.{ChangedKey}
 use Rattle.replica_exchange.specs.Stamps.{StampedState, is_above, entries_above}
 use Rattle.replica_exchange.specs.StampShelves.{Slots, Shelves, slot, slot_of, filled, key_of, is_among, restamped}
-use Rattle.replica_exchange.specs.StampOrder.{given, given_at, is_stamp, stands, IsOrderOf, IsBehind, AreAbove, entry_with, standing_entry}
+use Rattle.replica_exchange.specs.StampOrder.{given, given_at, is_stamp, row_with, AreStanding, IsOrderOf, IsBehind, AreAbove, entry_with, standing_entry}
+use Rattle.memento_sets.proofs.Sets.{two_parts}
+use Rattle.harvest_lattice.proofs.ShelfLemmas.{same_text, lookup-find}
+use Rattle.replica_exchange.proofs.ShelfLemmas.{none_above}
 use Rattle.replica_exchange.proofs.StampLemmas.{get-entries_above}
 
 -- ---- what a list contains
@@ -51,21 +59,6 @@ first_or_rest {X} y xs x c = split (Contains-append_cases (y ∷ []) xs x c)
     split (inl first) = inl (one (Contains-push_cases [] y x first))
     split (inr rest) = inr rest
 
-kept_step : {X : Type 0} (p : X → Bool) (y : X) (xs : List X) (x : X) → p x ≡ true → (Contains xs x → Contains (filter p xs) x) → (y ≡ x) ⊎ Contains xs x → Contains (filter p (y ∷ xs)) x
-kept_step {X} p y xs x passes rest (inl same) =
-    subst (λ b. Contains (cond b (y ∷ filter p xs) (filter p xs)) x) (sym (ap p same ∙ passes))
-    (subst (λ (q : X). Contains (y ∷ filter p xs) q) same (here y (filter p xs)))
-kept_step p y xs x passes rest (inr c) =
-    elim (p y) as (λ b. Contains (cond b (y ∷ filter p xs) (filter p xs)) x) [
-      | true ↦ there y (filter p xs) x (rest c)
-      | false ↦ rest c
-    ]
-
--- what passes the test stays
-kept_contains : {X : Type 0} (p : X → Bool) (xs : List X) (x : X) → p x ≡ true → Contains xs x → Contains (filter p xs) x
-kept_contains p [] x passes c = absurd (nowhere x c)
-kept_contains p (y ∷ xs) x passes c = kept_step p y xs x passes (kept_contains p xs x passes) (first_or_rest y xs x c)
-
 flat_step : {X Y : Type 0} (f : X → List Y) (z : X) (zs : List X) (x : X) (y : Y) → Contains (f x) y → (Contains zs x → Contains (flat_map f zs) y) → (z ≡ x) ⊎ Contains zs x
     → Contains (flat_map f (z ∷ zs)) y
 flat_step {X} f z zs x y in_it rest (inl same) = Contains-append_left (f z) (flat_map f zs) y (subst (λ (q : X). Contains (f q) y) (sym same) in_it)
@@ -78,15 +71,6 @@ flat_contains f (z ∷ zs) x y in_it c = flat_step f z zs x y in_it (flat_contai
 flat_all : {X Y : Type 0} (P : X → Type 0) (Q : Y → Type 0) (f : X → List Y) → ((x : X) → P x → All Q (f x)) → (xs : List X) → All P xs → All Q (flat_map f xs)
 flat_all P Q f each [] all = All-nil Q
 flat_all P Q f each (x ∷ xs) all = All-append Q (f x) (flat_map f xs) (each x (All-head P x xs all)) (flat_all P Q f each xs (All-tail P x xs all))
-
-pub map_filter : {X Y : Type 0} (f : X → Y) (p : Y → Bool) (xs : List X) → map f (filter (λ x. p (f x)) xs) ≡ filter p (map f xs)
-map_filter f p [] = refl
-map_filter {X} {Y} f p (x ∷ xs) =
-    let rest = map_filter f p xs in
-    elim (p (f x)) as (λ b. map f (cond b (x ∷ filter (λ x. p (f x)) xs) (filter (λ x. p (f x)) xs)) ≡ cond b (f x ∷ filter p (map f xs)) (filter p (map f xs))) [
-      | true ↦ ap (λ (l : List Y). f x ∷ l) rest
-      | false ↦ rest
-    ]
 
 -- ---- rows that are added
 
@@ -150,18 +134,105 @@ order_of_none shelves rows empty none = record {
   within = subst (All (λ (row : ℕ × Key). row.0 ≤ 0)) (sym none) (All-nil (λ (row : ℕ × Key). row.0 ≤ 0));
 }
 
--- ---- rows that are dropped
+-- ---- rows that are made anew
 
--- rows that no longer stand can go
-pub order_kept : (shelves : Shelves) (rows kept : List (ℕ × Key)) (number : ℕ) → kept ≡ filter (stands shelves) rows → IsOrderOf shelves rows number → IsOrderOf shelves kept number
-order_kept shelves rows kept number same is = subst (λ (r : List (ℕ × Key)). IsOrderOf shelves r number) (sym same) filtered
+-- the rows of an archive's slots
+abbrev pub shelf_order : List ℕ × Slots → List (ℕ × Key)
+shelf_order shelf = flat_map (λ (e : List ℕ × Option ℕ). row_with (shelf.0, e.0) e.1) (fmap.entries shelf.1)
+
+-- each slot in order is found at its original
+find_each : (es : List (List ℕ × Option ℕ)) → T (fmap.is_sorted text_cmp es) → All (λ (e : List ℕ × Option ℕ). fmap.find text_cmp e.0 es ≡ Some e.1) es
+find_each [] h = All-nil (λ (e : List ℕ × Option ℕ). fmap.find text_cmp e.0 [] ≡ Some e.1)
+find_each (e ∷ es) h =
+    let p = two_parts (below_all text_cmp e.0 es) (fmap.is_sorted text_cmp es) h in
+    let rest = find_each es p.1 in
+    All-cons (λ (f : List ℕ × Option ℕ). fmap.find text_cmp f.0 (e ∷ es) ≡ Some f.1) e es (ap (λ r. cond (is_eq r) (Some e.1) (fmap.find text_cmp e.0 es)) (tied_itself nat_list_cmp_total e.0))
+    (λ i d lt. later (get_or es i d) p.0 (rest i d lt))
   where
-    filtered : IsOrderOf shelves (filter (stands shelves) rows) number
-    filtered = record {
-      listed = λ k stamp there. kept_contains (stands shelves) rows (stamp, k) (ap (is_stamp stamp) there ∙ eq-eqb stamp stamp refl) (is.listed k stamp there);
-      rises = IsNonDecreasingBy-filter stamp_of (stands shelves) rows is.rises;
-      within = All-filter (stands shelves) (λ (row : ℕ × Key). row.0 ≤ number) rows is.within;
-    }
+    later : (f : List ℕ × Option ℕ) → T (below_all text_cmp e.0 es) → fmap.find text_cmp f.0 es ≡ Some f.1 → fmap.find text_cmp f.0 (e ∷ es) ≡ Some f.1
+    later f below found =
+        elim (eq_by_cmp text_cmp f.0 e.0) as (λ b. eq_by_cmp text_cmp f.0 e.0 ≡ b → cond b (Some e.1) (fmap.find text_cmp f.0 es) ≡ Some f.1) [
+          | true ↦ λ t. absurd (none-some f.1 (sym (none_above f.0 es (subst (λ (q : List ℕ). T (below_all text_cmp q es)) (sym (same_text f.0 e.0 t)) below)) ∙ found))
+          | false ↦ λ _. found
+        ] refl
+
+module _ (shelves : Shelves) (ordered : IsOrdered text_cmp shelves) where
+  abbrev Stands : ℕ × Key → Type 0
+  Stands row = filled (slot shelves row.1) ≡ Some row.0
+
+  slot_stands : (archive original : List ℕ) (v : Option ℕ) → slot shelves (archive, original) ≡ Some v → All Stands (row_with (archive, original) v)
+  slot_stands archive original None there = All-nil Stands
+  slot_stands archive original (Some stamp) there = All-cons Stands (stamp, (archive, original)) [] (ap filled there) (All-nil Stands)
+
+  shelf_stands : (s : List ℕ × Slots) → tree.get text_cmp shelves s.0 ≡ Some s.1 → All Stands (shelf_order s)
+  shelf_stands s there =
+      flat_all (λ (e : List ℕ × Option ℕ). fmap.find text_cmp e.0 (fmap.entries s.1) ≡ Some e.1) Stands (λ (e : List ℕ × Option ℕ). row_with (s.0, e.0) e.1)
+      (λ e found. slot_stands s.0 e.0 e.1 (ap (λ (o : Option Slots). slot_of o e.0) there ∙ (fmap.get-entries s.1 e.0 ∙ found)))
+      (fmap.entries s.1) (find_each (fmap.entries s.1) (fmap.entries_sorted s.1))
+
+  on_shelf : (archive original : List ℕ) (slots : Slots) (stamp : ℕ) (o : Option (Option ℕ)) → fmap.get slots original ≡ o → filled o ≡ Some stamp
+      → Contains (shelf_order (archive, slots)) (stamp, (archive, original))
+  on_shelf archive original slots stamp None there none = absurd (none-some stamp none)
+  on_shelf archive original slots stamp (Some v) there has =
+      let found : lookup (is_at (text_cmp original)) (fmap.entries slots) ≡ Some (Some stamp) = lookup-find text_cmp original (fmap.entries slots)
+      ∙ (sym (fmap.get-entries slots original) ∙ (there ∙ ap (λ (v : Option ℕ). Some v) has)) in
+      flat_contains (λ (e : List ℕ × Option ℕ). row_with (archive, e.0) e.1) (fmap.entries slots) (original, Some stamp) (stamp, (archive, original)) (here (stamp, (archive, original)) [])
+      (Contains-from_lookup same_text original (Some stamp) (fmap.entries slots) found)
+
+  in_order : (archive original : List ℕ) (stamp : ℕ) (o : Option Slots) → tree.get text_cmp shelves archive ≡ o → filled (slot_of o original) ≡ Some stamp
+      → Contains (flat_map shelf_order shelves.entries) (stamp, (archive, original))
+  in_order archive original stamp None there none = absurd (none-some stamp none)
+  in_order archive original stamp (Some slots) there has =
+      flat_contains shelf_order shelves.entries (archive, slots) (stamp, (archive, original)) (on_shelf archive original slots stamp (fmap.get slots original) refl has)
+      (Contains-from_lookup same_text archive slots shelves.entries there)
+
+  -- the rows of all slots are just those that stand
+  all_standing : AreStanding shelves (flat_map shelf_order shelves.entries)
+  all_standing = record {
+    listed = λ k stamp there. in_order k.0 k.1 stamp (tree.get text_cmp shelves k.0) refl there;
+    stand = flat_all (λ (s : List ℕ × Slots). tree.get text_cmp shelves s.0 ≡ Some s.1) Stands shelf_order shelf_stands shelves.entries
+        (λ i d lt. btree_map_get_place nat_list_cmp_total shelves i (get_or shelves.entries i d).0 (get_or shelves.entries i d).1 ordered (slice_get-get_or shelves.entries i d lt));
+  }
+
+  -- also once they are sorted
+  pub sorted_standing : (rows sorted : List OrderRow) → map given rows ≡ flat_map shelf_order shelves.entries → IsPermutation rows sorted → AreStanding shelves (map given sorted)
+  sorted_standing rows sorted same moved =
+      let moved_rows = IsPermutation-map given rows sorted moved in
+      let is : AreStanding shelves (map given rows) = subst (AreStanding shelves) (sym same) all_standing in
+      record {
+        listed = λ k stamp there. Contains-permutation (map given rows) (map given sorted) (stamp, k) moved_rows (is.listed k stamp there);
+        stand = All-permutation Stands (map given rows) (map given sorted) moved_rows is.stand;
+      }
+
+-- one archive more is listed
+pub one_shelf_more : (was now : List (ℕ × Key)) (walked more : List (List ℕ × Slots)) (name archive : List ℕ) (slots : Slots) → was ≡ flat_map shelf_order walked
+    → now ≡ was ++ shelf_order (name, slots) → name ≡ archive → more ≡ walked ++ (archive, slots) ∷ [] → now ≡ flat_map shelf_order more
+one_shelf_more was now walked more name archive slots listed is_now same is_more =
+    let joined : flat_map shelf_order (walked ++ (archive, slots) ∷ []) ≡ flat_map shelf_order walked ++ shelf_order (archive, slots) = flat_map-append shelf_order walked ((archive, slots) ∷ [])
+    ∙ ap (λ (l : List (ℕ × Key)). flat_map shelf_order walked ++ l) (append-nil (shelf_order (archive, slots))) in
+    is_now ∙ ((λ i. listed i ++ shelf_order (same i, slots)) ∙ (sym joined ∙ ap (flat_map shelf_order) (sym is_more)))
+
+rises_given : (rows : List OrderRow) → IsNonDecreasingBy (λ (row : OrderRow). row.stamp) rows → IsNonDecreasingBy stamp_of (map given rows)
+rises_given [] up = λ i j d le lt. absurd (omega (arith, lt))
+rises_given (row ∷ rows) up =
+    IsNonDecreasingBy-from_default stamp_of (map given (row ∷ rows)) (given row)
+    (λ i j le lt.
+    let less : j < length (row ∷ rows) = (let same = length-map (row ∷ rows) given in omega (arith, same, lt)) in
+    let order = up i j row le less in
+    let low : stamp_of (get_or (map given (row ∷ rows)) i (given row)) ≡ (get_or (row ∷ rows) i row).stamp = ap stamp_of (get_or-map given (row ∷ rows) i row (given row) (omega (arith, le, less))) in
+    let high : stamp_of (get_or (map given (row ∷ rows)) j (given row)) ≡ (get_or (row ∷ rows) j row).stamp = ap stamp_of (get_or-map given (row ∷ rows) j row (given row) less) in
+    omega (arith, order, low, high))
+
+-- the order of rows that were made anew
+pub order_anew : (shelves : Shelves) (rows : List (ℕ × Key)) (anew : List OrderRow) (number : ℕ) → AreStanding shelves (map given anew)
+    → IsNonDecreasingBy (λ (row : OrderRow). row.stamp) anew → IsOrderOf shelves rows number → IsOrderOf shelves (map given anew) number
+order_anew shelves rows anew number are up is = record {
+  listed = are.listed;
+  rises = rises_given anew up;
+  within = λ i d lt.
+      let row : ℕ × Key = get_or (map given anew) i d in
+      All-contains (λ (row : ℕ × Key). row.0 ≤ number) rows row is.within (is.listed row.1 row.0 (are.stand i d lt));
+}
 
 -- as many as there were, of a list that was only added to
 pub front_of : {X : Type 0} (old next now : List X) (more : List X) → next ≡ old ++ more → now ≡ next → take (length old) now ≡ old

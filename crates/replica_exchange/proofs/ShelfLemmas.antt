@@ -16,6 +16,7 @@ use Rattle.std.proofs.lemmas.Option.{none-some}
 use Rattle.std.proofs.lemmas.Bool.{true≢false}
 use Rattle.std.specs.FinMap.Entries.{below_all}
 use Rattle.memento_time.specs.Mementos.{text_cmp}
+use Rattle.memento_sets.proofs.Rising.{from_keys}
 use Rattle.memento_sets.proofs.Sets.{less_from, two_parts}
 use Rattle.harvest_lattice.specs.Lattice.{Key, key_cmp}
 use Rattle.harvest_lattice.proofs.Entries.{key_cmp_total, key_cmp_exact}
@@ -123,6 +124,15 @@ one_filled m n a o s v put was k =
 
 pub get-slots : (es : List (List ℕ × Option ℕ)) (o : List ℕ) → fmap.get (fmap.from_entries {R = text_cmp} es) o ≡ lookup (is_at (text_cmp o)) es
 get-slots es o = fmap.get-from_entries nat_list_cmp_total es o ∙ sym (lookup-find text_cmp o es)
+
+-- slots in order are those of their map
+pub slots_made : (es : List (List ℕ × Option ℕ)) → IsStrictlySortedBy text_cmp (keys_of es) → fmap.entries (fmap.from_entries {R = text_cmp} es) ≡ es
+slots_made es h =
+    let sorted = from_keys text_cmp es h in
+    ap (λ (s : Slots). fmap.entries s) (fmap.same_map nat_list_cmp_total text_exact (fmap.from_entries es)
+    (fmap.from_sorted es) (λ o. fmap.get-from_entries nat_list_cmp_total es o
+    ∙ sym (fmap.get-from_sorted text_cmp es o sorted)))
+    ∙ fmap.entries-from_sorted text_cmp es sorted
 
 -- a slot with another value
 pub slot_put : (es fs : List (List ℕ × Option ℕ)) (o : List ℕ) (w : Option ℕ) (now : Slots) → fmap.from_entries es ≡ now

@@ -32,9 +32,15 @@ abbrev pub is_stamp : ℕ → Option ℕ → Bool
 is_stamp stamp None = false
 is_stamp stamp (Some other) = other == stamp
 
--- the row's key still has the stamp
-abbrev pub stands : Shelves → ℕ × Key → Bool
-stands shelves row = is_stamp row.0 (filled (slot shelves row.1))
+-- the row of a key that has a stamp
+abbrev pub row_with : Key → Option ℕ → List (ℕ × Key)
+row_with k None = []
+row_with k (Some stamp) = (stamp, k) ∷ []
+
+-- each key that has a stamp stands there with it, and no other stamp does
+pub record AreStanding (shelves : Shelves) (rows : List (ℕ × Key)) : Type 0 where
+  pub listed : (k : Key) (stamp : ℕ) → filled (slot shelves k) ≡ Some stamp → Contains rows (stamp, k)
+  pub stand : All (λ (row : ℕ × Key). filled (slot shelves row.1) ≡ Some row.0) rows
 
 -- each key that has a stamp stands there with it, and stamps rise up to the number
 pub record IsOrderOf (shelves : Shelves) (rows : List (ℕ × Key)) (number : ℕ) : Type 0 where

@@ -1,13 +1,16 @@
 //! Keys in the order in which they got their stamps.
 ghost use Rattle.std.specs.Prelude.{◌≡◌, ◌++◌, ◌∷◌, ◌≤◌, ◌<◌, [], ℕ, length, take, IfOk, OnOk, OnErr, map as map_list};
 ghost use Rattle.std.specs.Arc.{arc_value};
-ghost use Rattle.std.specs.List.{AllWithin, filter};
+ghost use Rattle.std.specs.BTreeMap.{IsOrdered};
+ghost use Rattle.std.specs.FinMap as map;
+ghost use Rattle.std.specs.List.{AllWithin, flat_map};
 ghost use Rattle.std.specs.List.Sorted.{IsNonDecreasingBy};
+ghost use Rattle.memento_time.specs.Mementos.{text_cmp};
 ghost use Rattle.replica_exchange.specs.StampShelves.{key_of};
-ghost use Rattle.replica_exchange.specs.StampOrder.{given, given_at, order_of, stands, IsOrderOf, IsBehind};
+ghost use Rattle.replica_exchange.specs.StampOrder.{given, given_at, order_of, row_with, AreStanding, IsOrderOf, IsBehind};
 ghost use Rattle.replica_exchange.specs.StampOrder as spec;
 
-use crate::stamps::{ChangedKey, StampShelves, stamp_at};
+use crate::stamps::{ChangedKey, StampShelf, StampShelves};
 use memento_time::{ArchiveName, NoMemory, Original};
 use std::alloc::Global;
 use std::collections::BTreeMap;
@@ -42,16 +45,6 @@ impl OrderRow {
     {
         &self.original
     }
-
-    /// Whether the key still has the stamp.
-    fn stands(&self, shelves: &StampShelves) -> bool
-        ensures { result ≡ stands shelves.now (given self.now) }
-    {
-        match stamp_at(shelves, *self.archive, &self.original) {
-            Some(stamp) => stamp == self.stamp,
-            None => false,
-        }
-    }
 }
 
 /// How many rows have a stamp up to this one.
@@ -68,28 +61,54 @@ fn count_until(rows: &[OrderRow], stamp: u64) -> usize
     )
 }
 
-/// Drops the rows whose keys have since got other stamps.
-fn drop_overtaken(rows: &mut Vec<OrderRow>, shelves: &StampShelves)
-    ensures { map_list given rows.new.items ≡ filter (stands shelves.now) (map_list given rows.old.items) }
-{
-    rows.retain(
-        |row: &OrderRow| -> bool
-            ensures { result ≡ stands shelves.entry.now (given row.now) }
-        { row.stands(shelves) },
-    );
+/// How many rows may stand there before they are made anew: a quarter more than there are keys, and a few.
+fn most_rows(keys: usize) -> usize {
+    keys.saturating_add(keys / 4).saturating_add(16)
 }
 
-/// Whether there are more than two rows for each key, once some more rows are added.
-fn is_crowded(rows: usize, more: usize, keys: usize) -> bool {
-    rows.saturating_add(more) / 2 > keys
+/// Adds a row for an original of an archive, if its slot has a stamp.
+fn list_slot(
+    rows: &mut Vec<OrderRow>,
+    name: &Arc<ArchiveName>,
+    original: &Original,
+    slot: Option<u64>,
+) -> Result<(), NoMemory>
+    ensures { OnOk result (map_list given rows.new.items
+        ≡ map_list given rows.old.items ++ row_with (arc_value name.now, original.now) slot) }
+{
+    let Some(stamp) = slot else {
+        return Ok(());
+    };
+    let archive = name.clone()?;
+    let original = original.try_clone()?;
+    rows.push(OrderRow {
+        stamp,
+        archive,
+        original,
+    })?;
+    Ok(())
+}
+
+/// Adds a row for each stamp of an archive.
+fn list_shelf(
+    rows: &mut Vec<OrderRow>,
+    name: &Arc<ArchiveName>,
+    shelf: &StampShelf,
+) -> Result<(), NoMemory>
+    ensures { OnOk result (map_list given rows.new.items ≡ map_list given rows.old.items
+        ++ flat_map (λ slot. row_with (arc_value name.now, slot.0) slot.1) (map.entries shelf.now)) }
+{
+    for (original, slot) in shelf.iter() {
+        list_slot(rows, name, original, *slot)?;
+    }
+    Ok(())
 }
 
 /// The stamps that merges gave, in order, each with the key that got it: a row for each key and its stamp, and rows of
 /// stamps that their keys no longer have.
 ///
-/// A key gets a row with each merge that changes it. Before rows are added, the rows of stamps that their keys no
-/// longer have are dropped if there would otherwise be more rows than twice the number of keys and one. So after a
-/// merge there are at most that many.
+/// A key gets a row with each merge that changes it. Before a merge that would leave a quarter more rows than keys, and
+/// a few, the rows are made anew from the stamps that the keys have: one row for each key.
 #[derive(Debug, Drop)]
 pub struct StampOrder {
     alloc: Global,
@@ -173,13 +192,44 @@ impl StampOrder {
         self.rows.truncate(len);
     }
 
-    /// Drops the rows whose keys have since got other stamps, if they would outnumber the others. Takes no memory.
+    /// A row for each key that has a stamp, in the order of stamps. Takes memory for so many rows at once.
+    fn standing_rows(
+        &mut self,
+        shelves: &StampShelves,
+        room: usize,
+    ) -> Result<Vec<OrderRow>, NoMemory>
+        requires { IsOrdered text_cmp shelves.now }
+        ensures standing { IfOk result (λ rows. AreStanding shelves.now (map_list given rows.items)) }
+        ensures rises { IfOk result (λ rows. IsNonDecreasingBy (λ row. row.stamp) rows.items) }
+        ensures same { self.new.rows ≡ self.old.rows }
+    {
+        let mut rows = Vec::with_capacity(self.alloc, room)?;
+        for (archive, shelf) in shelves {
+            let name = self.name(*archive)?;
+            list_shelf(&mut rows, &name, shelf)?;
+        }
+        rows.sort_unstable_by_key(
+            |row: &OrderRow| -> u64
+                ensures { result ≡ row.now.stamp }
+            { row.stamp },
+        );
+        Ok(rows)
+    }
+
+    /// Sees to it that more rows can be added: where there would be too many, it makes the rows anew, one for each of
+    /// the keys. If memory for them is refused, the rows stay as they are.
     pub fn make_place(&mut self, shelves: &StampShelves, more: usize, keys: usize)
+        requires { IsOrdered text_cmp shelves.now }
         ensures { (number : ℕ) → IsOrderOf shelves.now (order_of self.old) number
             → IsOrderOf shelves.now (order_of self.new) number }
     {
-        if is_crowded(self.rows.len(), more, keys) {
-            drop_overtaken(&mut self.rows, shelves);
+        let most = most_rows(keys);
+        if self.rows.len().saturating_add(more) <= most {
+            return;
+        }
+        let room = most.max(keys.saturating_add(more));
+        if let Ok(rows) = self.standing_rows(shelves, room) {
+            self.rows = rows;
         }
     }
 }

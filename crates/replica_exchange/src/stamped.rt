@@ -86,6 +86,15 @@ fn put_with_room(
     index.put(changes)
 }
 
+/// Has the index take over another one's lists of the keys' originals, where both list the same.
+fn share_lists(index: &mut Index, keys: &[ChangedKey], other: &Index)
+    ensures { index.new ≡ index.old }
+{
+    for key in keys {
+        index.share_list(key.original(), other);
+    }
+}
+
 /// The order of keys.
 fn by_key(left: &Row, right: &Row) -> Ordering {
     match left.archive.cmp(&right.archive) {
@@ -149,9 +158,35 @@ impl Stamped {
     /// changes get that number as their stamp.
     ///
     /// It gets all its memory before the first change. In addition to what `Index::absorb` takes, it takes time in the
-    /// size of the merge and, for each entry that changes, time logarithmic in the number of keys. After as many
-    /// changes as there are keys, it looks up the stamp of every row; there are then two rows for each key.
+    /// size of the merge and, for each entry that changes, time logarithmic in the number of keys. After a quarter as
+    /// many changes as there are keys, it sorts a row for each key anew.
     pub fn absorb(&mut self, merge: &Merge) -> Result<(), StampFault>
+        ensures ok { OnOk result (IsAbsorbed self.old merge.now self.new) }
+        ensures stands { (merges : List Merge) → IsStamped merges self.old
+            → OnOk result (IsStamped (merges ++ merge.now ∷ []) self.new) }
+        ensures spent { IsErrOf result StampFault.NumbersSpent ↔ (self.old.number ≡ 18446744073709551615) }
+        ensures err { OnErr result (self.new ≡ self.old) }
+    {
+        self.absorb_next(merge)?;
+        Ok(())
+    }
+
+    /// Takes in a merge as `absorb` does, in the second of two copies that take in the same merges: of each original
+    /// that changed, it then shares the memory of the list with the first copy, as `Index::share_list` does.
+    pub fn absorb_beside(&mut self, merge: &Merge, other: &Stamped) -> Result<(), StampFault>
+        ensures ok { OnOk result (IsAbsorbed self.old merge.now self.new) }
+        ensures stands { (merges : List Merge) → IsStamped merges self.old
+            → OnOk result (IsStamped (merges ++ merge.now ∷ []) self.new) }
+        ensures spent { IsErrOf result StampFault.NumbersSpent ↔ (self.old.number ≡ 18446744073709551615) }
+        ensures err { OnErr result (self.new ≡ self.old) }
+    {
+        let keys = self.absorb_next(merge)?;
+        share_lists(&mut self.index, &keys, &other.index);
+        Ok(())
+    }
+
+    /// Takes in a merge with the next number, and returns the keys of the entries that it changed.
+    fn absorb_next(&mut self, merge: &Merge) -> Result<Vec<ChangedKey>, StampFault>
         ensures ok { OnOk result (IsAbsorbed self.old merge.now self.new) }
         ensures stands { (merges : List Merge) → IsStamped merges self.old
             → OnOk result (IsStamped (merges ++ merge.now ∷ []) self.new) }
@@ -161,12 +196,11 @@ impl Stamped {
         let Some(number) = self.number.checked_add(1) else {
             return Err(StampFault::NumbersSpent);
         };
-        self.absorb_as(number, merge)?;
-        Ok(())
+        Ok(self.absorb_as(number, merge)?)
     }
 
     /// Takes in a merge with its number.
-    fn absorb_as(&mut self, number: u64, merge: &Merge) -> Result<(), NoMemory>
+    fn absorb_as(&mut self, number: u64, merge: &Merge) -> Result<Vec<ChangedKey>, NoMemory>
         requires { number ≡ self.old.number + 1 }
         ensures ok { OnOk result (IsAbsorbed self.old merge.now self.new) }
         ensures err { OnErr result (self.new ≡ self.old) }
@@ -189,7 +223,7 @@ impl Stamped {
             Ok(()) => {
                 fill_all(&mut self.stamps, &keys, number);
                 self.number = number;
-                Ok(())
+                Ok(keys)
             }
             Err(refused) => {
                 drop_rooms(&mut self.stamps, &keys);

@@ -13,7 +13,7 @@ ghost use Rattle.replica_exchange.specs.StampShelves.{filled, slot, key_of, rest
 use harvest_lattice::Row;
 use memento_time::{ArchiveName, NoMemory, Original};
 use std::alloc::Global;
-use std::collections::BTreeMap;
+use std::collections::btree_map::{BTreeMap, Iter};
 use std::marker::Model;
 
 /// The archive and original of an entry that changes.
@@ -94,6 +94,13 @@ impl StampShelf {
         ensures { result ≡ filled (map.get self.now original.now) }
     {
         *self.slots.get(original)?
+    }
+
+    /// The slots by original.
+    pub fn iter(&self) -> Iter<'_, Original, Option<u64>>
+        ensures { result ≡ map.entries self.now }
+    {
+        self.slots.iter()
     }
 
     /// Makes a slot if there is none. The stamps stay as they are.

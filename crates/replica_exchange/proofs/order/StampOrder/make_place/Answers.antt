@@ -1,7 +1,7 @@
-use Rattle.std.proofs.Common.{map}
-use Rattle.replica_exchange.specs.StampOrder.{given, order_of}
-use Rattle.replica_exchange.proofs.OrderLemmas.{order_kept}
+use Rattle.replica_exchange.specs.StampOrder.{order_of}
+use Rattle.replica_exchange.proofs.OrderLemmas.{order_anew}
 use Rattle.replica_exchange.proofs.order.StampOrder.make_place.Goals as goal
 
-pub returns-then-is_crowded : goal.returns-then-is_crowded
-returns-then-is_crowded c number is = order_kept c.args.shelves.now (order_of c.args.self.now) (map given c.drop_overtaken.new.rows.items) number c.drop_overtaken.ensures is
+pub returns-in-Ok : goal.returns-in-Ok
+returns-in-Ok c number is =
+    order_anew c.args.shelves.now (order_of c.args.self.now) c.in-Ok.rows.items number c.in-Ok.ensures.standing c.in-Ok.ensures.rises is

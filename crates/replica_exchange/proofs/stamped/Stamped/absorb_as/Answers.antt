@@ -14,8 +14,8 @@ use Rattle.replica_exchange.proofs.AbsorbLemmas.{absorbed, get-restamped}
 use Rattle.replica_exchange.proofs.OrderLemmas.{order_after, order_same}
 use Rattle.replica_exchange.proofs.stamped.Stamped.absorb_as.Goals as goal
 
-pub returns-clause-err : goal.returns-clause-err
-returns-clause-err c =
+pub returns-in-Err-clause-err : goal.returns-in-Err-clause-err
+returns-in-Err-clause-err c =
     let x = c.self.inside in
     let same : stamps_in c.drop_rooms.new.shelves ≡ stamps_in x.stamps = same_stamps x.stamps c.drop_rooms.new.shelves c.self.invariant.0 c.drop_rooms.ensures.ordered
     (λ k. c.drop_rooms.ensures.same k ∙ c.put_with_room-taken.ensures.same k) in
@@ -61,8 +61,8 @@ invariant_of-self c =
           (order_after x.stamps c.put_with_room-taken.new.stamps c.fill_all.new.shelves rows keys x.number c.args.number next kept c.put_with_room-taken.ensures.same c.fill_all.ensures.stamps),
     )
 
-pub invariant_of-self-in-Err : goal.invariant_of-self-in-Err
-invariant_of-self-in-Err c =
+pub invariant_of-self-in-Err-1 : goal.invariant_of-self-in-Err-1
+invariant_of-self-in-Err-1 c =
     let x = c.self.inside in
     let rows = order_of c.make_place.new.self in
     let kept : IsOrderOf x.stamps rows x.number = c.make_place.ensures x.number c.self.invariant.1 in

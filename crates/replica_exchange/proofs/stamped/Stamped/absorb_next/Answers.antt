@@ -2,7 +2,7 @@ use Rattle.std.proofs.Common.{◌≡◌, ◌+◌, ap, ◌∙◌, refl, arith}
 use Rattle.replica_exchange.specs.Stamps.{StampedState}
 use Rattle.replica_exchange.proofs.StampLemmas.{absorbed_is_stamped}
 use Rattle.replica_exchange.proofs.AbsorbLemmas.{ok_of_refused, is_not_spent, on_err}
-use Rattle.replica_exchange.proofs.stamped.Stamped.absorb.Goals as goal
+use Rattle.replica_exchange.proofs.stamped.Stamped.absorb_next.Goals as goal
 
 pub returns-in_default-clause-spent : goal.returns-in_default-clause-spent
 returns-in_default-clause-spent c =
