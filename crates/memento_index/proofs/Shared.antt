@@ -1,5 +1,5 @@
 -- A list that one archive alone shows.
-use Rattle.std.proofs.Common.{◌≡◌, ℕ, ◌+◌, ◌≤◌, ◌==◌, true, false, length, List, [], ◌∷◌, ◌++◌, refl, ap, arith, ◌∙◌}
+use Rattle.std.proofs.Common.{◌≡◌, ℕ, ◌+◌, ◌≤◌, ◌==◌, true, false, length, List, [], ◌∷◌, ◌++◌, refl, sym, ap, subst, arith, ◌∙◌}
 use Rattle.std.specs.List.{AllByRecursion, list_all}
 use Rattle.std.proofs.lemmas.Bool.Decides.{Decides-eqb}
 use Rattle.std.specs.List.Sorted.{IsStrictlySortedBy}
@@ -8,6 +8,7 @@ use Rattle.memento_time.specs.Mementos.{memento_cmp}
 use Rattle.memento_time.specs.declared.mementos.Memento.{Memento}
 use Rattle.memento_sets.specs.Sets as set
 use Rattle.memento_sets.specs.MementoSets.{Mementos}
+use Rattle.memento_sets.proofs.Ordered.{items_in_order}
 use Rattle.memento_sets.proofs.Same.{halves_true}
 use Rattle.memento_sets.proofs.Sets.{items_sorted}
 use Rattle.memento_index.specs.declared.counted.Counted.{Counted}
@@ -15,6 +16,7 @@ use Rattle.memento_index.specs.declared.counted.Step.{Step}
 use Rattle.memento_index.specs.Counts.{mementos_of, once, count_of, occurrences, beginnings, endings, AreAbove, IsTally, IsRecounted}
 use Rattle.memento_index.specs.Lists.{each_step}
 use Rattle.memento_index.specs.Tallies.{beside, each_once}
+use Rattle.memento_index.proofs.Listed.{tally_sorted}
 
 -- ---- each shown by one archive
 
@@ -74,6 +76,15 @@ beside_ones (m ∷ ms) (n ∷ ns) same ones =
     let one : n ≡ 1 = (Decides-eqb n 1).0 (halves_true (n == 1) (list_all (λ n. n == 1) ns) ones).0 in
     let rest = beside_ones ms ns (omega (arith, same)) (halves_true (n == 1) (list_all (λ n. n == 1) ns) ones).1 in
     ap (λ k. record { memento = m; count = k } ∷ beside ms ns) one ∙ ap (λ es. record { memento = m; count = 1 } ∷ es) rest
+
+-- so the set of a tally's mementos lists them as they are
+pub ones_as_set : (ms : List Memento) (ns : List ℕ) → length ms ≡ length ns → list_all (λ n. n == 1) ns ≡ true
+    → IsTally (beside ms ns) → each_once (set.items (set.from_list {R = memento_cmp} ms)) ≡ beside ms ns
+ones_as_set ms ns same ones up =
+    let once : beside ms ns ≡ each_once ms = beside_ones ms ns same ones in
+    let sorted : IsStrictlySortedBy memento_cmp ms = subst (λ (xs : List Memento). IsStrictlySortedBy memento_cmp xs)
+    (mementos_once ms) (tally_sorted (each_once ms) (subst IsTally once up)) in
+    ap (λ (xs : List Memento). each_once xs) (items_in_order ms sorted) ∙ sym once
 
 -- where there is no room, there is nothing, and nothing comes
 pub no_room : (old : List Counted) (steps : List Step) (room : ℕ) → length old + length steps ≤ room → room ≡ 0 → IsTally old → IsRecounted old steps old

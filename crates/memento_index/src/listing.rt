@@ -1,5 +1,5 @@
 //! The list of one original.
-ghost use Rattle.std.specs.Prelude.{◌≡◌, ◌+◌, ◌≤◌, [], IfOk, IsTrue, Some, length};
+ghost use Rattle.std.specs.Prelude.{◌≡◌, ◌+◌, ◌≤◌, [], IfOk, IfSome, IsTrue, Some, length};
 ghost use Rattle.std.specs.Arc.{arc_value};
 ghost use Rattle.memento_sets.specs.Sets as set;
 ghost use Rattle.memento_index.specs.Counts.{mementos_of, IsTally, IsRecounted};
@@ -16,11 +16,13 @@ use std::alloc::Global;
 use std::marker::Model;
 use std::sync::Arc;
 
-/// Lists of this many mementos at most are compared, so that two indexes can share them.
+/// A list is short if it has this many mementos at most.
 const SHORT: usize = 64;
 
 /// A list that only one archive shows is the set of that archive's entry, shared if the entry has one revision, and has
-/// no columns. It gets columns of its own when another archive's mementos are added, or more of the same revision.
+/// no columns. It gets columns of its own when another archive's mementos are added, or more of the same revision. Once
+/// these are counted, a short list that shows each memento of one archive alone is frozen: it is a set again, without
+/// counts, which another index can share. It gets columns again when it changes, which costs a copy of a short list.
 #[derive(Debug, Drop)]
 pub struct Listing {
     shared: Option<Arc<Mementos>>,
@@ -78,7 +80,9 @@ impl Listing {
     {
         if let Some(shared) = &mut self.shared {
             if let Some(others) = &other.shared {
-                share_same(shared, others);
+                if share_same(shared, others) {
+                    self.wear = other.wear;
+                }
             }
         }
     }
@@ -92,7 +96,6 @@ impl Listing {
         if let Some(shared) = &self.shared {
             self.own = count_each(shared.allocator(), shared.as_slice(), more)?;
             self.shared = None;
-            self.wear = Wear::none();
         }
         self.own.reserve(more)
     }
@@ -113,11 +116,13 @@ impl Listing {
         }
     }
 
+    /// Shares the set of an entry.
     fn share(&mut self, list: Arc<Mementos>)
         ensures { self.new.entries ≡ each_once (set.items (arc_value list)) }
     {
         self.own = Tally::new(list.allocator());
         self.shared = Some(list);
+        self.wear = Wear::none();
     }
 
     fn recount_each(&mut self, lifted: &mut Tally, steps: Vec<Step>)
@@ -135,22 +140,45 @@ impl Listing {
             let bytes = bytes_of_steps(&steps);
             recount(&mut self.own, lifted, steps);
             self.wear.pack_worn(&mut self.own, bytes);
+            // Its addresses stay where they are, and so does what is known of their wear.
+            if let Some(list) = frozen(&self.own) {
+                self.own = Tally::new(list.allocator());
+                self.shared = Some(list);
+            }
         }
     }
 }
 
-/// Puts the other set in the place of the first, if they are the same and short.
-fn share_same(shared: &mut Arc<Mementos>, others: &Arc<Mementos>)
+/// Puts the other set in the place of the first, if they are the same and short, and returns whether it did.
+fn share_same(shared: &mut Arc<Mementos>, others: &Arc<Mementos>) -> bool
     ensures { set.items (arc_value shared.new) ≡ set.items (arc_value shared.old) }
 {
     if shared.len() > SHORT || others.len() > SHORT {
-        return;
+        return false;
     }
-    if are_same(shared.as_slice(), others.as_slice()) {
-        if let Ok(copy) = Arc::try_clone(others) {
+    if !are_same(shared.as_slice(), others.as_slice()) {
+        return false;
+    }
+    match Arc::try_clone(others) {
+        Ok(copy) => {
             *shared = copy;
+            true
         }
+        Err(_) => false,
     }
+}
+
+/// The set of a short list that shows each memento of one archive alone. `None` also if memory is refused.
+fn frozen(own: &Tally) -> Option<Arc<Mementos>>
+    ensures { IsTally own.now.entries
+        → IfSome result (λ list. each_once (set.items (arc_value list)) ≡ own.now.entries) }
+{
+    let len = own.mementos().len();
+    // An empty list is dropped.
+    if len == 0 || len > SHORT {
+        return None;
+    }
+    own.to_set()
 }
 
 /// Columns of these mementos, each shown by one archive, with room for more.

@@ -1,15 +1,18 @@
 //! Mementos, each with the number of archives that show it.
 ghost use Rattle.std.specs.Prelude.{◌≡◌, ◌+◌, ◌<◌, ◌≤◌, [], ◌∷◌, ◌++◌, IfNone, IfSome, IfOk, length, map as map_list};
 ghost use Rattle.std.specs.Prelude.{option_to_list, IsTrue, ◌==◌};
+ghost use Rattle.std.specs.Arc.{arc_value};
 ghost use Rattle.std.specs.List.{list_all};
+ghost use Rattle.memento_sets.specs.Sets as set;
 ghost use Rattle.memento_index.specs.Counts.{mementos_of, AreBelow, IsTally};
 ghost use Rattle.memento_index.specs.Tallies.{each_once};
 
 use crate::counted::Counted;
-use memento_sets::are_same;
+use memento_sets::{Mementos, are_same};
 use memento_time::{Memento, NoMemory, packed};
 use std::alloc::Global;
 use std::marker::Model;
+use std::sync::Arc;
 
 /// Mementos and their counts, in two columns, so that the mementos can be borrowed as one list.
 #[derive(Debug, Drop)]
@@ -58,6 +61,17 @@ impl Tally {
         ensures { IsTrue result → self.now.entries ≡ each_once mementos.now }
     {
         are_same(&self.mementos, mementos) && are_ones(&self.counts)
+    }
+
+    /// The mementos as a set, if each has the count 1. `None` also if memory is refused.
+    pub fn to_set(&self) -> Option<Arc<Mementos>>
+        ensures { IsTally self.now.entries
+            → IfSome result (λ list. each_once (set.items (arc_value list)) ≡ self.now.entries) }
+    {
+        if !are_ones(&self.counts) {
+            return None;
+        }
+        set_of(*self.mementos.allocator(), &self.mementos).ok()
     }
 
     /// Makes room for more mementos, and returns the length that the list may then have.
@@ -117,4 +131,12 @@ fn are_ones(counts: &[u64]) -> bool
     ensures { result ≡ list_all (λ n. n == 1) counts.now }
 {
     counts.iter().all(|count| *count == 1)
+}
+
+/// A set of these mementos, in memory of its own.
+fn set_of(alloc: Global, mementos: &[Memento]) -> Result<Arc<Mementos>, NoMemory>
+    ensures { IfOk result (λ list. arc_value list ≡ set.from_list mementos.now) }
+{
+    let copies = Vec::from_clones(alloc, mementos)?;
+    Ok(Arc::new(alloc, Mementos::of(copies))?)
 }
