@@ -1,5 +1,5 @@
 -- What the changes of one batch do to a copy.
-use Rattle.std.proofs.Common.{◌≡◌, List, [], ◌∷◌, ◌++◌, fold, refl, sym, ap, ◌∙◌, append_assoc, append-nil, subst, Contains}
+use Rattle.std.proofs.Common.{◌≡◌, List, [], ◌∷◌, ◌++◌, fold, refl, sym, ap, ◌∙◌, append_assoc, append-nil, subst, Contains, box_value}
 use Rattle.std.proofs.lemmas.List.Elements.{Contains-append_left}
 use mathlib.Core.List.{IsPrefix}
 use Rattle.memento_index.specs.declared.merge.Merge.{Merge}
@@ -28,17 +28,15 @@ fold-batch list batch = ap harvests_of (merges-append list batch) ∙ harvests-a
 pub changes : (x : Edition) (cs : List Change) (mark : Mark) → fold after_change x (cs ++ Reach mark ∷ []) ≡ record { stamped = fold stamped_with x.stamped (merges_in cs); mark = mark }
 changes x [] mark = refl
 changes x (Reach m ∷ cs) mark = changes (record { stamped = x.stamped; mark = m }) cs mark
-changes x (Add m ∷ cs) mark = changes (record { stamped = stamped_with x.stamped m; mark = x.mark }) cs mark
+changes x (Add m ∷ cs) mark = changes (record { stamped = stamped_with x.stamped (box_value m); mark = x.mark }) cs mark
 
-pub merges_in-append : (cs : List Change) (m : Merge) → merges_in (cs ++ Add m ∷ []) ≡ merges_in cs ++ m ∷ []
-merges_in-append [] m = refl
-merges_in-append (Reach mark ∷ cs) m = merges_in-append cs m
-merges_in-append (Add n ∷ cs) m = ap (λ (t : List Merge). n ∷ t) (merges_in-append cs m)
+pub merges_in-append : (cs ds : List Change) → merges_in (cs ++ ds) ≡ merges_in cs ++ merges_in ds
+merges_in-append [] ds = refl
+merges_in-append (Reach mark ∷ cs) ds = merges_in-append cs ds
+merges_in-append (Add m ∷ cs) ds = ap (λ (ms : List Merge). box_value m ∷ ms) (merges_in-append cs ds)
 
 pub merges_in-reach : (cs : List Change) (mark : Mark) → merges_in (cs ++ Reach mark ∷ []) ≡ merges_in cs
-merges_in-reach [] mark = refl
-merges_in-reach (Reach m ∷ cs) mark = merges_in-reach cs mark
-merges_in-reach (Add n ∷ cs) mark = ap (λ (t : List Merge). n ∷ t) (merges_in-reach cs mark)
+merges_in-reach cs mark = merges_in-append cs (Reach mark ∷ []) ∙ append-nil (merges_in cs)
 
 -- what is taken, merge by merge
 pub taken-all : (taken : List Harvested) (batch : Batch) → fold (λ (t : List Harvested) (m : Merge). t ++ adds_of m) taken batch ≡ taken ++ harvests_of batch

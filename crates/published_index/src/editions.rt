@@ -9,12 +9,14 @@ use replica_exchange::Stamped;
 use std::alloc::{AllocError, Global};
 
 /// A change that the merger's log holds for the copies: the merges of a batch, followed by the mark that the batch
-/// reaches.
+/// reaches. A merge stands apart, so that the room that the log keeps takes two words a change.
 #[derive(Drop)]
 pub enum Change {
-    Add(Merge),
+    Add(Box<Merge>),
     Reach(Mark),
 }
+
+const _: () = prove!(size_of::<Change>() == 16);
 
 /// One copy: an index with its stamps, and the mark of the last attempt that is in it.
 #[derive(Drop)]
@@ -43,9 +45,9 @@ impl Absorb<Change> for Edition {
 
     ghost applied = { after_change };
 
-    fn absorb_first(&mut self, operation: &Change, _other: &Edition) -> Result<(), AllocError> {
+    fn absorb_first(&mut self, operation: &Change, other: &Edition) -> Result<(), AllocError> {
         match operation {
-            Change::Add(merge) => match self.stamped.absorb(merge) {
+            Change::Add(merge) => match self.stamped.absorb_beside(merge, &other.stamped) {
                 Ok(()) => Ok(()),
                 Err(_) => Err(AllocError),
             },

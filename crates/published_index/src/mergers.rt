@@ -14,6 +14,7 @@ use core::mem::replace_with;
 use memento_index::Merge;
 use memento_time::NoMemory;
 use replica_exchange::{Cursor, Cursors, Delta, TakeFault};
+use std::alloc::Global;
 use std::marker::{Brand, Model};
 use std::sync::Wait;
 
@@ -23,6 +24,7 @@ use std::sync::Wait;
 ///
 /// A merger isn't `Drop`, since ending it may wait for readers. End it with `close`.
 pub struct Merger {
+    pub(crate) alloc: Global,
     pub(crate) writer: EditionWriter,
     pub(crate) head: Head,
     /// The mark of everything that was attempted.
@@ -70,7 +72,7 @@ impl Merger {
     {
         let shown = self.writer.published().stamped.index().state();
         let copy = merge.shared_with(shown)?;
-        add(&mut self.writer, copy)
+        add(&mut self.writer, self.alloc, copy)
     }
 
     /// Appends a copy of the state of a peer's delta to what is pending, and moves the peer's cursor, if the delta
@@ -92,7 +94,7 @@ impl Merger {
         };
         moved.advance(peer, delta)?;
         // What was appended can't be taken back, so the cursors move last.
-        let Ok(()) = add(&mut self.writer, Merge::State(state)) else {
+        let Ok(()) = add(&mut self.writer, self.alloc, Merge::State(state)) else {
             return Err(TakeFault::NoMemory);
         };
         self.cursors = moved;
@@ -154,6 +156,7 @@ impl Merger {
     /// answer.
     pub fn close<R: Wait>(self, rt: &R) {
         let Merger {
+            alloc: _,
             writer,
             head: _,
             mark: _,

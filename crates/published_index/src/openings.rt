@@ -53,6 +53,7 @@ pub fn open<R: Wait>(
             let last_success = mark.copy();
             Ok((
                 Merger {
+                    alloc,
                     writer,
                     head,
                     mark,

@@ -2,7 +2,7 @@
 ghost use Rattle.std.specs.Prelude.{◌≡◌, ◌≤◌, [], ◌∷◌, ◌++◌, drop, fold, IfOk, MatchResult};
 ghost use Rattle.left_right.specs.Sides.{view as view_of};
 ghost use Rattle.replica_events.specs.World.{last_number};
-ghost use Rattle.published_index.specs.declared.editions.Change.TheVariants.{Add, Reach};
+ghost use Rattle.published_index.specs.declared.editions.Change.TheVariants.{Reach};
 ghost use Rattle.published_index.specs.declared.marks.LogEntry.TheVariants.{Attempt};
 ghost use Rattle.published_index.specs.Changes.{merges_in, after_change, batches_of, book_of};
 ghost use Rattle.published_index.specs.Marks.{successes, successes_with_last, head_of};
@@ -13,17 +13,22 @@ use crate::marks::{Head, Mark, NamesEntry};
 use crate::rules::{EditionWriter, Publication};
 use memento_index::Merge;
 use memento_time::NoMemory;
-use std::alloc::AllocError;
+use std::alloc::{AllocError, Global};
 use std::sync::Wait;
 
 /// Appends the merge to what is pending.
-pub(crate) fn add(writer: &mut EditionWriter, merge: Merge) -> Result<(), NoMemory>
+pub(crate) fn add(
+    writer: &mut EditionWriter,
+    alloc: Global,
+    merge: Merge,
+) -> Result<(), NoMemory>
     ensures desk { writer.new.desk ≡ writer.old.desk }
     ensures log { MatchResult result
-        (λ _. drop writer.new.behind writer.new.log.items
-        ≡ drop writer.old.behind writer.old.log.items ++ Add merge ∷ [])
+        (λ _. merges_in (drop writer.new.behind writer.new.log.items)
+        ≡ merges_in (drop writer.old.behind writer.old.log.items) ++ merge ∷ [])
         (λ _. drop writer.new.behind writer.new.log.items ≡ drop writer.old.behind writer.old.log.items) }
 {
+    let merge = Box::new(alloc, merge)?;
     match writer.append(Change::Add(merge)) {
         Ok(()) => Ok(()),
         Err(_) => Err(NoMemory),

@@ -119,6 +119,38 @@ fn a_gate_is_closed_once_its_merger_is_and_not_before(rt: HostRuntime) -> Result
     Ok(())
 }
 
+/// What is shown with a merge pending, once it is published, and then: the merger settles before each question.
+fn ask_settled<R: Wait>(
+    rt: &R,
+    merger: &mut Merger,
+    gate: &mut Gate,
+    merge: &Merge,
+    request: &Request,
+) -> Result<(Shown, Shown, Shown)> {
+    merger.append(merge)?;
+    merger.settle(rt);
+    let pending = shown_by(gate.answer(request));
+    merger.publish(rt)?;
+    merger.settle(rt);
+    let published = shown_by(gate.answer(request));
+    merger.settle(rt);
+    Ok((pending, published, shown_by(gate.answer(request))))
+}
+
+#[test]
+fn settling_shows_nothing_else(rt: HostRuntime) -> Result<()> {
+    let asked = timegate_request(rt.alloc())?;
+    let merge = second_merge(rt.alloc())?;
+    let (mut merger, mut gates) = open(&rt, rt.alloc(), service(rt.alloc())?, 1, 1)?;
+    let mut seen = None;
+    if let Some(mut gate) = gates.pop() {
+        seen = ask_settled(&rt, &mut merger, &mut gate, &merge, &asked).ok();
+    }
+    merger.close(&rt);
+    assert_eq!(rt; seen, Some((Shown::Nothing, Shown::Second, Shown::Second)));
+    Ok(())
+}
+
 /// Sleeps until the flag is 1, for at most 10,000 sleeps of a millisecond, and says whether it came.
 fn wait_for<R: Clock>(rt: &R, flag: &AtomicU64) -> bool {
     for _ in 0..10_000 {
