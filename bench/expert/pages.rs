@@ -1,7 +1,7 @@
 //! The reader of an archive's page. Links of a page mostly differ in their target and their datetime alone: what stood
 //! between the two, and from there to the next link's target, is kept of the last link that was a memento and no more.
 //! Where the next link has the same bytes there, its reading can only be the same. Every other link is read by the
-//! grammar.
+//! grammar; and so is each where nothing is to be guessed.
 use crate::dates::{self, DateReader};
 use crate::scan::{find_unclean, find_unplain, is, Piece, BLANK, CLEAN, NAME, PLAIN, TARGET, TOKEN};
 use crate::texts::{Memento, Texts};
@@ -46,6 +46,7 @@ struct Glue {
 }
 
 struct Reader<'a> {
+    guesses: bool,
     texts: &'a mut Texts,
     dates: &'a mut DateReader,
     text: &'static [u8],
@@ -278,7 +279,7 @@ impl Reader<'_> {
 
     /// The glue of the link that was read last, where the next one begins.
     fn learn(&mut self, next: usize) -> Option<Glue> {
-        let (close, date) = self.learnt.take()?;
+        let (close, date) = self.learnt.take().filter(|_| self.guesses)?;
         let before = Piece::of(&self.text[close..date])?;
         Some(Glue { before, after: Piece::of(&self.text[date + dates::LENGTH..next + 1])? })
     }
@@ -329,12 +330,19 @@ impl Reader<'_> {
 }
 
 /// Reads the page that stands in the script from `start` to `end`.
-pub fn read(texts: &mut Texts, dates: &mut DateReader, start: usize, end: usize) -> Result<Page, BadPage> {
+pub fn read(
+    texts: &mut Texts,
+    dates: &mut DateReader,
+    guesses: bool,
+    start: usize,
+    end: usize,
+) -> Result<Page, BadPage> {
     if end - start > MAX_PAGE {
         return Err(BadPage);
     }
     let text = texts.script;
     let mut reader = Reader {
+        guesses,
         texts,
         dates,
         text,

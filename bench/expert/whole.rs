@@ -2,6 +2,7 @@
 //!
 //!     rustc --edition 2021 -O -C target-cpu=x86-64-v2 whole.rs        x86-64 Linux, std alone
 //!     whole < SCRIPT
+//!     whole general < SCRIPT      guesses nothing: each link is read by the grammar
 //!
 //! It knows what bench/plain/whole.rs knows, keeps the limits of pages, and writes the same bytes; targets that don't
 //! begin with `http://` or `https://` are left out. What it does otherwise: the script is mapped, and not read; a
@@ -116,6 +117,7 @@ fn number(digits: &[u8]) -> u64 {
 }
 
 struct Aggregator {
+    guesses: bool,
     base: &'static [u8],
     texts: Texts,
     dates: DateReader,
@@ -126,7 +128,7 @@ struct Aggregator {
 impl Aggregator {
     /// Takes the page that stands in the script there.
     fn take(&mut self, archive: &'static [u8], revision: u64, original: &'static [u8], start: usize, end: usize) {
-        match pages::read(&mut self.texts, &mut self.dates, start, end) {
+        match pages::read(&mut self.texts, &mut self.dates, self.guesses, start, end) {
             Ok(page) if page.mementos.len() <= MAX_MEMENTOS => {
                 self.replies.taken(page.mementos.len(), page.further, page.dropped);
                 self.originals.entry(original).or_default().take(&self.texts, archive, revision, page.mementos);
@@ -156,8 +158,14 @@ impl Aggregator {
 fn main() -> std::io::Result<()> {
     let script = input()?;
     let texts = Texts::of(script);
-    let mut aggregator =
-        Aggregator { base: b"", texts, dates: DateReader::new(), originals: HashMap::new(), replies: Replies::new() };
+    let mut aggregator = Aggregator {
+        guesses: std::env::args().nth(1).as_deref() != Some("general"),
+        base: b"",
+        texts,
+        dates: DateReader::new(),
+        originals: HashMap::new(),
+        replies: Replies::new(),
+    };
     let mut at = 0;
     while at < script.len() - scan::PADDING {
         let length = script[at..].iter().position(|b| *b == b'\n').expect("an end of the line");
