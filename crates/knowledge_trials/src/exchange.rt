@@ -1,9 +1,15 @@
 //! Tests of `replica_exchange`: the texts of deltas, and what is too long. What replicas write, send and hold of each
 //! other, and texts that are none, stand in `tests/scripts` and `tests/rounds`, at the repository's top.
+use crate::rule::{ORIGINALS, Taken, harvest_of};
 use anyhow::Result;
-use replica_exchange::{Cursor, Cursors, StateFault, TakeFault, read_delta, read_state};
+use harvest_lattice::State;
+use memento_index::Merge;
+use replica_exchange::{
+    Cursor, Cursors, Stamped, StateFault, TakeFault, read_delta, read_state, write_delta,
+};
 use std::alloc::Global;
 use std::test::*;
+use text_trials::makers::original;
 
 /// What follows on two merges.
 const THIRD_MERGE: &[u8] =
@@ -82,5 +88,86 @@ fn texts_have_at_most_268_435_456_bytes(rt: HostRuntime) -> Result<()> {
     let most = without_last(&long);
     assert!(rt; is_no_state(alloc, most));
     assert!(rt; is_no_delta(alloc, most));
+    Ok(())
+}
+
+/// The harvests of many merges, each newer than those before it: of six keys, in no even turn.
+fn one_of_many(number: u64) -> Taken {
+    Taken {
+        archive: number % 3,
+        original: number / 5 % 2,
+        is_whole: true,
+        revision: number,
+        mementos: number % 16,
+    }
+}
+
+fn merge_of(alloc: Global, number: u64) -> Result<Merge> {
+    Ok(Merge::Harvest(harvest_of(alloc, one_of_many(number))?))
+}
+
+/// What the merges from one on make alone.
+fn state_of(alloc: Global, start: u64, end: u64) -> Result<State> {
+    let mut state = State::new(alloc);
+    for number in start..end {
+        state.merge(&harvest_of(alloc, one_of_many(number))?)?;
+    }
+    Ok(state)
+}
+
+/// Whether the delta from a number of merges has what the later ones made, and nothing else.
+fn has_what_followed(alloc: Global, stamped: &Stamped, start: u64) -> Result<bool> {
+    let delta = read_delta(alloc, &write_delta(alloc, stamped, at(start))?)?;
+    let wanted = state_of(alloc, start, stamped.number())?;
+    Ok(delta.start == start && delta.state.le(&wanted) && wanted.le(&delta.state))
+}
+
+/// Whether that holds of each number of merges.
+fn follows_on_all(alloc: Global, stamped: &Stamped) -> Result<bool> {
+    for start in 0..stamped.number() {
+        if !has_what_followed(alloc, stamped, start)? {
+            return Ok(false);
+        }
+    }
+    has_what_followed(alloc, stamped, stamped.number())
+}
+
+/// Of six keys, the order of stamps is made anew after every seventeen merges.
+#[test]
+fn deltas_stay_whole_over_many_changes(rt: HostRuntime) -> Result<()> {
+    let alloc = rt.alloc();
+    let mut stamped = Stamped::new(alloc, 1);
+    for number in 0..120 {
+        stamped.absorb(&merge_of(alloc, number)?)?;
+        if number % 10 == 3 || number > 110 {
+            assert!(rt; follows_on_all(alloc, &stamped)?, "after {number}");
+        }
+    }
+    Ok(())
+}
+
+/// Whether two copies list the same mementos of an original.
+fn list_the_same(alloc: Global, left: &Stamped, right: &Stamped, name: &[u8]) -> Result<bool> {
+    let name = original(alloc, name)?;
+    Ok(left.index().list(&name) == right.index().list(&name))
+}
+
+#[test]
+fn a_second_copy_takes_the_same_merges(rt: HostRuntime) -> Result<()> {
+    let alloc = rt.alloc();
+    let mut first = Stamped::new(alloc, 1);
+    let mut second = Stamped::new(alloc, 1);
+    for number in 0..40 {
+        let merge = merge_of(alloc, number)?;
+        first.absorb(&merge)?;
+        second.absorb_beside(&merge, &first)?;
+        for name in ORIGINALS {
+            assert!(rt;
+                list_the_same(alloc, &first, &second, name)?,
+                "after {number}"
+            );
+        }
+    }
+    assert!(rt; second.number() == 40 && follows_on_all(alloc, &second)?);
     Ok(())
 }
