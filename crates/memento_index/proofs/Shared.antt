@@ -1,5 +1,6 @@
 -- A list that one archive alone shows.
-use Rattle.std.proofs.Common.{◌≡◌, ℕ, ◌+◌, ◌≤◌, ◌==◌, true, false, length, List, [], ◌∷◌, ◌++◌, refl, sym, ap, subst, arith, ◌∙◌}
+use Rattle.std.proofs.Common.{◌≡◌, ℕ, ◌+◌, ◌≤◌, ◌==◌, true, false, length, List, [], ◌∷◌, ◌++◌, Box, Global, refl, sym, ap, subst, arith, ◌∙◌}
+use Rattle.std.specs.Arc.{arc_value}
 use Rattle.std.specs.List.{AllByRecursion, list_all}
 use Rattle.std.proofs.lemmas.Bool.Decides.{Decides-eqb}
 use Rattle.std.specs.List.Sorted.{IsStrictlySortedBy}
@@ -13,9 +14,12 @@ use Rattle.memento_sets.proofs.Same.{halves_true}
 use Rattle.memento_sets.proofs.Sets.{items_sorted}
 use Rattle.memento_index.specs.declared.counted.Counted.{Counted}
 use Rattle.memento_index.specs.declared.counted.Step.{Step}
+use Rattle.memento_index.specs.declared.listing.Holding.{Holding}
+use Rattle.memento_index.specs.declared.listing.Holding.TheVariants.{Nothing, Set, Columns}
 use Rattle.memento_index.specs.Counts.{mementos_of, once, count_of, occurrences, beginnings, endings, AreAbove, IsTally, IsRecounted}
 use Rattle.memento_index.specs.Lists.{each_step}
-use Rattle.memento_index.specs.Tallies.{beside, each_once}
+use Rattle.memento_index.specs.Holdings.{held_by}
+use Rattle.memento_index.specs.Tallies.{Tallied, beside, each_once}
 use Rattle.memento_index.proofs.Listed.{tally_sorted}
 
 -- ---- each shown by one archive
@@ -85,6 +89,13 @@ ones_as_set ms ns same ones up =
     let sorted : IsStrictlySortedBy memento_cmp ms = subst (λ (xs : List Memento). IsStrictlySortedBy memento_cmp xs)
     (mementos_once ms) (tally_sorted (each_once ms) (subst IsTally once up)) in
     ap (λ (xs : List Memento). each_once xs) (items_in_order ms sorted) ∙ sym once
+
+-- a list without columns shows each memento of one archive alone, and has no room
+pub without_columns : (h : Holding) → ((own : Box Tallied Global) → h ≡ Columns own → ⊥)
+    → (each_once (mementos_of (held_by h).entries) ≡ (held_by h).entries) × ((held_by h).room ≡ 0)
+without_columns Nothing not = (refl, refl)
+without_columns (Set list) not = (ap (λ ms. each_once ms) (mementos_once (set.items (arc_value list))), refl)
+without_columns (Columns own) not = absurd (not own refl)
 
 -- where there is no room, there is nothing, and nothing comes
 pub no_room : (old : List Counted) (steps : List Step) (room : ℕ) → length old + length steps ≤ room → room ≡ 0 → IsTally old → IsRecounted old steps old

@@ -1,4 +1,5 @@
 pub mod Choice
+pub mod Holdings
 pub mod Lists
 pub mod Merges
 pub mod Probes

@@ -1,10 +1,8 @@
--- Two columns as one list, or a shared set in their place.
-use Rattle.std.specs.Prelude.{ℕ, List, [], ◌∷◌, map, Option, Some, None, refl}
+-- Two columns as one list.
+use Rattle.std.specs.Prelude.{ℕ, List, [], ◌∷◌, map, refl}
 use Rattle.std.specs.Coded.{Coded, code_by, coded×, coded_ℕ, coded_list}
 use Rattle.memento_time.specs.Mementos.{coded_memento}
 use Rattle.memento_time.specs.declared.mementos.Memento.{Memento}
-use Rattle.memento_sets.specs.Sets as set
-use Rattle.memento_sets.specs.MementoSets.{Mementos}
 use Rattle.memento_index.specs.declared.counted.Counted.{Counted}
 
 -- the mementos with their counts, and how many there is room for
@@ -20,11 +18,6 @@ beside ms ns = []
 -- each memento shown by one archive
 abbrev pub each_once : List Memento → List Counted
 each_once ms = map (λ m. record { memento = m; count = 1 }) ms
-
--- a set that is shared stands in the place of the columns, and has no room
-abbrev pub shared_or : Option Mementos → Tallied → Tallied
-shared_or None own = own
-shared_or (Some shared) own = record { entries = each_once (set.items shared); room = 0 }
 
 -- a memento and its count, as a pair
 abbrev pub coded_counted : Coded Counted

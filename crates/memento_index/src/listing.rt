@@ -25,31 +25,38 @@ const SHORT: usize = 64;
 /// counts, which another index can share. It gets columns again when it changes, which costs a copy of a short list.
 #[derive(Debug, Drop)]
 pub struct Listing {
-    shared: Option<Arc<Mementos>>,
-    own: Tally,
+    holding: Holding,
     wear: Wear,
 }
 
+/// Most lists are sets, so that the columns stand apart: a list has three words.
+#[derive(Debug, Drop)]
+enum Holding {
+    Nothing,
+    Set(Arc<Mementos>),
+    Columns(Box<Tally>),
+}
+
+const _: () = prove!(size_of::<Listing>() == 24);
+
 impl Model for Listing {
-    ghost use Rattle.std.specs.Arc.{arc_value};
-    ghost use Rattle.std.specs.Option.{option_map};
-    ghost use Rattle.memento_index.specs.Tallies.{Tallied, coded_tallied, shared_or};
+    ghost use Rattle.memento_index.specs.Tallies.{Tallied, coded_tallied};
+    ghost use Rattle.memento_index.specs.Holdings.{held_by};
 
     ghost Value = { Tallied };
 
     ghost coded = { coded_tallied };
 
-    ghost view = { λ l. shared_or (option_map arc_value l.shared) l.own };
+    ghost view = { λ l. held_by l.holding };
 }
 
 impl Listing {
     /// No mementos. Takes no memory.
-    pub fn new(alloc: Global) -> Listing
+    pub fn new() -> Listing
         ensures { result.entries ≡ [] }
     {
         Listing {
-            shared: None,
-            own: Tally::new(alloc),
+            holding: Holding::Nothing,
             wear: Wear::none(),
         }
     }
@@ -58,9 +65,10 @@ impl Listing {
     pub fn mementos(&self) -> &[Memento]
         ensures { result.now ≡ mementos_of self.now.entries }
     {
-        match &self.shared {
-            Some(shared) => shared.as_slice(),
-            None => self.own.mementos(),
+        match &self.holding {
+            Holding::Nothing => &[],
+            Holding::Set(list) => list.as_slice(),
+            Holding::Columns(own) => own.mementos(),
         }
     }
 
@@ -68,9 +76,10 @@ impl Listing {
     pub fn has_just(&self, mementos: &[Memento]) -> bool
         ensures { IsTrue result → self.now.entries ≡ each_once mementos.now }
     {
-        match &self.shared {
-            Some(shared) => are_same(shared.as_slice(), mementos),
-            None => self.own.has_just(mementos),
+        match &self.holding {
+            Holding::Nothing => mementos.is_empty(),
+            Holding::Set(list) => are_same(list.as_slice(), mementos),
+            Holding::Columns(own) => own.has_just(mementos),
         }
     }
 
@@ -78,9 +87,9 @@ impl Listing {
     pub fn share_with(&mut self, other: &Listing)
         ensures { self.new ≡ self.old }
     {
-        if let Some(shared) = &mut self.shared {
-            if let Some(others) = &other.shared {
-                if share_same(shared, others) {
+        if let Holding::Set(list) = &mut self.holding {
+            if let Holding::Set(others) = &other.holding {
+                if share_same(list, others) {
                     self.wear = other.wear;
                 }
             }
@@ -88,16 +97,18 @@ impl Listing {
     }
 
     /// Makes room for more mementos, and returns the length that the list may then have.
-    pub fn reserve(&mut self, more: usize) -> Result<usize, NoMemory>
+    pub fn reserve(&mut self, alloc: Global, more: usize) -> Result<usize, NoMemory>
         ensures entries { self.new.entries ≡ self.old.entries }
         ensures room { self.old.room ≤ self.new.room }
         ensures made { IfOk result (λ most. (most ≡ length self.new.entries + more) × (most ≤ self.new.room)) }
     {
-        if let Some(shared) = &self.shared {
-            self.own = count_each(shared.allocator(), shared.as_slice(), more)?;
-            self.shared = None;
+        if let Holding::Columns(own) = &mut self.holding {
+            return own.reserve(more);
         }
-        self.own.reserve(more)
+        let mut own = count_each(alloc, self.mementos(), more)?;
+        let most = own.reserve(more)?;
+        self.holding = Holding::Columns(Box::new(alloc, own)?);
+        Ok(most)
     }
 
     /// Counts what archives begin and cease to show. Needs no memory: if it is refused, the list just isn't packed.
@@ -120,8 +131,7 @@ impl Listing {
     fn share(&mut self, list: Arc<Mementos>)
         ensures { self.new.entries ≡ each_once (set.items (arc_value list)) }
     {
-        self.own = Tally::new(list.allocator());
-        self.shared = Some(list);
+        self.holding = Holding::Set(list);
         self.wear = Wear::none();
     }
 
@@ -135,15 +145,14 @@ impl Listing {
         ensures settled { lifted.new.entries ≡ [] }
         ensures lifted_room { lifted.old.room ≤ lifted.new.room }
     {
-        // A list that is shared has no room. In that case it is empty, and there are no steps.
-        if self.shared.is_none() {
+        // A list without columns has no room. In that case it is empty, and there are no steps.
+        if let Holding::Columns(own) = &mut self.holding {
             let bytes = bytes_of_steps(&steps);
-            recount(&mut self.own, lifted, steps);
-            self.wear.pack_worn(&mut self.own, bytes);
-            // Its addresses stay where they are, and so does what is known of their wear.
-            if let Some(list) = frozen(&self.own) {
-                self.own = Tally::new(list.allocator());
-                self.shared = Some(list);
+            recount(own, lifted, steps);
+            self.wear.pack_worn(own, bytes);
+            // The addresses stay where they are, and so does what is known of their wear.
+            if let Some(list) = frozen(own) {
+                self.holding = Holding::Set(list);
             }
         }
     }

@@ -64,16 +64,16 @@ fn make_room(
     if keys.checked_add(more).is_none() {
         return Err(NoMemory);
     }
-    make_list(lists, alloc, original)?;
+    make_list(lists, original)?;
     if let Steps::Each(_) = steps {
-        let most = reserve(lists, original, more)?;
+        let most = reserve(lists, alloc, original, more)?;
         lifted.reserve(most)?;
     }
     Ok(())
 }
 
 /// Gives an original an empty list if it has none.
-fn make_list(lists: &mut Lists, alloc: Global, original: &Original) -> Result<(), NoMemory>
+fn make_list(lists: &mut Lists, original: &Original) -> Result<(), NoMemory>
     ensures grow { (o : List ℕ) → Grows (tree.get text_cmp lists.old o) (tree.get text_cmp lists.new o) }
     ensures others { (o : List ℕ) → eq_by_cmp text_cmp original.now o ≡ false
         → tree.get text_cmp lists.new o ≡ tree.get text_cmp lists.old o }
@@ -81,13 +81,18 @@ fn make_list(lists: &mut Lists, alloc: Global, original: &Original) -> Result<()
 {
     if !lists.contains_key(original) {
         let original = original.try_clone()?;
-        lists.insert(original, Listing::new(alloc))?;
+        lists.insert(original, Listing::new())?;
     }
     Ok(())
 }
 
 /// Makes room in the list of an original, and returns the length that it may then have.
-fn reserve(lists: &mut Lists, original: &Original, more: usize) -> Result<usize, NoMemory>
+fn reserve(
+    lists: &mut Lists,
+    alloc: Global,
+    original: &Original,
+    more: usize,
+) -> Result<usize, NoMemory>
     ensures grow { (o : List ℕ) → Grows (tree.get text_cmp lists.old o) (tree.get text_cmp lists.new o) }
     ensures others { (o : List ℕ) → eq_by_cmp text_cmp original.now o ≡ false
         → tree.get text_cmp lists.new o ≡ tree.get text_cmp lists.old o }
@@ -96,7 +101,7 @@ fn reserve(lists: &mut Lists, original: &Original, more: usize) -> Result<usize,
         (λ t. (most ≡ length t.entries + more) × (most ≤ t.room))) }
 {
     match lists.get_mut(original) {
-        Some(list) => list.reserve(more),
+        Some(list) => list.reserve(alloc, more),
         None => Ok(0),
     }
 }

@@ -14,14 +14,16 @@ use memento_time::Memento;
 /// several revisions also keeps these revisions' buffers until it is packed. A list that is frozen keeps the handles of
 /// its columns, and so its wear, which goes on when it gets columns again. A list that is shared with an entry keeps what
 /// the entry keeps, and has no wear.
+///
+/// The counts take one word together, since each list has them. They end at 4 GiB: a list with more isn't packed.
 #[derive(Clone, Copy, Debug)]
 pub struct Wear {
-    moved: usize,
-    due: usize,
+    moved: u32,
+    due: u32,
 }
 
 /// This many bytes aren't worth a test.
-const FEW: usize = 1024;
+const FEW: u32 = 1024;
 
 impl Wear {
     pub fn none() -> Wear {
@@ -33,11 +35,11 @@ impl Wear {
     pub fn pack_worn(&mut self, list: &mut Tally, bytes: usize)
         ensures { list.new.entries ≡ list.old.entries }
     {
-        self.moved = self.moved.saturating_add(bytes);
+        self.moved = self.moved.saturating_add(saturated(bytes));
         if self.moved <= self.due {
             return;
         }
-        let own = bytes_of(list.mementos());
+        let own = saturated(bytes_of(list.mementos()));
         if self.moved > own {
             if let Ok(packed) = list.packed() {
                 *list = packed;
@@ -46,6 +48,11 @@ impl Wear {
         }
         self.due = self.moved.saturating_add(FEW.max(own / 2));
     }
+}
+
+/// As many bytes, or as many as a count ends at.
+fn saturated(bytes: usize) -> u32 {
+    u32::try_from(bytes).unwrap_or(u32::MAX)
 }
 
 /// How many bytes the addresses of the mementos have.
