@@ -2,7 +2,8 @@
 //!
 //!     rustc --edition 2021 -O -C target-cpu=x86-64-v2 whole.rs        x86-64 Linux, std alone
 //!     whole < SCRIPT
-//!     whole general < SCRIPT      guesses nothing: each link is read by the grammar
+//!     whole [general] [read] < SCRIPT     tells what two of its ways are worth: with `general` it reads each link by the
+//!                                         grammar and guesses nothing, with `read` it reads the script and maps nothing
 //!
 //! It knows what bench/plain/whole.rs knows, keeps the limits of pages, and writes the same bytes; targets that don't
 //! begin with `http://` or `https://` are left out. What it does otherwise: the script is mapped, and not read; a
@@ -54,10 +55,10 @@ fn mapped(file: &File) -> Option<&'static [u8]> {
 }
 
 /// Standard input with zeros behind it.
-fn input() -> std::io::Result<&'static [u8]> {
+fn input(maps: bool) -> std::io::Result<&'static [u8]> {
     // Safety: standard input isn't closed.
     let mut file = ManuallyDrop::new(unsafe { File::from_raw_fd(0) });
-    if let Some(script) = mapped(&file) {
+    if let Some(script) = maps.then(|| mapped(&file)).flatten() {
         return Ok(script);
     }
     let mut script = Vec::new();
@@ -156,10 +157,11 @@ impl Aggregator {
 }
 
 fn main() -> std::io::Result<()> {
-    let script = input()?;
+    let has = |word: &str| std::env::args().any(|other| other == word);
+    let script = input(!has("read"))?;
     let texts = Texts::of(script);
     let mut aggregator = Aggregator {
-        guesses: std::env::args().nth(1).as_deref() != Some("general"),
+        guesses: !has("general"),
         base: b"",
         texts,
         dates: DateReader::new(),

@@ -11,6 +11,13 @@ use Rattle.published_index.specs.Batches.{Batch}
 use Rattle.published_index.specs.Changes.{merges_in}
 use Rattle.published_index.specs.Cursors.{with_merge, with_delta}
 use Rattle.published_index.specs.Views.{MergerView}
+use Rattle.published_index.proofs.Folding.{merges_in-append}
+
+-- what a change adds that was noted
+pub noted : (r : Result (Unit {0}) NoMemory) (log log' : List Change) (change : Change) (ms : List Merge) → merges_in (change ∷ []) ≡ ms
+    → MatchResult r (λ _. log' ≡ log ++ change ∷ []) (λ _. log' ≡ log) → MatchResult r (λ _. merges_in log' ≡ merges_in log ++ ms) (λ _. log' ≡ log)
+noted (Ok x) log log' change ms is more = ap merges_in more ∙ (merges_in-append log (change ∷ []) ∙ ap (λ (ms : List Merge). merges_in log ++ ms) is)
+noted (Err x) log log' change ms is same = same
 
 pub appended : (r : Result (Unit {0}) NoMemory) (old new : MergerView) (log log' : List Change) (m m' : Merge) → new ≡ record old { pending = merges_in log' } → merges_in log ≡ old.pending → m ≡ m'
     → MatchResult r (λ _. merges_in log' ≡ merges_in log ++ m ∷ []) (λ _. log' ≡ log) → MatchResult r (λ _. new ≡ with_merge old m') (λ _. new ≡ old)

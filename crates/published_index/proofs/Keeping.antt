@@ -1,12 +1,14 @@
 -- The steps keep the rule.
-use Rattle.std.proofs.Common.{◌≡◌, ◌≢◌, ℕ, List, [], ◌∷◌, ◌++◌, set, true, false, refl, sym, ap, ◌∙◌, subst, ⊎_elim}
+use Rattle.std.proofs.Common.{◌≡◌, ◌≢◌, ℕ, ◌<◌, List, [], ◌∷◌, ◌++◌, set, true, false, refl, sym, ap, ◌∙◌, subst, ⊎_elim, arith}
+use Rattle.std.proofs.Common.{Bool, IsTrue, Result, Ok, Err, MatchResult, fold, length, true≢false}
 use mathlib.Core.Option.{some, some-ne-none}
 use lib.ListN.{get_elem?}
 use Rattle.crossbeam_utils.specs.Register.{Admits, TurnsAt, Turns, Forks, Merges}
 use Rattle.atomic_table.proofs.Lists.{at_set, at_snoc}
 use Rattle.published_index.specs.declared.editions.Edition.{Edition}
 use Rattle.published_index.specs.declared.views.ReaderView.{ReaderView}
-use Rattle.published_index.specs.Changes.{IsWhole, batches_of}
+use Rattle.published_index.specs.declared.editions.Change.{Change}
+use Rattle.published_index.specs.Changes.{IsWhole, batches_of, after_change}
 use Rattle.published_index.specs.Passes.{no_view, opening_of}
 use Rattle.published_index.specs.Rule.{Covers, Keeps, Enters, Shows, IsReady, view_at, view_of_note}
 use Rattle.published_index.proofs.Fronts.{prefix_self, prefix_trans}
@@ -54,3 +56,18 @@ opens x whole = (whole, covered_snoc x [] no_view (λ j p at. absurd (some-ne-no
 
 pub ready_itself : (x : Edition) → IsReady x x
 ready_itself x = record { book = refl; incarnation = refl; batches = prefix_self (batches_of x); whole = λ w. w }
+
+-- no change is pending where one would be told
+pub none_pending : (changes : List Change) (told : Bool) → told ≡ false → (0 < length changes → IsTrue told) → changes ≡ []
+none_pending [] told is tells = refl
+none_pending (c ∷ cs) told is tells = absurd (true≢false (sym (subst IsTrue is (tells (omega arith)))))
+
+-- without a change a copy may be shown after itself
+pub ready_settled : (x : Edition) (changes : List Change) → changes ≡ [] → IsReady x (fold after_change x changes)
+ready_settled x changes none = subst (λ (cs : List Change). IsReady x (fold after_change x cs)) (sym none) (ready_itself x)
+
+-- and what is shown then is what was shown, whether showing was refused or not
+pub same_settled : {E : Type 0} → (A B C D : Type 0) (r : Result (Unit {0}) E) (x y : Edition) (changes : List Change) → changes ≡ []
+    → MatchResult r (λ _. (y ≡ fold after_change x changes) × A × B) (λ _. (y ≡ x) × C × D) → y ≡ x
+same_settled A B C D (Ok o) x y changes none shown = shown.0 ∙ ap (fold after_change x) none
+same_settled A B C D (Err e) x y changes none shown = shown.0

@@ -2,7 +2,6 @@
 ghost use Rattle.std.specs.Prelude.{◌≡◌, ◌≤◌, [], ◌∷◌, ◌++◌, drop, fold, IfOk, MatchResult};
 ghost use Rattle.left_right.specs.Sides.{view as view_of};
 ghost use Rattle.replica_events.specs.World.{last_number};
-ghost use Rattle.published_index.specs.declared.editions.Change.TheVariants.{Reach};
 ghost use Rattle.published_index.specs.declared.marks.LogEntry.TheVariants.{Attempt};
 ghost use Rattle.published_index.specs.Changes.{merges_in, after_change, batches_of, book_of};
 ghost use Rattle.published_index.specs.Marks.{successes, successes_with_last, head_of};
@@ -15,6 +14,20 @@ use memento_index::Merge;
 use memento_time::NoMemory;
 use std::alloc::{AllocError, Global};
 use std::sync::Wait;
+
+/// Appends the change to what is pending.
+fn note(writer: &mut EditionWriter, change: Change) -> Result<(), NoMemory>
+    ensures desk { writer.new.desk ≡ writer.old.desk }
+    ensures log { MatchResult result
+        (λ _. drop writer.new.behind writer.new.log.items
+        ≡ drop writer.old.behind writer.old.log.items ++ change ∷ [])
+        (λ _. drop writer.new.behind writer.new.log.items ≡ drop writer.old.behind writer.old.log.items) }
+{
+    match writer.append(change) {
+        Ok(()) => Ok(()),
+        Err(_) => Err(NoMemory),
+    }
+}
 
 /// Appends the merge to what is pending.
 pub(crate) fn add(
@@ -29,24 +42,7 @@ pub(crate) fn add(
         (λ _. drop writer.new.behind writer.new.log.items ≡ drop writer.old.behind writer.old.log.items) }
 {
     let merge = Box::new(alloc, merge)?;
-    match writer.append(Change::Add(merge)) {
-        Ok(()) => Ok(()),
-        Err(_) => Err(NoMemory),
-    }
-}
-
-/// Appends the mark to what is pending.
-fn reach(writer: &mut EditionWriter, mark: Mark) -> Result<(), NoMemory>
-    ensures desk { writer.new.desk ≡ writer.old.desk }
-    ensures log { MatchResult result
-        (λ _. drop writer.new.behind writer.new.log.items
-        ≡ drop writer.old.behind writer.old.log.items ++ Reach mark ∷ [])
-        (λ _. drop writer.new.behind writer.new.log.items ≡ drop writer.old.behind writer.old.log.items) }
-{
-    match writer.append(Change::Reach(mark)) {
-        Ok(()) => Ok(()),
-        Err(_) => Err(NoMemory),
-    }
+    note(writer, Change::Add(merge))
 }
 
 /// Notes the attempt to publish what is pending, and appends the mark of that attempt.
@@ -73,7 +69,7 @@ pub(crate) fn offer<B: NamesEntry>(
         return Err(NoMemory);
     };
     *mark = attempted;
-    reach(writer, mark.copy())
+    note(writer, Change::Reach(mark.copy()))
 }
 
 /// Shows what is pending. Its last change is the mark of an attempt.

@@ -1,7 +1,10 @@
-use Rattle.std.proofs.Common.{drop, ap, ◌∙◌}
-use Rattle.published_index.specs.Changes.{merges_in}
-use Rattle.published_index.proofs.Folding.{merges_in-append}
+use Rattle.std.proofs.Common.{drop, ap, [], ◌∷◌}
+use Rattle.memento_index.specs.declared.merge.Merge.{Merge}
+use Rattle.published_index.proofs.Appending.{noted}
 use Rattle.published_index.proofs.writing.add.Goals as goal
 
-pub returns-in-Ok-clause-log : goal.returns-in-Ok-clause-log
-returns-in-Ok-clause-log c = ap merges_in c.in-Ok.ensures.pending ∙ merges_in-append (drop c.args.writer.now.behind c.args.writer.now.log.items) _
+pub returns-clause-log : goal.returns-clause-log
+returns-clause-log c =
+    let was = c.args.writer.now in
+    let w = c.note.new.writer in
+    noted c.note.result (drop was.behind was.log.items) (drop w.behind w.log.items) _ _ (ap (λ (m : Merge). m ∷ []) c.in_ok-merge.ensures.ok) c.note.ensures.log

@@ -6,7 +6,7 @@ use Rattle.published_index.proofs.Offering.{offered, offers}
 use Rattle.published_index.proofs.writing.offer.Goals as goal
 
 pub returns-clause-pending : goal.returns-clause-pending
-returns-clause-pending g c = offered c.reach.result _ _ _ c.reach.ensures.log
+returns-clause-pending g c = offered c.note.result _ _ _ c.note.ensures.log
 
 pub returns-clause-mark : goal.returns-clause-mark
 returns-clause-mark g c =
@@ -17,8 +17,8 @@ pub returns-clause-ready : goal.returns-clause-ready
 returns-clause-ready g c =
     let new = c.in-Some.ensures in
     let w = c.args.writer.now in
-    let w' = c.reach.new.writer in
+    let w' = c.note.new.writer in
     let is = new.1 ∙ ap (λ (e : LogEntry). c.args.mark.now.seen.log ++ e ∷ []) c.requires.entry in
-    let done = offers c.reach.result w.desk.shown.value c.args.mark.now.seen.log (drop w.behind w.log.items) (drop w'.behind w'.log.items)
-    c.in-Some.attempted (new.0 ∙ sym c.requires.shown.0) c.requires.shown.1 is (rw (← c.copy.ensures) c.reach.ensures.log) in
-    rw c.reach.ensures.desk done
+    let done = offers c.note.result w.desk.shown.value c.args.mark.now.seen.log (drop w.behind w.log.items) (drop w'.behind w'.log.items)
+    c.in-Some.attempted (new.0 ∙ sym c.requires.shown.0) c.requires.shown.1 is (rw (← c.copy.ensures) c.note.ensures.log) in
+    rw c.note.ensures.desk done
