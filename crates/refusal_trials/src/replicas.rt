@@ -108,6 +108,7 @@ fn ask(replica: &Replica, call: Asking) -> Option<Tried> {
 #[derive(Clone, Copy, Debug)]
 enum Changing {
     StampedAbsorb,
+    StampedAbsorbBeside,
     CursorsTake,
     CursorsAdvance,
     WorldNew,
@@ -115,13 +116,24 @@ enum Changing {
     AskedAfter,
 }
 
-fn absorb(replica: &Replica) -> Option<Tried> {
+/// Absorbs the merge, alone or beside the replica's own copy.
+fn absorb_once(stamped: &mut Stamped, replica: &Replica, is_beside: bool) -> bool {
+    if is_beside {
+        stamped
+            .absorb_beside(&replica.merge, &replica.stamped)
+            .is_ok()
+    } else {
+        stamped.absorb(&replica.merge).is_ok()
+    }
+}
+
+fn absorb(replica: &Replica, is_beside: bool) -> Option<Tried> {
     let mut stamped = Stamped::new(replica.alloc, 1);
-    if stamped.absorb(&replica.merge).is_ok() {
+    if absorb_once(&mut stamped, replica, is_beside) {
         return Some(Tried::Answered);
     }
     let is_as_before = stamped.number() == 0 && stamped.index().state().is_empty();
-    let is_repeated = stamped.absorb(&replica.merge).is_ok();
+    let is_repeated = absorb_once(&mut stamped, replica, is_beside);
     Some(Tried::of_change(false, is_as_before, is_repeated))
 }
 
@@ -181,7 +193,8 @@ fn try_asked_after(replica: &Replica) -> Option<Tried> {
 
 fn change(replica: &Replica, call: Changing) -> Option<Tried> {
     match call {
-        Changing::StampedAbsorb => absorb(replica),
+        Changing::StampedAbsorb => absorb(replica, false),
+        Changing::StampedAbsorbBeside => absorb(replica, true),
         Changing::CursorsTake => take(replica),
         Changing::CursorsAdvance => advance(replica),
         Changing::WorldNew => try_new_world(replica),
@@ -190,8 +203,9 @@ fn change(replica: &Replica, call: Changing) -> Option<Tried> {
     }
 }
 
-const CHANGES: [Changing; 6] = [
+const CHANGES: [Changing; 7] = [
     Changing::StampedAbsorb,
+    Changing::StampedAbsorbBeside,
     Changing::CursorsTake,
     Changing::CursorsAdvance,
     Changing::WorldNew,

@@ -17,7 +17,7 @@ use Rattle.replica_events.specs.declared.event.Refused.{Refused}
 use Rattle.replica_events.specs.declared.event.Refused.TheVariants.{NoReplica, NoMessage, BadState, NoMemory, Gap, NumbersSpent}
 use Rattle.replica_events.specs.World as world
 use Rattle.replica_events.specs.World.{World, Replica, Message, Answer, Outcome, Course, start, Effect, Step, Run, Accepts, Refuses, WithMessage}
-use Rattle.replica_events.specs.World.{WithStamped, IfWithinLimit, IfNumberLeft, IsText, IfText, Merges, Joins, numbered, replica, message}
+use Rattle.replica_events.specs.World.{WithStamped, IfWithinLimit, IfNumberLeft, IsText, IfText, Merges, Joins, replica, message}
 use Rattle.replica_events.specs.World.{with_replica, with_message, taking, joining, sent_by, own_cursor, replica_reply, restarting}
 use Rattle.replica_events.specs.History.{Happened, History, history_of, sender_of}
 use Rattle.replica_events.proofs.Histories.{IsRestart}

@@ -16,7 +16,7 @@ use Rattle.replica_events.specs.declared.event.Refused.{Refused}
 use Rattle.replica_events.specs.declared.event.Refused.TheVariants.{BadState, Gap, NumbersSpent}
 use Rattle.replica_events.specs.World as world
 use Rattle.replica_events.specs.World.{World, Replica, Message, Answer, Outcome, Effect, Accepts, Refuses, WithStamped, IfWithinLimit, IfNumberLeft}
-use Rattle.replica_events.specs.World.{IfFits, IfText, Merges, Joins, with_message, with_replica, joining, sent_by, own_cursor, replica, message}
+use Rattle.replica_events.specs.World.{IfText, Merges, Joins, with_replica, joining, own_cursor, replica, message}
 use Rattle.replica_events.specs.World.{last_number}
 use Rattle.replica_events.proofs.Stampings.{merges_stamped}
 

@@ -192,7 +192,7 @@ impl StampOrder {
         self.rows.truncate(len);
     }
 
-    /// A row for each key that has a stamp, in the order of stamps. Takes memory for so many rows at once.
+    /// A row for each key that has a stamp, in the order of stamps. Takes memory for `room` rows at once.
     fn standing_rows(
         &mut self,
         shelves: &StampShelves,

@@ -1,7 +1,6 @@
 -- Which requests ask for deltas.
-use Rattle.std.proofs.Common.{◌≡◌, ◌⊎◌, ℕ, ◌++◌, ◌&&◌, Bool, true, false, not, List, [], ◌∷◌, drop, length, Option, Some, None, IfSome, refl, ap, sym, subst, ◌∙◌, inl, inr, arith}
+use Rattle.std.proofs.Common.{◌≡◌, ◌⊎◌, ℕ, ◌++◌, ◌&&◌, Bool, true, false, not, List, [], ◌∷◌, drop, length, Option, Some, None, refl, ap, sym, subst, ◌∙◌, inl, inr, arith}
 use Rattle.std.specs.Prelude.{◌↔◌, codes}
-use Rattle.std.specs.List.{starts_with}
 use Rattle.std.specs.Fmt.{decimal}
 use Rattle.std.proofs.lemmas.Bool.{true≢false}
 use Rattle.std.proofs.lemmas.Bool.Decides.{Decides-eqb}
@@ -18,7 +17,7 @@ use Rattle.timegate.specs.declared.route.Route.{Route}
 use Rattle.timegate.specs.declared.route.Route.TheVariants.{BadMethod, State, Delta, NoRoute, BadOriginal, BadDatetime, TimeGate, TimeMap, Page}
 use Rattle.timegate.specs.Route.{is_get, is_head, is_state, is_whole_delta, is_delta, is_timegate, is_timemap, timemaps, deltas, slash, cursor_of}
 use Rattle.timegate.specs.Route.{cursor_in, cursor_at, delta_route, datetime_route, timegate_route, original_route, original_at, page_in}
-use Rattle.timegate.specs.Route.{listing_route, map_route, route_of, delta_target, IsCursor, AsksDelta}
+use Rattle.timegate.specs.Route.{listing_route, map_route, route_of, IsCursor, AsksDelta}
 use Rattle.timegate.proofs.Promises.{asking, at_target, first_of}
 
 -- ---- the cursor that bytes name

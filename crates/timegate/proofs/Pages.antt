@@ -4,7 +4,7 @@ use Rattle.std.specs.Prelude.{◌↔◌, codes, nat_eq}
 use Rattle.std.specs.List.{starts_with}
 use Rattle.std.specs.Option.{option_map}
 use Rattle.std.specs.Fmt.{decimal}
-use Rattle.std.proofs.lemmas.Bool.{true≢false, cases_Bool}
+use Rattle.std.proofs.lemmas.Bool.{cases_Bool}
 use Rattle.std.proofs.lemmas.Bool.Decides.{Decides-eqb}
 use Rattle.std.proofs.lemmas.Option.{none-some, same_Some}
 use Rattle.std.proofs.lemmas.Slice.Eq.{starts_is}
@@ -18,7 +18,7 @@ use Rattle.timegate.specs.declared.request.Request.{Request}
 use Rattle.timegate.specs.declared.route.Route.{Route}
 use Rattle.timegate.specs.declared.route.Route.TheVariants.{BadMethod, State, Delta, NoRoute, BadOriginal, BadDatetime, TimeGate, TimeMap, Page}
 use Rattle.timegate.specs.Route.{is_get, is_head, is_state, is_whole_delta, is_delta, is_timegate, is_timemap, timemaps, page_part, slash}
-use Rattle.timegate.specs.Route.{original_at, delta_route, datetime_route, timegate_route, original_route, numbered, page_in, listing_route}
+use Rattle.timegate.specs.Route.{original_at, delta_route, datetime_route, timegate_route, original_route, numbered, listing_route}
 use Rattle.timegate.specs.Route.{map_route, route_of, AsksPage}
 use Rattle.timegate.proofs.Promises.{asking, at_target, first_of, page_at, page_read}
 use Rattle.timegate.proofs.Deltas.{allowed_method}
