@@ -11,7 +11,7 @@ use memento_index::{Index, Merge, Probed, nearest_in};
 use memento_time::{Memento, Original};
 use std::alloc::Global;
 use std::test::*;
-use text_trials::makers::{memento, moment};
+use text_trials::makers::{memento, moment, numbered};
 
 /// Takes what an archive had of the root.
 fn take(
@@ -171,5 +171,108 @@ fn probes_are_added_up(rt: HostRuntime) -> Result<()> {
     let index = indexed(alloc, &[FIRST, SECOND])?;
     let (first, both) = probes_of_two(alloc, &index)?.context("the wrong place")?;
     assert!(rt; 0 < first && first < both && both <= 12);
+    Ok(())
+}
+
+/// Every second one of so many mementos, from a place on.
+fn every_second(alloc: Global, count: u32, first: usize) -> Result<Vec<Memento>> {
+    let mut list = Vec::new(alloc);
+    for memento in numbered(alloc, count)?.iter().skip(first).step_by(2) {
+        list.push(memento.try_clone()?)?;
+    }
+    Ok(list)
+}
+
+/// Takes these mementos for all that an archive had of the root at a revision.
+fn take_all(
+    alloc: Global,
+    index: &mut Index,
+    name: &[u8],
+    revision: u64,
+    list: Vec<Memento>,
+) -> Result<()> {
+    index.absorb(&Merge::Harvest(harvest(alloc, name, ROOT, revision, list)?))?;
+    Ok(())
+}
+
+/// An index of so many mementos of the root, of which two archives have every second one each.
+fn halved(alloc: Global, count: u32) -> Result<Index> {
+    let mut index = Index::new(alloc);
+    take_all(alloc, &mut index, b"a1", 1, every_second(alloc, count, 0)?)?;
+    take_all(alloc, &mut index, b"b1", 1, every_second(alloc, count, 1)?)?;
+    Ok(index)
+}
+
+/// Whether two indexes have the list of the root in one place of memory.
+fn is_shared(alloc: Global, index: &Index, other: &Index) -> Result<bool> {
+    let root = root(alloc)?;
+    Ok(index.list(&root).as_ptr() == other.list(&root).as_ptr())
+}
+
+/// Shares the list of the root, and tells whether the index still lists what it listed.
+fn is_same_once_shared(alloc: Global, index: &mut Index, other: &Index) -> Result<bool> {
+    let root = root(alloc)?;
+    let listed = index.list(&root).to_vec(alloc)?;
+    index.share_list(&root, other);
+    Ok(index.list(&root) == listed.as_slice())
+}
+
+#[test]
+fn short_lists_are_shared(rt: HostRuntime) -> Result<()> {
+    let alloc = rt.alloc();
+    for (count, is_short) in [(2, true), (64, true), (65, false)] {
+        let mut index = halved(alloc, count)?;
+        let other = halved(alloc, count)?;
+        assert!(rt; !is_shared(alloc, &index, &other)?, "{count}");
+        assert!(rt; is_same_once_shared(alloc, &mut index, &other)?, "{count}");
+        assert!(rt; is_shared(alloc, &index, &other)? == is_short, "{count}");
+    }
+    Ok(())
+}
+
+/// Whether the index lists just these of the root.
+fn has(alloc: Global, index: &Index, list: &[Memento]) -> Result<bool> {
+    let root = root(alloc)?;
+    Ok(index.list(&root) == list)
+}
+
+/// The second archive gets all that the first has, which then ceases to show it: what both show isn't shared, and stays.
+#[test]
+fn counted_lists_are_not_shared(rt: HostRuntime) -> Result<()> {
+    let alloc = rt.alloc();
+    for (count, is_short) in [(64, true), (65, false)] {
+        let all = numbered(alloc, count)?;
+        let mut index = halved(alloc, count)?;
+        let other = halved(alloc, count)?;
+        take_all(alloc, &mut index, b"b1", 2, numbered(alloc, count)?)?;
+        assert!(rt; is_same_once_shared(alloc, &mut index, &other)?, "{count}");
+        assert!(rt; !is_shared(alloc, &index, &other)?, "{count}");
+        take_all(alloc, &mut index, b"a1", 2, Vec::new(alloc))?;
+        assert!(rt; has(alloc, &index, &all)?, "{count}");
+        assert!(rt; is_same_once_shared(alloc, &mut index, &other)?, "{count}");
+        assert!(rt; is_shared(alloc, &index, &other)? == is_short, "{count}");
+        let rest = every_second(alloc, count, 1)?;
+        take_all(alloc, &mut index, b"b1", 3, every_second(alloc, count, 1)?)?;
+        assert!(rt;
+            has(alloc, &index, &rest)? && has(alloc, &other, &all)?,
+            "{count}"
+        );
+    }
+    Ok(())
+}
+
+/// Lists that differ stay as they are.
+#[test]
+fn other_lists_are_not_shared(rt: HostRuntime) -> Result<()> {
+    let alloc = rt.alloc();
+    let mut index = indexed(alloc, &[FIRST, SECOND])?;
+    for captures in [[FIRST, THIRD].as_slice(), &[FIRST], &[]] {
+        let other = indexed(alloc, captures)?;
+        assert!(rt; is_same_once_shared(alloc, &mut index, &other)?);
+        assert!(rt; lists(alloc, &other, captures)?);
+    }
+    let mut other = Index::new(alloc);
+    assert!(rt; is_same_once_shared(alloc, &mut other, &index)?);
+    assert!(rt; lists(alloc, &other, &[])?);
     Ok(())
 }

@@ -177,3 +177,41 @@ fn thousands_of_merges_are_listed(rt: HostRuntime) -> Result<()> {
     }
     Ok(())
 }
+
+/// Takes a merge, and then shares the lists of another index that took the same.
+fn take_beside(alloc: Global, index: &mut Index, merge: &Merge, other: &Index) -> Result<()> {
+    index.absorb(merge)?;
+    for text in ORIGINALS {
+        index.share_list(&original(alloc, text)?, other);
+    }
+    Ok(())
+}
+
+/// Whether two new indexes, of which the second shares the lists of the first, both list what the rule says after each
+/// of so many merges.
+fn walk_beside(alloc: Global, numbers: &mut Generator, merges: u64) -> Result<bool> {
+    let mut first = Index::new(alloc);
+    let mut second = Index::new(alloc);
+    let mut all = Vec::new(alloc);
+    for _ in 0..merges {
+        let merge = some_merge(alloc, numbers, &mut all)?;
+        take_copy(&mut first, &merge)?;
+        take_beside(alloc, &mut second, &merge, &first)?;
+        if !lists(alloc, &first, &all)? || !lists(alloc, &second, &all)? {
+            return Ok(false);
+        }
+    }
+    Ok(true)
+}
+
+#[test]
+fn hundreds_of_merges_are_shared(rt: HostRuntime) -> Result<()> {
+    let mut numbers = Generator { seed: 11 };
+    for index in 0..40 {
+        assert!(rt;
+            walk_beside(rt.alloc(), &mut numbers, 20)?,
+            "at index {index}"
+        );
+    }
+    Ok(())
+}

@@ -111,7 +111,8 @@ impl Listing {
         Ok(most)
     }
 
-    /// Counts what archives begin and cease to show. Needs no memory: if it is refused, the list just isn't packed.
+    /// Counts what archives begin and cease to show. Needs no memory: if it is refused, the list just isn't packed or
+    /// frozen.
     pub fn recount(&mut self, lifted: &mut Tally, steps: Steps)
         requires tally { IsTally self.old.entries }
         requires can { CanCount self.old.entries (steps_in steps) }
