@@ -113,8 +113,8 @@ impl Merger {
     /// its merges (`a_publish_is_events`), for which enough numbers are left.
     ///
     /// It is refused if a growth is refused, and if there are more merges than a 64-bit number can count. It may wait
-    /// for gates that are about to answer from what was published before. Takes time in what is pending, and in what the
-    /// previous publish took in unless `settle` was called since.
+    /// for gates that are about to answer from what was published before. Takes time in what is pending, and in what
+    /// the previous publish took in unless `settle` was called since.
     pub fn publish<R: Wait>(&mut self, rt: &R) -> Result<Receipt, PublishRefused>
         ensures ok { OnOk result (self.new ≡ with_publish self.old) }
         ensures receipt { IfOk result (λ told. told ≡ receipt_of self.new) }

@@ -30,11 +30,7 @@ fn note(writer: &mut EditionWriter, change: Change) -> Result<(), NoMemory>
 }
 
 /// Appends the merge to what is pending.
-pub(crate) fn add(
-    writer: &mut EditionWriter,
-    alloc: Global,
-    merge: Merge,
-) -> Result<(), NoMemory>
+pub(crate) fn add(writer: &mut EditionWriter, alloc: Global, merge: Merge) -> Result<(), NoMemory>
     ensures desk { writer.new.desk ≡ writer.old.desk }
     ensures log { MatchResult result
         (λ _. merges_in (drop writer.new.behind writer.new.log.items)
