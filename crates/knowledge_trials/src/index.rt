@@ -236,8 +236,8 @@ fn has(alloc: Global, index: &Index, list: &[Memento]) -> Result<bool> {
     Ok(index.list(&root) == list)
 }
 
-/// The second archive gets all that the first has, which then ceases to show it: what both show isn't shared, and
-/// stays.
+/// The second archive gets all that the first has, which then ceases to show it. What both show stays, and isn't
+/// shared.
 #[test]
 fn counted_lists_are_not_shared(rt: HostRuntime) -> Result<()> {
     let alloc = rt.alloc();

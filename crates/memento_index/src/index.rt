@@ -118,9 +118,9 @@ impl Index {
 
     /// Shares the memory of an original's list with another index, which may be a second copy of this one.
     ///
-    /// If both list the same mementos of the original, at most 64, and neither has counts of its own for them, this
-    /// index takes over the other's list and lets go of its own. It takes time in the length of a list of 64 at most,
-    /// beside the time to find both, and needs no memory. If a handle is refused, the list stays.
+    /// If both list the same mementos of the original, at most 64, and neither list has counts, this index takes over
+    /// the other's list and lets go of its own. `absorb` says which lists have counts. It takes time in the length of a
+    /// list of 64 at most, beside the time to find both, and needs no memory. If a handle is refused, the list stays.
     pub fn share_list(&mut self, original: &Original, other: &Index)
         ensures { self.new ≡ self.old }
     {

@@ -11,9 +11,10 @@ use memento_time::Memento;
 /// be shown since it was packed. It is packed anew once these are more than its own. This is tested whenever half as
 /// many bytes have come as it had at the last test, and more than `FEW`. So it keeps at most four times as many bytes
 /// as it has, plus three times `FEW`, and the tests take time in what comes. A list that was copied from an entry of
-/// several revisions also keeps these revisions' buffers until it is packed. A list that is frozen keeps the handles of
-/// its columns, and so its wear, which goes on when it gets columns again. A list that is shared with an entry keeps
-/// what the entry keeps, and has no wear.
+/// several revisions also keeps these revisions' buffers until it is packed.
+///
+/// A list that is frozen keeps the addresses of its columns where they are, and so its wear, which goes on when it gets
+/// columns again. A list that is shared with an entry keeps what the entry keeps, and has no wear.
 ///
 /// The counts take one word together, since each list has them. They end at 4 GiB: a list with more isn't packed.
 #[derive(Clone, Copy, Debug)]
