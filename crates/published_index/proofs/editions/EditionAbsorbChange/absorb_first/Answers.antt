@@ -14,4 +14,6 @@ absorbed x y change b m is same mark it =
     subst (λ (c : Change). y ≡ after_change x c) (sym is) (λ i. record { stamped = stamped i; mark = mark i })
 
 pub returns-in-Ok-clause-absorbed : goal.returns-in-Ok-clause-absorbed
-returns-in-Ok-clause-absorbed c = absorbed c.args.self.now (record { stamped = c.absorb_beside.new.self; mark = c.args.self.now.mark }) c.args.operation.now _ _ c.in-Add.is c.deref.ensures refl c.in-Ok.ensures.ok
+returns-in-Ok-clause-absorbed c =
+    absorbed c.args.self.now (record { stamped = c.absorb_beside.new.self; mark = c.args.self.now.mark }) c.args.operation.now _ _
+    c.in-Add.is c.deref.ensures refl c.in-Ok.ensures.ok
