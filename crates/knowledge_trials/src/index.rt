@@ -203,12 +203,6 @@ fn halved(alloc: Global, count: u32) -> Result<Index> {
     Ok(index)
 }
 
-/// Whether two indexes have the list of the root in one place of memory.
-fn is_shared(alloc: Global, index: &Index, other: &Index) -> Result<bool> {
-    let root = root(alloc)?;
-    Ok(index.list(&root).as_ptr() == other.list(&root).as_ptr())
-}
-
 /// Shares the list of the root, and tells whether the index still lists what it listed.
 fn is_same_once_shared(alloc: Global, index: &mut Index, other: &Index) -> Result<bool> {
     let root = root(alloc)?;
@@ -217,54 +211,41 @@ fn is_same_once_shared(alloc: Global, index: &mut Index, other: &Index) -> Resul
     Ok(index.list(&root) == listed.as_slice())
 }
 
-#[test]
-fn short_lists_are_shared(rt: HostRuntime) -> Result<()> {
-    let alloc = rt.alloc();
-    for (count, is_short) in [(2, true), (64, true), (65, false)] {
-        let mut index = halved(alloc, count)?;
-        let other = halved(alloc, count)?;
-        assert!(rt; !is_shared(alloc, &index, &other)?, "{count}");
-        assert!(rt; is_same_once_shared(alloc, &mut index, &other)?, "{count}");
-        assert!(rt; is_shared(alloc, &index, &other)? == is_short, "{count}");
-    }
-    Ok(())
-}
-
 /// Whether the index lists just these of the root.
 fn has(alloc: Global, index: &Index, list: &[Memento]) -> Result<bool> {
     let root = root(alloc)?;
     Ok(index.list(&root) == list)
 }
 
-/// The second archive gets all that the first has, which then ceases to show it. What both show stays, and isn't
-/// shared.
+/// The second archive gets all that the first has, and the first then ceases to show it, so that nothing of it goes. The
+/// list is shared with that of another index, which stays as it was.
+fn is_listed_while_shared(alloc: Global, count: u32) -> Result<bool> {
+    let all = numbered(alloc, count)?;
+    let rest = every_second(alloc, count, 1)?;
+    let mut index = halved(alloc, count)?;
+    let other = halved(alloc, count)?;
+    let is_shared = is_same_once_shared(alloc, &mut index, &other)?;
+    take_all(alloc, &mut index, b"b1", 2, numbered(alloc, count)?)?;
+    let is_counted = is_same_once_shared(alloc, &mut index, &other)?;
+    take_all(alloc, &mut index, b"a1", 2, Vec::new(alloc))?;
+    let is_kept = has(alloc, &index, &all)? && is_same_once_shared(alloc, &mut index, &other)?;
+    take_all(alloc, &mut index, b"b1", 3, every_second(alloc, count, 1)?)?;
+    let has_rest = has(alloc, &index, &rest)? && has(alloc, &other, &all)?;
+    Ok(is_shared && is_counted && is_kept && has_rest)
+}
+
+/// A list of 64 is short, and one of 65 isn't.
 #[test]
-fn counted_lists_are_not_shared(rt: HostRuntime) -> Result<()> {
-    let alloc = rt.alloc();
-    for (count, is_short) in [(64, true), (65, false)] {
-        let all = numbered(alloc, count)?;
-        let mut index = halved(alloc, count)?;
-        let other = halved(alloc, count)?;
-        take_all(alloc, &mut index, b"b1", 2, numbered(alloc, count)?)?;
-        assert!(rt; is_same_once_shared(alloc, &mut index, &other)?, "{count}");
-        assert!(rt; !is_shared(alloc, &index, &other)?, "{count}");
-        take_all(alloc, &mut index, b"a1", 2, Vec::new(alloc))?;
-        assert!(rt; has(alloc, &index, &all)?, "{count}");
-        assert!(rt; is_same_once_shared(alloc, &mut index, &other)?, "{count}");
-        assert!(rt; is_shared(alloc, &index, &other)? == is_short, "{count}");
-        let rest = every_second(alloc, count, 1)?;
-        take_all(alloc, &mut index, b"b1", 3, every_second(alloc, count, 1)?)?;
-        assert!(rt;
-            has(alloc, &index, &rest)? && has(alloc, &other, &all)?,
-            "{count}"
-        );
+fn lists_are_shared(rt: HostRuntime) -> Result<()> {
+    for count in [2, 64, 65] {
+        assert!(rt; is_listed_while_shared(rt.alloc(), count)?, "of {count}");
     }
     Ok(())
 }
 
 /// Lists that differ stay as they are.
 #[test]
-fn other_lists_are_not_shared(rt: HostRuntime) -> Result<()> {
+fn lists_that_differ_are_not_shared(rt: HostRuntime) -> Result<()> {
     let alloc = rt.alloc();
     let mut index = indexed(alloc, &[FIRST, SECOND])?;
     for captures in [[FIRST, THIRD].as_slice(), &[FIRST], &[]] {
