@@ -217,8 +217,8 @@ fn has(alloc: Global, index: &Index, list: &[Memento]) -> Result<bool> {
     Ok(index.list(&root) == list)
 }
 
-/// The second archive gets all that the first has, and the first then ceases to show it, so that nothing of it goes. The
-/// list is shared with that of another index, which stays as it was.
+/// The second archive gets all that the first has, and the first then ceases to show it, so that nothing of it goes.
+/// The list is shared with that of another index, which stays as it was.
 fn is_listed_while_shared(alloc: Global, count: u32) -> Result<bool> {
     let all = numbered(alloc, count)?;
     let rest = every_second(alloc, count, 1)?;
