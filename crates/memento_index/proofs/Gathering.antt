@@ -11,7 +11,7 @@ use Rattle.std.specs.BTreeMap as tree
 use Rattle.std.specs.BTreeMap.{is_at}
 use Rattle.std.specs.Cmp.{eq_by_cmp_equiv, Equal-is, tied_itself}
 use Rattle.std.specs.Cmp.Lexicographic.{nat_list_cmp_total}
-use Rattle.std.proofs.lemmas.List.{take_more}
+use Rattle.std.proofs.lemmas.List.{take_more, nil_from_length}
 use Rattle.std.proofs.lemmas.Option.{same_Some}
 use Rattle.std.specs.List.{list_any, slice_get}
 use Rattle.memento_time.specs.Mementos.{text_cmp, memento_cmp}
@@ -230,6 +230,13 @@ none_gone m a none o =
       | true ↦ λ t. ap (λ p. tree.get text_cmp m p) (sym (same_text a o t)) ∙ none
       | false ↦ λ _. refl
     ] refl
+
+-- the steps of an original are none once they were taken out
+pub steps_left_out : (m n : StepLists) (a : List ℕ) (ss : List Step)
+    → ((q : List ℕ) → tree.get text_cmp n q ≡ cond (eq_by_cmp text_cmp a q) None (tree.get text_cmp m q)) → length ss ≡ 0 → steps_of n a ≡ ss
+steps_left_out m n a ss gone none =
+    let left : tree.get text_cmp n a ≡ None = gone a ∙ ap (λ b. cond b None (tree.get text_cmp m a)) (ap is_eq (tied_itself nat_list_cmp_total a)) in
+    ap (λ (s : Option Steps). steps_or_none s) left ∙ sym (nil_from_length ss none)
 
 module _ (m n w : StepLists) (a k : List ℕ) (v : Steps) (gone : (q : List ℕ) → tree.get text_cmp n q
     ≡ cond (eq_by_cmp text_cmp a q) None (tree.get text_cmp m q)) (put : (q : List ℕ) → tree.get text_cmp w q

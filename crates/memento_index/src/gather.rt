@@ -57,6 +57,10 @@ fn gather_row(
     ensures fit { OnOk result (FitLists lists.now all.new) }
 {
     let steps = take_more_steps(all, alloc, state, lists, row)?;
+    // A list of which nothing begins or ceases isn't touched: it needn't be copied.
+    if steps.len() == 0 {
+        return Ok(());
+    }
     let original = row.original().try_clone()?;
     all.insert(original, steps)?;
     Ok(())

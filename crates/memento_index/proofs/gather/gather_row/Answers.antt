@@ -1,9 +1,18 @@
 use Rattle.std.proofs.Common.{List, sym, subst, ◌∙◌}
 use Rattle.harvest_lattice.specs.Rows.{row_entry}
 use Rattle.memento_index.specs.declared.counted.Step.{Step}
-use Rattle.memento_index.specs.Lists.{steps_of, IsShifted}
-use Rattle.memento_index.proofs.Gathering.{steps_put, others_stay, fit_put}
+use Rattle.memento_index.specs.Lists.{steps_in, steps_of, IsShifted}
+use Rattle.memento_index.proofs.Gathering.{steps_put, steps_left_out, others_stay, fit_put}
 use Rattle.memento_index.proofs.gather.gather_row.Goals as goal
+
+pub returns-then-len-eq0-clause-shifted : goal.returns-then-len-eq0-clause-shifted
+returns-then-len-eq0-clause-shifted c =
+    let row = c.args.row.now in
+    let all = c.args.all.now in
+    subst (λ (ss : List Step). IsShifted c.args.state.now (row_entry row) (steps_of all row.original) ss)
+    (sym (steps_left_out all c.take_more_steps.new.all row.original (steps_in c.in_ok-steps.steps) c.in_ok-steps.ensures.gone
+    (sym c.len.ensures ∙ c.if-len-eq0.true)))
+    c.in_ok-steps.ensures.shifted
 
 pub returns-clause-shifted : goal.returns-clause-shifted
 returns-clause-shifted c =
