@@ -16,6 +16,9 @@ import tempfile
 import threading
 import time
 
+if sys.version_info < (3, 11):
+    sys.exit(f"the tests need Python 3.11 or later, and this is {sys.version.split()[0]}")
+
 TOP = pathlib.Path(__file__).resolve().parent.parent
 PROGRAM = os.environ.get("PROGRAM", str(TOP / "crates/aggregator/out/aggregator"))
 ORIGINAL = "http://a.example/"
@@ -109,6 +112,11 @@ class Played:
         return [head[0].split()[1] for head in self.heads]
 
 
+def toml_of(value):
+    """How a value is written in settings."""
+    return f'"{value}"' if isinstance(value, str) else str(value).lower()
+
+
 def free_ports(count):
     with contextlib.ExitStack() as stack:
         sockets = [stack.enter_context(socket.socket()) for _ in range(count)]
@@ -127,11 +135,19 @@ def told(number, jobs, harvests, pulls=0, end="published"):
 
 
 class Service:
-    """A service by these settings, what it writes, and what its gates answer. Its gates listen at `ports`, or at free ones."""
+    """A service by these settings, what it writes, and what its gates answer. Its gates listen at `ports`, or at free ones. An
+    archive is its name, its address and perhaps a dictionary of keys of its own; `keys` are further keys of the settings. With
+    `logged` its log can be read."""
 
     def __init__(self, stack, *, archives=(), originals=(), peers=(), ports=(0,), base="http://agg.example", rounds=1, pause=0,
-                 workers=1, patience=None, hosts=None, words=(), **more):
-        named = ", ".join(f'{{ name = "{name}", timemap = "{address}{BASE}" }}' for name, address in archives)
+                 workers=1, patience=None, hosts=None, words=(), keys=None, logged=False, **more):
+        def archive_of(name, address, own=None):
+            pairs = {"name": name, "timemap": address + BASE, **(own or {})}
+            return "{ " + ", ".join(f"{key} = {toml_of(value)}" for key, value in pairs.items()) + " }"
+
+        named = ", ".join(archive_of(*archive) for archive in archives)
+        if logged:
+            keys, more = {**(keys or {}), "log": True}, {"stderr": subprocess.PIPE, **more}
         folder = pathlib.Path(stack.enter_context(tempfile.TemporaryDirectory()))
         (folder / "settings.toml").write_text(f'''
 base = "{base}"
@@ -145,6 +161,7 @@ peers = [{quoted(peers)}]
 archives = [{named}]
 {"" if patience is None else f"patience = {patience}"}
 {"" if hosts is None else f"hosts = [{quoted(hosts)}]"}
+{"".join(f"{key} = {toml_of(value)}" + chr(10) for key, value in (keys or {}).items())}
 ''')
         self.words = [*words, PROGRAM, "serve", str(folder / "settings.toml")]
         self.more, self.count = {"env": ENVIRONMENT, **more}, len(ports)
@@ -164,6 +181,15 @@ archives = [{named}]
     def line(self):
         """What it writes next."""
         return self.process.stdout.readline()
+
+    def logs_until(self, text):
+        """The lines of the log up to the first that has this text."""
+        lines = []
+        while line := self.process.stderr.readline():
+            lines.append(line)
+            if text in line:
+                break
+        return lines
 
     def get(self, target, gate=0, **headers):
         """The status of the answer, where it leads, and its body."""
@@ -185,6 +211,15 @@ archives = [{named}]
         return int(re.search(rf"^{kind}:\s+(\d+) kB$", text, re.M)[1])
 
 
+def has_key(key):
+    """Whether the program knows this key of settings, which is no table: then it refuses one."""
+    with tempfile.TemporaryDirectory() as folder:
+        path = pathlib.Path(folder) / "settings.toml"
+        path.write_text((TOP / "deploy/settings.toml").read_text().replace("[[archives]]", f"{key} = {{ }}\n[[archives]]", 1))
+        ran = subprocess.run([PROGRAM, "check", path], capture_output=True, text=True, check=False)
+    return f"bad settings: {key}" in ran.stderr
+
+
 def get(port, target, source="127.0.0.1", patience=PATIENCE, **headers):
     connection = http.client.HTTPConnection("127.0.0.1", port, timeout=patience, source_address=(source, 0))
     with contextlib.closing(connection):
@@ -204,12 +239,11 @@ def wait_for(port):
 
 
 def nginx(stack, gates, *changes):
-    """The port of nginx in front of these gates, by the settings of deploy/nginx.conf but for TLS and the forward; `changes`
-    are further pairs of what stands there and what is to stand there."""
+    """The port of nginx in front of these gates, by the settings of deploy/nginx.conf but for TLS; `changes` are further pairs
+    of what stands there and what is to stand there."""
     folder = pathlib.Path(stack.enter_context(tempfile.TemporaryDirectory()))
     (front,) = free_ports(1)
-    text = (TOP / "deploy/nginx.conf").read_text().partition("    # ---- the forward:")[0] + "}\n"
-    text = re.sub(r"(?m)^ *ssl_.*\n", "", text)
+    text = re.sub(r"(?m)^ *ssl_.*\n", "", (TOP / "deploy/nginx.conf").read_text())
     servers = "\n".join(f"        server 127.0.0.1:{gate};" for gate in gates)
     text = re.sub(r"(?m)^        server 127\.0\.0\.1:8080;\n        server 127\.0\.0\.1:8081;$", servers, text)
     kinds = ("client_body", "proxy", "fastcgi", "uwsgi", "scgi")

@@ -27,6 +27,9 @@ SLOW_TESTS = (
 TRIED = HERE / "tried"
 
 
+# The status of a test that needs what this machine lacks.
+LACKS = 77
+
 # How many seconds the tests of a crate may take without a proof: more than they do on a busy machine.
 PATIENCE = "900"
 

@@ -31,6 +31,6 @@ where
     L: Write + Copy + Send + 'static,
 {
     let settings = settings_in(rt, file)?;
-    serve_settings(rt, &settings, out, log)?;
+    serve_settings(rt, settings, out, log)?;
     Ok(())
 }

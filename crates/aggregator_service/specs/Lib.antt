@@ -1,6 +1,10 @@
+pub mod Dues
+pub mod Freshness
+pub mod Jobs
 pub mod Keys
 pub mod Limits
 pub mod Lines
 pub mod Logs
 pub mod Notes
 pub mod Pulls
+pub mod Reasons

@@ -3,8 +3,8 @@ use Rattle.std.specs.Prelude.{ℕ, ◌≤◌, ◌+◌, ◌*◌, ◌^◌}
 use Rattle.aggregator_service.specs.declared.settings.fault.Key.{Key}
 use Rattle.aggregator_service.specs.declared.settings.fault.Key.TheVariants as key
 
--- the least and the greatest number at a key; for a list, of its elements. The base is one text. The log is
--- wanted (1) or not.
+-- the least and the greatest number at a key; for a list, of its elements; for the agent, of its bytes. The base is one
+-- text. The log and waiting until a gate is ready are wanted (1) or not.
 abbrev pub limits : Key → ℕ × ℕ
 limits key.Base = (1, 1)
 limits key.Gates = (1, 64)
@@ -18,6 +18,21 @@ limits key.Archives = (0, 1000)
 limits key.Patience = (1, 86400)
 limits key.Hosts = (0, 1000)
 limits key.Log = (0, 1)
+limits key.AtOnce = (1, 64)
+limits key.Tolerance = (1, 1000000000)
+limits key.Dormant = (1, 86400)
+limits key.Walk = (1, 86400)
+limits key.Rate = (1, 1000000)
+limits key.Again = (1, 2592000)
+limits key.AgainNone = (1, 2592000)
+limits key.Publish = (1, 86400)
+limits key.Pull = (1, 86400)
+limits key.Agent = (1, 256)
+limits key.Ready = (0, 1)
+
+-- the most milliseconds between two requests of one archive
+abbrev pub most_every : ℕ
+most_every = 3600000
 
 -- the number is neither below the least of a key nor above the greatest
 abbrev pub IsWithin : Key → ℕ → Type 0
@@ -57,3 +72,35 @@ pub record AreLimits : Type 0 where
   pub hosts : TakesUpTo key.Hosts (10 ^ 3)
   pub no_log : IsWithin key.Log 0
   pub log : TakesUpTo key.Log 1
+  pub none_at_once : ¬ IsWithin key.AtOnce 0
+  pub one_at_once : IsWithin key.AtOnce 1
+  pub at_once : TakesUpTo key.AtOnce (2 ^ 6)
+  pub no_tolerance : ¬ IsWithin key.Tolerance 0
+  pub a_tolerance : IsWithin key.Tolerance 1
+  pub tolerance : TakesUpTo key.Tolerance (10 ^ 9)
+  pub no_dormant : ¬ IsWithin key.Dormant 0
+  pub a_dormant : IsWithin key.Dormant 1
+  pub dormant : TakesUpTo key.Dormant (24 * 60 * 60)
+  pub no_walk : ¬ IsWithin key.Walk 0
+  pub a_walk : IsWithin key.Walk 1
+  pub walk : TakesUpTo key.Walk (24 * 60 * 60)
+  pub no_rate : ¬ IsWithin key.Rate 0
+  pub a_rate : IsWithin key.Rate 1
+  pub rate : TakesUpTo key.Rate (10 ^ 6)
+  pub no_again : ¬ IsWithin key.Again 0
+  pub an_again : IsWithin key.Again 1
+  pub again : TakesUpTo key.Again (30 * 24 * 60 * 60)
+  pub no_again_none : ¬ IsWithin key.AgainNone 0
+  pub an_again_none : IsWithin key.AgainNone 1
+  pub again_none : TakesUpTo key.AgainNone (30 * 24 * 60 * 60)
+  pub no_publish : ¬ IsWithin key.Publish 0
+  pub a_publish : IsWithin key.Publish 1
+  pub publish : TakesUpTo key.Publish (24 * 60 * 60)
+  pub no_pull : ¬ IsWithin key.Pull 0
+  pub a_pull : IsWithin key.Pull 1
+  pub pull : TakesUpTo key.Pull (24 * 60 * 60)
+  pub no_agent : ¬ IsWithin key.Agent 0
+  pub an_agent : IsWithin key.Agent 1
+  pub agent : TakesUpTo key.Agent (2 ^ 8)
+  pub not_ready : IsWithin key.Ready 0
+  pub ready : TakesUpTo key.Ready 1

@@ -11,13 +11,19 @@ use Rattle.aggregator_service.specs.declared.lines.PeerFault.TheVariants.{Pull, 
 use Rattle.aggregator_service.specs.declared.lines.Cause.{Cause}
 use Rattle.aggregator_service.specs.declared.lines.Cause.TheVariants.{Known, Unknown}
 use Rattle.aggregator_service.specs.declared.lines.Matter.{Matter}
-use Rattle.aggregator_service.specs.declared.lines.Matter.TheVariants.{Failed, Parts}
+use Rattle.aggregator_service.specs.declared.lines.Matter.TheVariants.{Failed, Parts, Reason as For, Dormant, Awake, Left, Emptied}
+use Rattle.aggregator_service.specs.declared.lines.Reason.{Reason}
+use Rattle.aggregator_service.specs.declared.lines.Reason.TheVariants as reason
+use Rattle.aggregator_service.specs.declared.lines.Dormancy.{Dormancy}
+use Rattle.aggregator_service.specs.declared.lines.Progress.{Progress}
+use Rattle.aggregator_service.specs.declared.lines.Greeting.{Greeting}
 use Rattle.aggregator_service.specs.declared.lines.Want.{Want}
 use Rattle.aggregator_service.specs.declared.lines.Want.TheVariants as want
 use Rattle.aggregator_service.specs.declared.lines.GateEnd.{GateEnd}
 use Rattle.aggregator_service.specs.declared.lines.GateEnd.TheVariants as end
 use Rattle.aggregator_service.specs.declared.lines.Line.{Line}
-use Rattle.aggregator_service.specs.declared.lines.Line.TheVariants.{Archive, Wanting, Peer, Unpublished, Output, Gate}
+use Rattle.aggregator_service.specs.declared.lines.Line.TheVariants.{Archive, Wanting, Peer, Unpublished, Output, Gate, Start}
+use Rattle.aggregator_service.specs.declared.lines.Line.TheVariants.{Progress as Goes}
 
 -- why a peer brought nothing
 abbrev pub peer_words : PeerFault → List ℕ
@@ -29,10 +35,42 @@ abbrev pub cause_words : Cause → List ℕ
 cause_words (Known fault url) = codes ", the first: " ++ walk_words fault ++ codes " from " ++ url.now
 cause_words Unknown = codes ""
 
+-- why walks failed
+abbrev pub reason_words : Reason → List ℕ
+reason_words reason.NoAnswer = codes "no answer"
+reason_words reason.TooLong = codes "a body that is too long"
+reason_words reason.Status = codes "another status than 200 and 404"
+reason_words reason.Encoded = codes "a content coding"
+reason_words reason.NoPage = codes "no page of a TimeMap"
+reason_words reason.TooManyPages = codes "too many pages"
+reason_words reason.TooManyMementos = codes "too many mementos"
+reason_words reason.NoMemory = codes "no memory"
+
+-- for how long an archive isn't asked, and why
+abbrev pub dormancy_words : Dormancy → List ℕ
+dormancy_words dormancy =
+    decimal dormancy.failures ++ codes " failures in a row, not asked for " ++ decimal dormancy.seconds
+    ++ codes " seconds, jobs left: " ++ decimal dormancy.left
+
+-- how far a round is
+abbrev pub progress_words : Progress → List ℕ
+progress_words progress =
+    decimal progress.done ++ codes " of " ++ decimal progress.jobs ++ codes " jobs, " ++ decimal progress.failed
+    ++ codes " failed, " ++ decimal progress.passed ++ codes " passed over"
+
+-- how many peers gave what they know
+abbrev pub greeting_words : Greeting → List ℕ
+greeting_words greeting = decimal greeting.gave ++ codes " of " ++ decimal greeting.peers ++ codes " peers gave what they know"
+
 -- what is told of an archive
 abbrev pub matter_words : Matter → List ℕ
 matter_words (Failed counts cause) = counts_words counts ++ cause_words cause
 matter_words (Parts parts) = decimal parts ++ codes " harvests in part"
+matter_words (For count why) = decimal count ++ codes " failed: " ++ reason_words why
+matter_words (Dormant dormancy) = dormancy_words dormancy
+matter_words (Awake left) = codes "answers again, jobs left: " ++ decimal left
+matter_words (Left left) = decimal left ++ codes " walks not begun: it isn't asked"
+matter_words (Emptied count) = decimal count ++ codes " originals lost all their copies"
 
 -- what memory was refused for
 abbrev pub want_words : Want → List ℕ
@@ -53,6 +91,8 @@ line_words (Wanting round count want) =
 line_words (Peer round base fault) =
     codes "round " ++ decimal round ++ codes ": peer " ++ base.now ++ codes ": " ++ peer_words fault
 line_words (Unpublished round fault) = codes "round " ++ decimal round ++ codes ": " ++ refused_words
+line_words (Goes round progress) = codes "round " ++ decimal round ++ codes ": " ++ progress_words progress
+line_words (Start greeting) = codes "start: " ++ greeting_words greeting
 line_words Output = codes "standard output fails: no further round is made"
 line_words (Gate number address end) =
     codes "gate " ++ decimal number ++ codes " (" ++ address.now ++ codes ") ended: " ++ end_words end

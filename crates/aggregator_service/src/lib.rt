@@ -6,16 +6,28 @@
 #![tactic(auto)]
 
 mod clocks;
+mod dues;
+mod freshness;
 mod gates;
+mod jobs;
 mod laws;
 mod lines;
 mod logs;
+mod making;
+mod means;
 mod notes;
+mod ordering;
+mod pool;
+mod pulls;
+mod reasons;
 mod rounds;
 mod runtimes;
 mod serving;
 mod settings;
+mod terms;
 
 pub use laws::limits_by_example;
 pub use serving::{ServeFault, serve_settings};
-pub use settings::{Key, MAX_TEXT, Settings, SettingsFault, read_settings};
+pub use settings::{
+    Archive, Asking, Key, MAX_TEXT, Settings, SettingsFault, Timing, read_settings,
+};

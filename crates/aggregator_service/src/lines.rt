@@ -1,6 +1,7 @@
 //! The lines of the log.
 ghost use Rattle.std.specs.Prelude.{◌≡◌, Some};
 ghost use Rattle.aggregator_service.specs.Logs.{cause_words, end_words, line_words, matter_words, peer_words, want_words};
+ghost use Rattle.aggregator_service.specs.Logs.{dormancy_words, greeting_words, progress_words, reason_words};
 
 use crate::notes::Counts;
 use harvester::WalkFault;
@@ -56,6 +57,16 @@ pub(crate) enum Matter<'a> {
     Failed { counts: Counts, cause: Cause<'a> },
     /// This many harvests came in part.
     Parts(u64),
+    /// This many walks failed for this reason.
+    Reason { count: u64, reason: Reason },
+    /// After so many failures in a row it isn't asked for so many seconds, and so many jobs are left.
+    Dormant(Dormancy),
+    /// It has answered again, and so many jobs are left.
+    Awake(u64),
+    /// This many jobs were left when the round ended, since the archive was dormant.
+    Left(u64),
+    /// This many originals had copies before, and have none now.
+    Emptied(u64),
 }
 
 impl<'a> fmt::Display for Matter<'a> {
@@ -65,7 +76,105 @@ impl<'a> fmt::Display for Matter<'a> {
         match *self {
             Matter::Failed { counts, cause } => write!(f, "{counts}{cause}"),
             Matter::Parts(parts) => write!(f, "{parts} harvests in part"),
+            Matter::Reason { count, reason } => write!(f, "{count} failed: {reason}"),
+            Matter::Dormant(dormancy) => write!(f, "{dormancy}"),
+            Matter::Awake(left) => write!(f, "answers again, jobs left: {left}"),
+            Matter::Left(left) => write!(f, "{left} walks not begun: it isn't asked"),
+            Matter::Emptied(count) => write!(f, "{count} originals lost all their copies"),
         }
+    }
+}
+
+/// Why walks failed, without what tells one from another.
+#[derive(Clone, Copy, Debug, PartialEq, Eq)]
+pub(crate) enum Reason {
+    NoAnswer,
+    TooLong,
+    Status,
+    Encoded,
+    NoPage,
+    TooManyPages,
+    TooManyMementos,
+    NoMemory,
+}
+
+impl fmt::Display for Reason {
+    ghost output = { λ reason. Some (reason_words reason) };
+
+    fn fmt<W: fmt::Write>(&self, f: &mut fmt::Formatter<W>) -> fmt::Result {
+        match self {
+            Reason::NoAnswer => f.write_str("no answer"),
+            Reason::TooLong => f.write_str("a body that is too long"),
+            Reason::Status => f.write_str("another status than 200 and 404"),
+            Reason::Encoded => f.write_str("a content coding"),
+            Reason::NoPage => f.write_str("no page of a TimeMap"),
+            Reason::TooManyPages => f.write_str("too many pages"),
+            Reason::TooManyMementos => f.write_str("too many mementos"),
+            Reason::NoMemory => f.write_str("no memory"),
+        }
+    }
+}
+
+/// After so many failures in a row an archive isn't asked for so many seconds, and so many jobs are left.
+#[derive(Clone, Copy, Debug, PartialEq, Eq)]
+pub(crate) struct Dormancy {
+    pub(crate) failures: u64,
+    pub(crate) seconds: u64,
+    pub(crate) left: u64,
+}
+
+impl fmt::Display for Dormancy {
+    ghost output = { λ dormancy. Some (dormancy_words dormancy) };
+
+    fn fmt<W: fmt::Write>(&self, f: &mut fmt::Formatter<W>) -> fmt::Result {
+        write!(
+            f,
+            "{} failures in a row, not asked for {} seconds, jobs left: {}",
+            self.failures, self.seconds, self.left
+        )
+    }
+}
+
+/// How far a round is.
+#[derive(Clone, Copy, Debug, PartialEq, Eq)]
+pub(crate) struct Progress {
+    /// How many jobs are done, those that were passed over included.
+    pub(crate) done: u64,
+    pub(crate) jobs: u64,
+    /// How many walks failed.
+    pub(crate) failed: u64,
+    /// How many jobs were passed over, since what is known is young enough.
+    pub(crate) passed: u64,
+}
+
+impl fmt::Display for Progress {
+    ghost output = { λ progress. Some (progress_words progress) };
+
+    fn fmt<W: fmt::Write>(&self, f: &mut fmt::Formatter<W>) -> fmt::Result {
+        write!(
+            f,
+            "{} of {} jobs, {} failed, {} passed over",
+            self.done, self.jobs, self.failed, self.passed
+        )
+    }
+}
+
+/// How many peers gave what they know before the first round.
+#[derive(Clone, Copy, Debug, PartialEq, Eq)]
+pub(crate) struct Greeting {
+    pub(crate) gave: u64,
+    pub(crate) peers: u64,
+}
+
+impl fmt::Display for Greeting {
+    ghost output = { λ greeting. Some (greeting_words greeting) };
+
+    fn fmt<W: fmt::Write>(&self, f: &mut fmt::Formatter<W>) -> fmt::Result {
+        write!(
+            f,
+            "{} of {} peers gave what they know",
+            self.gave, self.peers
+        )
     }
 }
 
@@ -135,6 +244,13 @@ pub(crate) enum Line<'a> {
         round: u64,
         fault: PublishRefused,
     },
+    /// A round goes on.
+    Progress {
+        round: u64,
+        progress: Progress,
+    },
+    /// The first round begins.
+    Start(Greeting),
     /// Standard output can't be written.
     Output,
     /// The gate with this number ended.
@@ -158,6 +274,8 @@ impl<'a> fmt::Display for Line<'a> {
             Line::Wanting { round, count, want } => write!(f, "round {round}: {count} {want}"),
             Line::Peer { round, base, fault } => write!(f, "round {round}: peer {base}: {fault}"),
             Line::Unpublished { round, fault } => write!(f, "round {round}: {fault}"),
+            Line::Progress { round, progress } => write!(f, "round {round}: {progress}"),
+            Line::Start(greeting) => write!(f, "start: {greeting}"),
             Line::Output => f.write_str("standard output fails: no further round is made"),
             Line::Gate {
                 number,

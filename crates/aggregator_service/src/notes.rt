@@ -4,9 +4,10 @@ ghost use Rattle.aggregator_service.specs.Notes.{IsFirst, counted, counts_words}
 
 use crate::lines::{Cause, Line, Matter, Want, name_text};
 use crate::logs::Log;
+use crate::reasons::Reasons;
 use crate::settings::Settings;
 use harvest_lattice::Harvest;
-use harvester::{Job, WalkFault};
+use harvester::WalkFault;
 use memento_time::{ArchiveName, Clean};
 use std::alloc::Global;
 use std::fmt;
@@ -69,12 +70,22 @@ pub(crate) struct First {
     fault: WalkFault,
 }
 
+/// From how many originals on the log is told that they lost all their copies.
+const MANY_EMPTIED: u64 = 10;
+
 /// What a round notes of one archive.
 #[derive(Drop)]
 pub(crate) struct Noted {
     counts: Counts,
     /// Also `None` if memory was refused for its copy.
     first: Option<First>,
+    reasons: Reasons,
+    /// How many originals had copies before, and have none now.
+    emptied: u64,
+    /// Whether the log was told in this round that the archive is dormant.
+    told_dormant: bool,
+    /// Whether the log was told in this round that the archive answers again.
+    told_awake: bool,
 }
 
 impl Noted {
@@ -91,6 +102,33 @@ impl Noted {
             }
         }
         self.counts = self.counts.with(walked);
+    }
+
+    /// Writes the lines that are told only where the settings have a key that asks for them.
+    fn tell_more<L>(&self, alloc: Global, round: u64, archive: &ArchiveName, log: Log<L>)
+    where
+        L: Write + Copy,
+    {
+        let name = name_text(archive);
+        for (reason, count) in self.reasons.counts() {
+            if count > 0 {
+                let matter = Matter::Reason { count, reason };
+                let line = Line::Archive {
+                    round,
+                    name,
+                    matter,
+                };
+                log.tell(alloc, line);
+            }
+        }
+        if self.emptied >= MANY_EMPTIED {
+            let line = Line::Archive {
+                round,
+                name,
+                matter: Matter::Emptied(self.emptied),
+            };
+            log.tell(alloc, line);
+        }
     }
 
     /// Writes the lines of this archive.
@@ -146,7 +184,10 @@ pub(crate) struct Notes {
     /// The notes of the archives, in the order of the settings. From the first archive for which memory is refused,
     /// they are missing.
     archives: Vec<Noted>,
-    walked: u64,
+    /// The peers that the log was told of, by their numbers.
+    peers: Vec<u64>,
+    failed: u64,
+    unwalked: u64,
     unkept: u64,
 }
 
@@ -163,31 +204,43 @@ impl Notes {
             let noted = Noted {
                 counts: Counts::NONE,
                 first: None,
+                reasons: Reasons::NONE,
+                emptied: 0,
+                told_dormant: false,
+                told_awake: false,
             };
             let _ = archives.push(noted);
         }
         Notes {
             archives,
-            walked: 0,
+            peers: Vec::new(alloc),
+            failed: 0,
+            unwalked: 0,
             unkept: 0,
         }
     }
 
-    /// Takes in a walk.
-    pub(crate) fn add(
-        &mut self,
-        settings: &Settings,
-        job: &Job,
-        walked: &Result<Harvest, WalkFault>,
-    ) {
-        self.walked = self.walked.saturating_add(1);
-        if self.archives.is_empty() {
-            return;
+    /// Takes in a walk of the archive at this place, which began at this URL.
+    pub(crate) fn add(&mut self, place: usize, url: &Clean, walked: &Result<Harvest, WalkFault>) {
+        if walked.is_err() {
+            self.failed = self.failed.saturating_add(1);
         }
-        let place = place_of(settings, job.archive);
         if let Some(noted) = self.archives.get_mut(place) {
-            noted.add(&job.first, walked);
+            noted.add(url, walked);
+            if let Err(fault) = walked {
+                noted.reasons.add(*fault);
+            }
         }
+    }
+
+    /// How many walks failed.
+    pub(crate) fn failed(&self) -> u64 {
+        self.failed
+    }
+
+    /// Counts a walk for which memory is refused.
+    pub(crate) fn add_unwalked(&mut self) {
+        self.unwalked = self.unwalked.saturating_add(1);
     }
 
     /// Counts a harvest that isn't appended.
@@ -195,23 +248,60 @@ impl Notes {
         self.unkept = self.unkept.saturating_add(1);
     }
 
-    /// Writes the lines of a round of this many jobs.
+    /// Counts an original of which the archive at this place had copies before, and has none now.
+    pub(crate) fn add_emptied(&mut self, place: usize) {
+        if let Some(noted) = self.archives.get_mut(place) {
+            noted.emptied = noted.emptied.saturating_add(1);
+        }
+    }
+
+    /// Whether the log is to be told that the archive at this place is dormant, or that it answers again: once each in
+    /// a round.
+    pub(crate) fn tells_mood(&mut self, place: usize, is_dormant: bool) -> bool {
+        let Some(noted) = self.archives.get_mut(place) else {
+            return false;
+        };
+        let told = if is_dormant {
+            noted.told_dormant
+        } else {
+            noted.told_awake
+        };
+        if is_dormant {
+            noted.told_dormant = true;
+        } else {
+            noted.told_awake = true;
+        }
+        !told
+    }
+
+    /// Whether the log is to be told that the peer with this number brings nothing: once in a round.
+    pub(crate) fn tells_peer(&mut self, number: u64) -> bool {
+        if self.peers.contains(&number) {
+            return false;
+        }
+        let _ = self.peers.push(number);
+        true
+    }
+
+    /// Writes the lines of a round; those that the specified lines lack only where more is wanted.
     pub(crate) fn tell<L>(
         &self,
         alloc: Global,
         round: u64,
         settings: &Settings,
-        jobs: u64,
+        tells_more: bool,
         log: Log<L>,
     )
     where
         L: Write + Copy,
     {
-        for ((archive, _), noted) in settings.archives.iter().zip(&self.archives) {
-            noted.tell(alloc, round, archive, log);
+        for (archive, noted) in settings.archives.iter().zip(&self.archives) {
+            noted.tell(alloc, round, &archive.name, log);
+            if tells_more {
+                noted.tell_more(alloc, round, &archive.name, log);
+            }
         }
-        let unwalked = jobs.saturating_sub(self.walked);
-        tell_want(alloc, round, unwalked, Want::Walks, log);
+        tell_want(alloc, round, self.unwalked, Want::Walks, log);
         tell_want(alloc, round, self.unkept, Want::Harvests, log);
     }
 }
@@ -221,13 +311,4 @@ fn tell_want<L: Write + Copy>(alloc: Global, round: u64, count: u64, want: Want,
     if count > 0 {
         log.tell(alloc, Line::Wanting { round, count, want });
     }
-}
-
-/// The place of an archive in the settings, or the place after the last one if it isn't there.
-fn place_of(settings: &Settings, archive: ArchiveName) -> usize {
-    let place = settings
-        .archives
-        .iter()
-        .position(|(name, _)| *name == archive);
-    place.unwrap_or(settings.archives.len())
 }

@@ -1,22 +1,31 @@
 //! Serves: gates in threads of their own, and rounds in the caller's thread.
 ghost use Rattle.std.specs.Prelude.{OnOk};
 ghost use Rattle.std.specs.Io.KnownBytes.{Appends};
+ghost use Rattle.std.specs.Arc.{arc_value};
+ghost use Rattle.aggregator_service.specs.Jobs.{Covers};
 ghost use Rattle.aggregator_service.specs.Lines.{round_line};
 
 use crate::clocks::incarnation_now;
+use crate::dues::Stopwatch;
 use crate::gates::{Doors, open_doors};
 use crate::lines::Line;
 use crate::logs::Log;
-use crate::rounds::{Round, sleep_between};
+use crate::making::{Rounds, Standing};
+use crate::means::Means;
+use crate::ordering::shuffle;
+use crate::rounds::Round;
 use crate::runtimes::SocketRuntime;
 use crate::settings::Settings;
+use crate::terms::Terms;
+use harvest_workers::WalkRules;
 use hyper_edge::EdgeFault;
 use published_index::{Gate, Merger, OpenFault, open};
-use std::alloc::{AllocError, AllocFailed, AllocGlobal};
+use std::alloc::{AllocError, AllocFailed, AllocGlobal, Global};
 use std::io::{self, Write};
+use std::marker::Brand;
 use std::net::{Net, SocketAddr, TcpListener, TcpStream};
 use std::random::RandomSource;
-use std::sync::Wait;
+use std::sync::{Arc, Wait};
 use std::thread::Threads;
 use std::time::Clock;
 
@@ -77,7 +86,7 @@ impl From<OpenFault> for ServeFault {
 /// further round is made, and `Device` is returned once the gates have ended.
 pub fn serve_settings<R, W, L>(
     rt: &R,
-    settings: &Settings,
+    mut settings: Settings,
     mut out: W,
     log: L,
 ) -> Result<(), ServeFault>
@@ -102,8 +111,13 @@ where
         Err(_) => return Err(ServeFault::NoMemory),
     };
     let incarnation = incarnation_now(rt);
+    if settings.timing.again.is_some() {
+        // Replicas that share the work begin at other originals.
+        shuffle(&mut settings.originals, incarnation);
+    }
+    let settings = Arc::new(rt.alloc(), settings)?;
     let (mut merger, gates) = open(rt, rt.alloc(), service, settings.gates.len(), incarnation)?;
-    let served = serve_gates(rt, settings, gates, &mut merger, &mut out, log);
+    let served = serve_gates::<R, W, L, Brand>(rt, &settings, gates, &mut merger, &mut out, log);
     merger.close(rt);
     served?;
     writeln!(out, "done")?;
@@ -111,10 +125,11 @@ where
     Ok(())
 }
 
-/// Opens the gates' doors, makes the rounds, and waits for the gates to end.
-fn serve_gates<R, W, L>(
+/// Opens the gates' doors, makes the rounds, and waits for the gates to end. What rounds take memory for is made before
+/// the first gate answers.
+fn serve_gates<R, W, L, P>(
     rt: &R,
-    settings: &Settings,
+    settings: &Arc<Settings, Global>,
     gates: Vec<Gate>,
     merger: &mut Merger,
     out: &mut W,
@@ -124,13 +139,30 @@ where
     R: SocketRuntime + Threads + Sync + Send + Clone + Drop + 'static,
     W: Write,
     L: Write + Copy + Send + 'static,
+    P: WalkRules + Send + Sync + 'static,
+    requires { Covers (arc_value settings.now) P.jobs P.answers P.faults }
 {
-    let doors = open_doors(rt, settings, gates, log)?;
-    let said = say_ports(&doors, settings, out);
+    let terms: Terms<P> = Terms::new(Arc::try_clone(settings)?);
+    let mut means = Means::new(rt.alloc(), terms.settings())?;
+    let watch = Stopwatch::start(rt);
+    let mut standing = Standing::new(rt.alloc(), terms.settings(), watch.now(rt))?;
+    let doors = open_doors(rt, terms.settings(), gates, &means.readiness, log)?;
+    let said = say_ports(&doors, terms.settings(), out);
     let made = match said {
-        Ok(()) => make_rounds(rt, settings, merger, out, log),
+        Ok(()) => {
+            means.start(rt, &terms);
+            let rounds = Rounds {
+                rt,
+                terms: &terms,
+                means: &means,
+                watch,
+                log,
+            };
+            make_all(&rounds, &mut standing, merger, out)
+        }
         Err(fault) => Err(fault),
     };
+    means.close(rt);
     // Gates may serve for a long time after the last round, so the log is told now.
     if made.is_err() {
         log.tell(rt.alloc(), Line::Output);
@@ -153,23 +185,24 @@ fn say_ports<W: Write>(doors: &Doors, settings: &Settings, out: &mut W) -> Resul
 }
 
 /// Makes the rounds, and writes a line for each.
-fn make_rounds<R, W, L>(
-    rt: &R,
-    settings: &Settings,
+fn make_all<R, W, L, P>(
+    rounds: &Rounds<'_, R, P, L>,
+    standing: &mut Standing,
     merger: &mut Merger,
     out: &mut W,
-    log: Log<L>,
 ) -> Result<(), ServeFault>
 where
-    R: SocketRuntime + Threads + Sync,
+    R: SocketRuntime,
     W: Write,
     L: Write + Copy,
+    P: WalkRules,
 {
-    for number in 1..=settings.rounds {
+    rounds.greet(standing, merger);
+    for number in 1..=rounds.terms.settings().rounds {
         if number > 1 {
-            sleep_between(rt, settings);
+            rounds.wait_between(standing, merger);
         }
-        let round = Round::make(rt, number, settings, merger, log);
+        let round = rounds.make(standing, merger, number);
         say_round(number, round, out)?;
     }
     Ok(())

@@ -10,20 +10,27 @@ ghost use Rattle.aggregator_service.specs.declared.settings.fault.Key.TheVariant
 ghost use Rattle.aggregator_service.specs.declared.settings.fault.Key.TheVariants.{Hosts};
 
 mod archives;
+mod asking;
 mod fault;
 mod hosts;
+mod timing;
 mod values;
 
 use crate::settings::archives::archives_at;
+use crate::settings::asking::{agent_at, asking_at};
 use crate::settings::hosts::hosts_at;
+use crate::settings::timing::timing_at;
 use crate::settings::values::{
     gates_at, number_at, number_or, originals_at, peers_at, service_at, wants,
 };
+pub use archives::Archive;
+pub use asking::Asking;
 pub use fault::{Key, SettingsFault};
-use hyper_edge::{AllowedHost, DEFAULT_PATIENCE};
-use memento_time::{ArchiveName, Clean, Original};
+use hyper_edge::{Agent, AllowedHost, DEFAULT_PATIENCE};
+use memento_time::{Clean, Original};
 use std::alloc::Global;
 use timemap_writer::Service;
+pub use timing::Timing;
 use toml::Table;
 
 /// The most bytes that the text of settings can have.
@@ -48,9 +55,8 @@ pub struct Settings {
     pub originals: Vec<Original>,
     /// The bases of other replicas, each without the last `/`.
     pub peers: Vec<Clean>,
-    /// The archives: their names, none twice, each with the text that comes before an original in the address of its
-    /// TimeMap.
-    pub archives: Vec<(ArchiveName, Clean)>,
+    /// The archives, of which no two have one name.
+    pub archives: Vec<Archive>,
     /// How many seconds an archive or a peer may take for a connection and the head of its answer. It may take ten
     /// times as many for the whole answer.
     pub patience: u64,
@@ -58,6 +64,14 @@ pub struct Settings {
     pub hosts: Option<Vec<AllowedHost>>,
     /// Whether what went wrong is told in a log.
     pub log: bool,
+    /// How archives are asked.
+    pub asking: Asking,
+    /// When archives and peers are asked, and when what came is published.
+    pub timing: Timing,
+    /// How the program names itself to archives; `None` if it doesn't.
+    pub agent: Option<Agent>,
+    /// Whether a gate says that it isn't ready until something was published or taken in.
+    pub ready: bool,
 
     ghost few_gates: { IsWithin Gates (length gates.items) },
     ghost few_connections: { IsWithin Connections connections },
@@ -85,6 +99,36 @@ pub fn read_settings(alloc: Global, text: &str) -> Result<Settings, SettingsFaul
     }
 }
 
+/// What stands at the keys that are this service's own.
+#[derive(Drop)]
+struct OwnKeys {
+    asking: Asking,
+    timing: Timing,
+    agent: Option<Agent>,
+    ready: bool,
+}
+
+/// What stands at the keys from `at_once` on.
+fn own_keys_at(
+    alloc: Global,
+    table: &Table,
+    workers: u64,
+    archives: usize,
+) -> Result<OwnKeys, SettingsFault>
+    requires { IsWithin Workers workers }
+{
+    let asking = asking_at(table, workers, archives)?;
+    let timing = timing_at(table)?;
+    let agent = agent_at(alloc, table)?;
+    let ready = wants(table, Key::Ready)?;
+    Ok(OwnKeys {
+        asking,
+        timing,
+        agent,
+        ready,
+    })
+}
+
 fn settings_of(alloc: Global, table: &Table) -> Result<Settings, SettingsFault> {
     let base = service_at(alloc, table)?;
     let gates = gates_at(alloc, table)?;
@@ -98,6 +142,12 @@ fn settings_of(alloc: Global, table: &Table) -> Result<Settings, SettingsFault> 
     let patience = number_or(table, Key::Patience, DEFAULT_PATIENCE)?;
     let hosts = hosts_at(alloc, table)?;
     let log = wants(table, Key::Log)?;
+    let OwnKeys {
+        asking,
+        timing,
+        agent,
+        ready,
+    } = own_keys_at(alloc, table, workers, archives.len())?;
     Ok(Settings {
         base,
         gates,
@@ -111,5 +161,9 @@ fn settings_of(alloc: Global, table: &Table) -> Result<Settings, SettingsFault> 
         patience,
         hosts,
         log,
+        asking,
+        timing,
+        agent,
+        ready,
     })
 }

@@ -58,12 +58,12 @@ fn find<'a>(rows: &'a [(Clean, Answer)], url: &Clean) -> Option<&'a Answer>
     None
 }
 
-fn copy_codings(alloc: Global, codings: &[Octets]) -> Result<Vec<Octets>, NoMemory>
-    ensures { IfOk result (λ copies. copies.items ≡ codings.now) }
+fn copy_values(alloc: Global, values: &[Octets]) -> Result<Vec<Octets>, NoMemory>
+    ensures { IfOk result (λ copies. copies.items ≡ values.now) }
 {
     let mut copies = Vec::new(alloc);
-    for coding in codings {
-        copies.push(coding.try_clone()?)?;
+    for value in values {
+        copies.push(value.try_clone()?)?;
     }
     Ok(copies)
 }
@@ -73,7 +73,8 @@ fn copy_answer(alloc: Global, answer: &Answer) -> Result<Answer, NoMemory>
 {
     Ok(Answer {
         status: answer.status,
-        encoding: Items::of(copy_codings(alloc, answer.encoding.as_slice())?),
+        encoding: Items::of(copy_values(alloc, answer.encoding.as_slice())?),
+        retry_after: Items::of(copy_values(alloc, answer.retry_after.as_slice())?),
         body: answer.body.try_clone()?,
     })
 }

@@ -1,14 +1,15 @@
 -- A request from its builder's steps.
-use Rattle.std.proofs.Common.{◌≡◌, ℕ, List, codes, Result, Ok, Err, refl, sym, ap, subst, ◌∙◌}
-use Rattle.std.specs.Prelude.{MatchResult, IfOk, IsOkAnd}
+use Rattle.std.proofs.Common.{◌≡◌, ℕ, List, codes, Option, Some, None, Bor, Result, Ok, Err, refl, sym, ap, subst, ◌∙◌}
+use Rattle.std.specs.Prelude.{MatchResult, IfOk, IfSome, IsOkAnd, option_copied}
 use Rattle.http_uri.specs.declared.uri.Uri.{Uri}
-use Rattle.http_header.specs.FieldValue.{FieldValue}
-use Rattle.http_header.specs.HeaderMap.{Entries, append}
+use Rattle.http_header.specs.FieldValue.{FieldValue, plain_value}
+use Rattle.http_header.specs.HeaderMap.{Entries, append, append_all}
 use Rattle.http.specs.declared.error.Error.{Error}
 use Rattle.http.specs.declared.request.Parts.{Parts}
 use Rattle.http.specs.declared.request.Request.{Request}
 use Rattle.http.specs.Request.{IsHeadFor, body_of, head_of}
 use Rattle.http.specs.Steps.{AppendsField, StepsTo}
+use Rattle.hyper_edge.specs.Exchanges.{fields_of_agent}
 
 ok_same : {A E : Type 0} (r : Result A E) (x y : A) → r ≡ Ok x → r ≡ Ok y → x ≡ y
 ok_same r x y p q = cc
@@ -60,3 +61,23 @@ field_added old new after name value adds keeps is =
 pub started : (new : Result Parts Error) (head : Parts) (IsUri : Uri → Type 0) → IfOk new (IsHeadFor (codes "GET") IsUri) → new ≡ Ok head → IsHeadFor (codes "GET") IsUri head
 started (Ok made) head IsUri given is = let same : made ≡ head = ok_same (Ok made) made head refl is in subst (λ (h : Parts). IsHeadFor (codes "GET") IsUri h) same given
 started (Err e) head IsUri given is = absurd (err_not_ok e head is)
+
+-- the head with these fields more
+abbrev pub with_fields : Parts → List (List ℕ × FieldValue) → Parts
+with_fields head fields = record head { headers = append_all head.headers fields }
+
+-- what the step that adds the program's name came from, where it has one
+pub record ComesFromNamed (old : Result Parts Error) (after : Parts) (agent : Option (List ℕ)) : Type 0 where
+  pub before : Parts
+  pub was : old ≡ Ok before
+  pub is : after ≡ with_fields before (fields_of_agent agent)
+
+pub agent_added : (agent : Option (Bor (List ℕ))) (old new : Result Parts Error) (after : Parts)
+    → (option_copied agent ≡ None → new ≡ old)
+    → IfSome agent (λ name. StepsTo old new (λ before after. AppendsField before.headers after.headers (λ x. x ≡ codes "user-agent") (λ x. x ≡ plain_value name.now)))
+    → IfSome agent (λ _. StepsTo old new (λ before after. after ≡ record before { headers = after.headers }))
+    → new ≡ Ok after → ComesFromNamed old after (option_copied agent)
+agent_added None old new after none adds keeps is = record { before = after; was = sym (none refl) ∙ is; is = refl }
+agent_added (Some name) old new after none adds keeps is =
+    let from = field_added old new after (codes "user-agent") (plain_value name.now) adds keeps is in
+    record { before = from.before; was = from.was; is = from.is }

@@ -8,16 +8,18 @@ use Rattle.std.specs.Net.Addr.{ipv4_octets, ipv6_segments}
 use Rattle.url.specs.declared.host.Host.{Host}
 use Rattle.url.specs.declared.host.Host.TheVariants.{Domain, Ipv4, Ipv6}
 
--- An IPv4 address is internal by its first two octets: 0.0.0.0/8 (this network), 10.0.0.0/8, 172.16.0.0/12 and
--- 192.168.0.0/16 (private), 100.64.0.0/10 (shared), 127.0.0.0/8 (this machine), 169.254.0.0/16 (link-local), and all
--- from 224.0.0.0 on (multicast, reserved and broadcast).
-abbrev pub is_internal_v4 : ℕ → ℕ → Bool
-is_internal_v4 first second =
+-- An IPv4 address is internal by its first three octets: 0.0.0.0/8 (this network), 10.0.0.0/8, 172.16.0.0/12 and
+-- 192.168.0.0/16 (private), 100.64.0.0/10 (shared), 127.0.0.0/8 (this machine), 169.254.0.0/16 (link-local),
+-- 192.0.0.0/24 (of protocols), 198.18.0.0/15 (of measurements), and all from 224.0.0.0 on (multicast, reserved and
+-- broadcast).
+abbrev pub is_internal_v4 : ℕ → ℕ → ℕ → Bool
+is_internal_v4 first second third =
     first == 0 || first == 10 || first == 127 || nat_le 224 first
     || (first == 100 && nat_le 64 second && nat_le second 127)
     || (first == 169 && second == 254)
     || (first == 172 && nat_le 16 second && nat_le second 31)
-    || (first == 192 && second == 168)
+    || (first == 192 && (second == 168 || (second == 0 && third == 0)))
+    || (first == 198 && (second == 18 || second == 19))
 
 -- the segments of an IPv6 address that stands for an IPv4 one: `::ffff:a.b.c.d` or `::a.b.c.d`
 abbrev pub holds_v4 : List ℕ → Bool
@@ -30,11 +32,14 @@ holds_v4 segments =
 abbrev pub is_internal_v6 : List ℕ → Bool
 is_internal_v6 segments =
     nat_le 0xfc00 (slice_index segments 0)
-    || (holds_v4 segments && is_internal_v4 (slice_index segments 6 / 256) (slice_index segments 6 % 256))
+    || (holds_v4 segments
+    && is_internal_v4 (slice_index segments 6 / 256) (slice_index segments 6 % 256) (slice_index segments 7 / 256))
 
 -- the address is one of this machine, of a network of its own, or of no one machine
 abbrev pub is_internal : IpAddr → Bool
-is_internal (V4 address) = is_internal_v4 (slice_index (ipv4_octets address) 0) (slice_index (ipv4_octets address) 1)
+is_internal (V4 address) =
+    is_internal_v4 (slice_index (ipv4_octets address) 0) (slice_index (ipv4_octets address) 1)
+    (slice_index (ipv4_octets address) 2)
 is_internal (V6 address) = is_internal_v6 (ipv6_segments address)
 
 -- a host that is a name leads to no internal address, and one that is an address to just that address
@@ -76,10 +81,15 @@ pub record AreAddresses : Type 0 where
       × IsReached (v4 172 32 0 0)
   pub private_192 : IsReached (v4 192 167 255 255) × IsKeptFrom (v4 192 168 0 0) × IsKeptFrom (v4 192 168 255 255)
       × IsReached (v4 192 169 0 0)
+  pub protocols : IsReached (v4 191 255 255 255) × IsKeptFrom (v4 192 0 0 0) × IsKeptFrom (v4 192 0 0 255)
+      × IsReached (v4 192 0 1 0)
+  pub measurements : IsReached (v4 198 17 255 255) × IsKeptFrom (v4 198 18 0 0) × IsKeptFrom (v4 198 19 255 255)
+      × IsReached (v4 198 20 0 0)
   pub multicast : IsReached (v4 223 255 255 255) × IsKeptFrom (v4 224 0 0 0) × IsKeptFrom (v4 255 255 255 255)
   pub unspecified_v6 : IsKeptFrom (v6 0 0 0 0) × IsKeptFrom (v6 0 0 0 1)
   pub mapped : IsReached (v6 0 0xffff 0x09ff 0xffff) × IsKeptFrom (v6 0 0xffff 0x0a00 0) × IsKeptFrom (v6 0 0xffff 0x7f00 1)
       × IsReached (v6 0 0xffff 0x8000 0)
+  pub mapped_protocols : IsKeptFrom (v6 0 0xffff 0xc000 0x00ff) × IsReached (v6 0 0xffff 0xc000 0x0100)
   pub not_mapped : IsReached (v6 0 0xfffe 0x7f00 1) × IsReached (v6 1 0xffff 0x7f00 1)
   pub unique_local : IsReached (v6 0xfbff 0 0 1) × IsKeptFrom (v6 0xfc00 0 0 0) × IsKeptFrom (v6 0xfdff 0 0 1)
   pub link_local_v6 : IsKeptFrom (v6 0xfe80 0 0 1) × IsKeptFrom (v6 0xfebf 0 0 1)

@@ -3,6 +3,8 @@ pub mod Requests
 pub mod Responses
 pub mod Gates
 pub mod Targets
+pub mod Agents
+pub mod Limits
 pub mod Exchanges
 pub mod Pulls
 pub mod Addresses

@@ -1,18 +1,26 @@
 //! One request over a fresh connection, and its answer.
 ghost use Rattle.std.specs.Prelude.{◌≡◌, ◌≤◌, ◌<◌, ◌⊎◌, ◌↔◌, Ok, Err, IfOk, IfErr, IfSome, alloc_error, length};
+ghost use Rattle.std.specs.Prelude.{codes, map, option_copied};
+ghost use Rattle.http.specs.Request.{builder_result};
+ghost use Rattle.http.specs.Steps.{AppendsField, StepsTo};
+ghost use Rattle.http_header.specs.FieldValue.{plain_value};
+ghost use Rattle.http_header.specs.HeaderMap.{get_all};
+ghost use Rattle.http_header.specs.Token.{lowercase};
 ghost use Rattle.http_body_util.specs.Collected.{collected_bytes};
 ghost use Rattle.hyper.specs.Error.{kind_of};
 ghost use Rattle.hyper.specs.declared.error.Kind.TheVariants.{OutOfMemory as HyperOutOfMemory};
 ghost use Rattle.hyper_edge.specs.Exchanges.{IsAnswerOf, IsRequestFor};
 ghost use Rattle.hyper_edge.specs.Hosts.{AreAllowed, IsListedText};
 
+use crate::agents::Agent;
+use crate::bodies::Counted;
 use crate::hosts::{AllowedHost, allowed_addresses, is_listed};
 use crate::patience::Patience;
 use crate::targets::target_of;
+use crate::waits::{Limit, while_connected};
 use bytes::Bytes;
-use futures::future::Either;
-use futures::{Future, future};
 use harvester::{Answer, FetchFault};
+use http::request::Builder;
 use http_body_util::{BodyExt, Collected, Empty, Limited, LimitedError};
 use hyper::client::conn::http1::handshake;
 use hyper::{Request, header};
@@ -22,6 +30,7 @@ use std::hash::RandomState;
 use std::net::{Net, SocketAddr, TcpListener, TcpStream, ToSocketAddrs};
 use std::random::RandomSource;
 use std::sync::Wait;
+use std::sync::atomic::AtomicU64;
 use std::time::{Clock, Instant};
 use std::{io, vec};
 use tokio::io::{AsyncRead, AsyncWrite};
@@ -29,6 +38,30 @@ use tokio::net;
 use tokio::runtime::LocalRuntime;
 use url::{Position, Url};
 use url_texts::read_url;
+
+/// How a URL is asked for.
+#[derive(Clone, Copy)]
+pub(crate) struct Manner<'a> {
+    pub(crate) patience: Patience,
+    /// The fewest bytes a second in which a body may come.
+    pub(crate) rate: Option<u64>,
+    /// When the walk ends that the URL belongs to.
+    pub(crate) end: Option<Instant>,
+    /// How the program names itself.
+    pub(crate) agent: Option<&'a Agent>,
+}
+
+impl Manner<'_> {
+    /// Asks with a patience, and with nothing else.
+    pub(crate) fn of_patience(patience: Patience) -> Manner<'static> {
+        Manner {
+            patience,
+            rate: None,
+            end: None,
+            agent: None,
+        }
+    }
+}
 
 /// The times until which the other side is waited for.
 #[derive(Clone, Copy)]
@@ -40,25 +73,33 @@ struct Deadlines {
 }
 
 impl Deadlines {
-    /// The deadlines of an exchange that begins now.
-    fn of(clock: &impl Clock, patience: Patience) -> Result<Deadlines, FetchFault> {
+    /// The deadlines of an exchange that begins now. Both are at the end of the walk at the latest.
+    fn of(clock: &impl Clock, manner: Manner<'_>) -> Result<Deadlines, FetchFault> {
         let now = Instant::now(clock).map_err(|error| fault_of(&error))?;
-        let head = now.checked_add(patience.for_head());
-        let body = now.checked_add(patience.for_body());
-        match (head, body) {
-            (Some(head), Some(body)) => Ok(Deadlines { head, body }),
-            _ => Err(FetchFault::Failed),
+        let head = now.checked_add(manner.patience.for_head());
+        let body = now.checked_add(manner.patience.for_body());
+        let (Some(head), Some(body)) = (head, body) else {
+            return Err(FetchFault::Failed);
+        };
+        match manner.end {
+            Some(end) if end <= now => Err(FetchFault::Failed),
+            Some(end) => Ok(Deadlines {
+                head: head.min(end),
+                body: body.min(end),
+            }),
+            None => Ok(Deadlines { head, body }),
         }
     }
 }
 
 /// Fetches a URL by `GET` over a fresh connection. A body of more than `most` bytes is `TooLong`. An https URL is
-/// `Failed`, and so is one whose answer doesn't come within the patience. The name is looked up by std, without a time
-/// limit. If there are hosts, a URL of another host is `Failed` before its name is looked up, and one whose name leads
-/// to no allowed address is `Failed` before a connection is made.
+/// `Failed`, and so is one whose answer doesn't come within the patience, by the end of the walk and at the rate that
+/// it is asked at. The name is looked up by std, without a time limit. If there are hosts, a URL of another host is
+/// `Failed` before its name is looked up, and one whose name leads to no allowed address is `Failed` before a
+/// connection is made.
 pub(crate) fn get<R>(
     rt: &R,
-    patience: Patience,
+    manner: Manner<'_>,
     hosts: Option<&[AllowedHost]>,
     url: &str,
     most: usize,
@@ -74,12 +115,17 @@ where
         Ok(None) => return Err(FetchFault::Failed),
         Err(_) => return Err(FetchFault::NoMemory),
     };
-    let request = request_for(alloc, url, &address)?;
+    let request = request_for(alloc, url, &address, manner.agent)?;
     let mut runtime = LocalRuntime::new(rt).map_err(|error| fault_of(&error))?;
     let addresses = addresses_of(rt, hosts, &address)?;
-    let deadlines = Deadlines::of(rt, patience)?;
-    let stream = connect(rt, &mut runtime, addresses, deadlines)?;
-    exchange(rt, &mut runtime, stream, request, most, deadlines)
+    let deadlines = Deadlines::of(rt, manner)?;
+    let stream = connect(rt, &mut runtime, addresses, deadlines.head)?;
+    let exchange = Exchange {
+        most,
+        deadlines,
+        manner,
+    };
+    exchange.run(rt, &mut runtime, stream, request)
 }
 
 fn fault_of(error: &io::Error) -> FetchFault {
@@ -101,9 +147,29 @@ fn fault_of_hyper(error: &hyper::Error) -> FetchFault
     }
 }
 
+/// Adds the name of the program, if it has one.
+fn with_agent(builder: Builder, agent: Option<&Agent>) -> Builder
+    ensures none { option_copied agent.entry ≡ None → builder_result result ≡ builder_result builder }
+    ensures ok { IfSome agent.entry (λ name. StepsTo (builder_result builder) (builder_result result)
+        (λ old new. AppendsField old.headers new.headers (λ x. x ≡ codes "user-agent")
+        (λ x. x ≡ plain_value name.now))) }
+    ensures others { IfSome agent.entry (λ _. StepsTo (builder_result builder) (builder_result result)
+        (λ old new. new ≡ record old { headers = new.headers })) }
+{
+    match agent {
+        Some(agent) => builder.header(header::USER_AGENT, agent.as_str()),
+        None => builder,
+    }
+}
+
 /// The request for a URL.
-fn request_for(alloc: Global, url: &str, address: &Url) -> Result<Request<Empty<Bytes>>, FetchFault>
-    ensures { IfOk result (IsRequestFor url.now address.now) }
+fn request_for(
+    alloc: Global,
+    url: &str,
+    address: &Url,
+    agent: Option<&Agent>,
+) -> Result<Request<Empty<Bytes>>, FetchFault>
+    ensures { IfOk result (IsRequestFor url.now address.now (option_copied agent.entry)) }
 {
     let target = match target_of(alloc, url) {
         Ok(Some(target)) => target,
@@ -115,7 +181,7 @@ fn request_for(alloc: Global, url: &str, address: &Url) -> Result<Request<Empty<
         .header(header::HOST, host)
         .header(header::ACCEPT_ENCODING, "identity")
         .header(header::CONNECTION, "close");
-    match builder.body(Empty::new()) {
+    match with_agent(builder, agent).body(Empty::new()) {
         Ok(request) => Ok(request),
         Err(http::Error::OutOfMemory) => Err(FetchFault::NoMemory),
         Err(_) => Err(FetchFault::Failed),
@@ -165,18 +231,14 @@ fn connect<R>(
     rt: &R,
     runtime: &mut LocalRuntime,
     addresses: Vec<SocketAddr>,
-    deadlines: Deadlines,
+    deadline: Instant,
 ) -> Result<net::TcpStream, FetchFault>
 where
     R: Wait + Clock + Net + RandomSource + AllocGlobal,
 {
     for address in addresses {
         let connecting = net::TcpStream::connect(rt, address, runtime.handle().reactor());
-        let Ok(limited) = runtime
-            .handle()
-            .time()
-            .timeout_at(deadlines.head, connecting)
-        else {
+        let Ok(limited) = runtime.handle().time().timeout_at(deadline, connecting) else {
             return Err(FetchFault::NoMemory);
         };
         let connected = runtime
@@ -189,82 +251,67 @@ where
     Err(FetchFault::Failed)
 }
 
-/// What `wanted` gives in time, while the connection is driven, and the connection if it hasn't ended.
-fn while_connected<R, F, C>(
-    rt: &R,
-    runtime: &mut LocalRuntime,
-    wanted: F,
-    connection: Option<C>,
-    deadline: Instant,
-) -> io::Result<(F::Output, Option<C>)>
-where
-    R: Wait + Clock + RandomSource + AllocGlobal,
-    F: Future,
-    C: Future<Output: Drop>,
-    requires wanted { F.can_poll wanted }
-    requires connection { IfSome connection C.can_poll }
-    ensures gives { IfOk result (λ r. F.gives wanted r.0) }
-    ensures left { IfOk result (λ r. IfSome r.1 C.can_poll) }
-{
-    let wanted = runtime.handle().time().timeout_at(deadline, wanted)?;
-    let Some(connection) = connection else {
-        let given = runtime.block_on(rt, wanted)??;
-        return Ok((given, None));
-    };
-    match runtime.block_on(rt, future::select(wanted, connection))? {
-        Either::Left((given, connection)) => Ok((given?, Some(connection))),
-        Either::Right((_ended, wanted)) => {
-            let given = runtime.block_on(rt, wanted)??;
-            Ok((given, None))
-        }
-    }
-}
-
-/// Sends the request and receives the whole answer.
-fn exchange<R, I>(
-    rt: &R,
-    runtime: &mut LocalRuntime,
-    stream: I,
-    request: Request<Empty<Bytes>>,
+/// What an exchange keeps to.
+#[derive(Clone, Copy)]
+struct Exchange<'a> {
+    /// The most bytes of the body.
     most: usize,
     deadlines: Deadlines,
-) -> Result<Answer, FetchFault>
-where
-    R: Wait + Clock + RandomSource + AllocGlobal,
-    I: AsyncRead + AsyncWrite,
-    ensures { IfOk result (λ answer. length answer.body ≤ most) }
-{
-    let alloc = rt.alloc();
-    let keys = RandomState::new(rt).map_err(|error| fault_of(&error))?;
-    let (mut sender, connection) = match handshake(alloc, keys, stream) {
-        Ok(ends) => ends,
-        Err(error) => return Err(fault_of_hyper(&error)),
-    };
-    let response = sender.send_request(request);
-    drop(sender);
-    let (response, connection) = while_connected(
-        rt,
-        runtime,
-        response,
-        Some(connection),
-        deadlines.head,
-    ).map_err(|error| fault_of(&error))?;
-    let (head, body) = match response {
-        Ok(response) => response.into_parts(),
-        Err(error) => return Err(fault_of_hyper(&error)),
-    };
-    let body = Limited::new(body, most).collect(alloc);
-    let (collected, _connection) = while_connected(
-        rt,
-        runtime,
-        body,
-        connection,
-        deadlines.body,
-    ).map_err(|error| fault_of(&error))?;
-    match collected {
-        Ok(collected) => within(answer_of(alloc, &head, collected), most),
-        Err(LimitedError::LengthLimit) => Err(FetchFault::TooLong),
-        Err(LimitedError::Body(error)) => Err(fault_of_hyper(&error)),
+    manner: Manner<'a>,
+}
+
+impl Exchange<'_> {
+    /// Sends the request and receives the whole answer.
+    fn run<R, I>(
+        self,
+        rt: &R,
+        runtime: &mut LocalRuntime,
+        stream: I,
+        request: Request<Empty<Bytes>>,
+    ) -> Result<Answer, FetchFault>
+    where
+        R: Wait + Clock + RandomSource + AllocGlobal,
+        I: AsyncRead + AsyncWrite,
+        ensures { IfOk result (λ answer. length answer.body ≤ self.entry.most) }
+    {
+        let alloc = rt.alloc();
+        let keys = RandomState::new(rt).map_err(|error| fault_of(&error))?;
+        let (mut sender, connection) = match handshake(alloc, keys, stream) {
+            Ok(ends) => ends,
+            Err(error) => return Err(fault_of_hyper(&error)),
+        };
+        let response = sender.send_request(request);
+        drop(sender);
+        let (response, connection) = while_connected(
+            rt,
+            runtime,
+            response,
+            Some(connection),
+            Limit::until(self.deadlines.head),
+        )
+        .map_err(|error| fault_of(&error))?;
+        let (head, body) = match response {
+            Ok(response) => response.into_parts(),
+            Err(error) => return Err(fault_of_hyper(&error)),
+        };
+        let came = AtomicU64::new(0);
+        let limit = Limit::for_body(
+            rt,
+            self.deadlines.body,
+            self.manner.patience,
+            self.manner.rate,
+            &came,
+        )
+        .map_err(|error| fault_of(&error))?;
+        let body = Limited::new(Counted::new(body, &came), self.most).collect(alloc);
+        let (collected, _connection) = while_connected(
+            rt, runtime, body, connection, limit,
+        ).map_err(|error| fault_of(&error))?;
+        match collected {
+            Ok(collected) => within(answer_of(alloc, &head, collected), self.most),
+            Err(LimitedError::LengthLimit) => Err(FetchFault::TooLong),
+            Err(LimitedError::Body(error)) => Err(fault_of_hyper(&error)),
+        }
     }
 }
 
@@ -281,6 +328,22 @@ fn within(answer: Result<Answer, AllocError>, most: usize) -> Result<Answer, Fet
     }
 }
 
+/// The values of a response's fields with this name, in order.
+fn values_of(
+    alloc: Global,
+    head: &http::response::Parts,
+    name: &str,
+) -> Result<Vec<Octets>, AllocError>
+    ensures { IfOk result (λ values. values.items ≡ map (λ v. v.bytes) (get_all head.now.headers (lowercase name.now))) }
+{
+    let mut values = Vec::new(alloc);
+    for value in head.headers.get_all(name) {
+        let value = value.as_bytes().to_vec(alloc)?;
+        values.push(Octets::of(value))?;
+    }
+    Ok(values)
+}
+
 fn answer_of(
     alloc: Global,
     head: &http::response::Parts,
@@ -288,15 +351,13 @@ fn answer_of(
 ) -> Result<Answer, AllocError>
     ensures { IfOk result (IsAnswerOf head.now (collected_bytes collected)) }
 {
-    let mut encoding = Vec::new(alloc);
-    for value in head.headers.get_all("content-encoding") {
-        let value = value.as_bytes().to_vec(alloc)?;
-        encoding.push(Octets::of(value))?;
-    }
+    let encoding = values_of(alloc, head, "content-encoding")?;
+    let retry_after = values_of(alloc, head, "retry-after")?;
     let body = body_of(alloc, collected)?;
     Ok(Answer {
         status: head.status.as_u16(),
         encoding: Items::of(encoding),
+        retry_after: Items::of(retry_after),
         body: Octets::of(body),
     })
 }

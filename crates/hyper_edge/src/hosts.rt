@@ -94,9 +94,9 @@ pub fn is_listed(hosts: &[AllowedHost], url: &Url) -> bool
     hosts.iter().any(|entry| entry.is(host, port))
 }
 
-/// Whether an IPv4 address with these first two octets is internal.
-fn is_internal_v4(first: u8, second: u8) -> bool
-    ensures { result ≡ spec.is_internal_v4 first second }
+/// Whether an IPv4 address with these first three octets is internal.
+fn is_internal_v4(first: u8, second: u8, third: u8) -> bool
+    ensures { result ≡ spec.is_internal_v4 first second third }
 {
     first == 0
         || first == 10
@@ -105,7 +105,8 @@ fn is_internal_v4(first: u8, second: u8) -> bool
         || (first == 100 && second >= 64 && second <= 127)
         || (first == 169 && second == 254)
         || (first == 172 && second >= 16 && second <= 31)
-        || (first == 192 && second == 168)
+        || (first == 192 && (second == 168 || (second == 0 && third == 0)))
+        || (first == 198 && (second == 18 || second == 19))
 }
 
 fn are_zeros(segments: &[u16]) -> bool
@@ -127,7 +128,11 @@ fn is_internal_v6(segments: [u16; 8]) -> bool
 {
     segments[0] >= 0xfc00
         || (holds_v4(segments)
-            && is_internal_v4((segments[6] / 256) as u8, (segments[6] % 256) as u8))
+            && is_internal_v4(
+                (segments[6] / 256) as u8,
+                (segments[6] % 256) as u8,
+                (segments[7] / 256) as u8,
+            ))
 }
 
 /// Whether an address belongs to this machine, to a private network, or to no single machine.
@@ -136,8 +141,8 @@ fn is_internal(address: IpAddr) -> bool
 {
     match address {
         IpAddr::V4(address) => {
-            let [first, second, _, _] = address.octets();
-            is_internal_v4(first, second)
+            let [first, second, third, _] = address.octets();
+            is_internal_v4(first, second, third)
         }
         IpAddr::V6(address) => is_internal_v6(address.segments()),
     }

@@ -3,7 +3,7 @@ ghost use Rattle.std.specs.Prelude.{◌≡◌, ◌≢◌, ◌++◌, IfErr, IfOk,
 ghost use Rattle.timegate.specs.Route.{delta_target};
 ghost use Rattle.hyper_edge.specs.Pulls.{Brings, IsBrought, IsRefusedFor};
 
-use crate::exchanges::get;
+use crate::exchanges::{Manner, get};
 use crate::faults::PullFault;
 use crate::patience::Patience;
 use harvester::Answer;
@@ -44,7 +44,8 @@ where
 {
     let alloc = rt.alloc();
     let url = delta_url(alloc, peer, cursor)?;
-    let answer = get(rt, patience, None, url.as_str(), MAX_DELTA)?;
+    let manner = Manner::of_patience(patience);
+    let answer = get(rt, manner, None, url.as_str(), MAX_DELTA)?;
     delta_in(alloc, &answer)
 }
 

@@ -13,17 +13,37 @@ use std::hash::RandomState;
 use std::random::RandomSource;
 use std::sync::Wait;
 use std::time::{Clock, Duration};
+use std::{io, thread};
 use tokio::io::{AsyncRead, AsyncWrite};
+use tokio::net::TcpStream;
 use tokio::runtime::LocalRuntime;
 
 /// The most seconds that a client may take for the head of a request, counted from when its connection was accepted or
 /// from the reply before.
 const HEAD_SECONDS: u64 = 10;
 
+/// How many milliseconds to wait where a connection can't be accepted for the moment.
+const ACCEPT_PAUSE: u64 = 100;
+
+const ENOMEM: i32 = 12;
+
+const ENFILE: i32 = 23;
+
+const EMFILE: i32 = 24;
+
+const ECONNABORTED: i32 = 103;
+
+const ENOBUFS: i32 = 105;
+
+/// The faults of an accept after which a later one may succeed.
+const PASSING: [i32; 5] = [ENOMEM, ENFILE, EMFILE, ECONNABORTED, ENOBUFS];
+
 /// Serves this many connections, one after the other, and returns how many of them ended with a connection fault.
 ///
 /// Each request gets what `GateService::respond` gives, or 503 with an empty body if that is a fault. A connection is
-/// served until its client closes it or takes too long for the head of a request.
+/// served until its client closes it or takes too long for the head of a request. If no connection can be accepted for
+/// the moment, as the system has no descriptor or no memory for it or its client is gone, the gate waits a little and
+/// goes on; that counts as no connection. Any other fault of the socket ends the gate.
 pub fn serve_gate<R, G>(
     rt: &R,
     bound: &mut Bound,
@@ -42,15 +62,43 @@ where
     http.header_read_timeout(Some(Duration::from_secs(HEAD_SECONDS)));
     let mut faults = 0u64;
     for _ in 0..connections {
-        let accepted = bound.runtime.block_on(rt, bound.listener.accept());
-        let (stream, _peer) = accepted
-            .map_err(|error| EdgeFault::of_accepting(&error))?
-            .map_err(|error| EdgeFault::of_accepting(&error))?;
+        let stream = accept(rt, bound)?;
         if !serve_connection(rt, &mut bound.runtime, &http, stream, service.share()?)? {
             faults = faults.saturating_add(1);
         }
     }
     Ok(faults)
+}
+
+/// The next connection.
+fn accept<R>(rt: &R, bound: &mut Bound) -> Result<TcpStream, EdgeFault>
+where
+    R: Wait + Clock + RandomSource + AllocGlobal,
+    ensures { IfErr result (λ fault. (fault ≡ EdgeFault.Accept) ⊎ (fault ≡ EdgeFault.NoMemory)) }
+{
+    for _ in rt.forever() {
+        let accepted = bound
+            .runtime
+            .block_on(rt, bound.listener.accept())
+            .map_err(|error| EdgeFault::of_accepting(&error))?;
+        match accepted {
+            Ok((stream, _peer)) => return Ok(stream),
+            Err(error) if is_passing(&error) => {
+                thread::sleep(rt, Duration::from_millis(ACCEPT_PAUSE));
+            }
+            Err(error) => return Err(EdgeFault::of_accepting(&error)),
+        }
+    }
+    unreachable!()
+}
+
+/// Whether a connection may be accepted later: the process or the system has as many open files as it may, there is no
+/// memory for another connection, or the client was gone before it was accepted (`accept(2)`).
+fn is_passing(error: &io::Error) -> bool {
+    match error.raw_os_error() {
+        Some(code) => PASSING.contains(&code),
+        None => false,
+    }
 }
 
 /// Serves one connection to its end, and returns whether it ended well.

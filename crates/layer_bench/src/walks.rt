@@ -33,6 +33,7 @@ fn answer_of(alloc: Global, body: Vec<u8>) -> Answer {
     Answer {
         status: 200,
         encoding: Items::of(Vec::new(alloc)),
+        retry_after: Items::of(Vec::new(alloc)),
         body: Octets::of(body),
     }
 }

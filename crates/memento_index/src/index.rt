@@ -61,15 +61,15 @@ impl Index {
 
     /// Takes in a harvest, or everything that a state has.
     ///
-    /// It gets all its memory before the first change, and then changes only the counts of what begins or ceases to be
-    /// shown. It takes time in the size of what it takes in and of the entries at its keys; for a list that changes, in
-    /// what stands from the first change on; and time logarithmic in the number of keys and of lists. A list that only
-    /// one archive shows is shared with that archive's entry, and so is the list that a later revision puts in its
-    /// place; it is copied when another archive's mementos are added, or more of the same revision. A list of at most
-    /// 64 mementos of which only one archive shows each has no counts, and is copied when it changes; unless memory is
-    /// refused, it is copied once more after the change. The number of archives, the lists that don't change, and the
-    /// number of revisions in which an archive shows a memento make no difference. A list in which more addresses began
-    /// and ceased than it has is packed anew, unless memory is refused.
+    /// It gets all the memory that it must have before the first change, and then changes only the counts of what
+    /// begins or ceases to be shown. It takes time in the size of what it takes in and of the entries at its keys; for
+    /// a list that changes, in what stands from the first change on; and time logarithmic in the number of keys and of
+    /// lists. A list that only one archive shows is shared with that archive's entry, and so is the list that a later
+    /// revision puts in its place; it is copied when another archive's mementos are added, or more of the same
+    /// revision. A list of at most 64 mementos of which only one archive shows each has no counts, and is copied when
+    /// it changes; unless memory is refused, it is copied once more after the change. The number of archives, the lists
+    /// that don't change, and the number of revisions in which an archive shows a memento make no difference. A list in
+    /// which more addresses began and ceased than it has is packed anew, unless memory is refused.
     pub fn absorb(&mut self, merge: &Merge) -> Result<(), NoMemory>
         ensures ok { OnOk result (self.new ≡ join self.old (lat (adds_of merge.now))) }
         ensures stands { (hs : List Harvested) → self.old ≡ lat hs

@@ -1,7 +1,10 @@
 //! Mergers, which publish.
-ghost use Rattle.std.specs.Prelude.{◌≡◌, ◌∷◌, [], ◌++◌, true, IfOk, IfErr, OnOk, OnErr};
+ghost use Rattle.std.specs.Prelude.{◌≡◌, ◌∷◌, [], ◌++◌, true, IfOk, IfErr, OnOk, OnErr, option_copied};
 ghost use Rattle.std.specs.FinMap as map;
+ghost use Rattle.harvest_lattice.specs.Knowledge.{lat};
 ghost use Rattle.replica_exchange.specs.CursorRule as rule;
+ghost use Rattle.replica_exchange.specs.Stamps.{state_after};
+ghost use Rattle.published_index.specs.Batches.{fold_of, merges_of};
 ghost use Rattle.published_index.specs.Cursors.{receipt_of, with_merge, with_delta, with_publish};
 ghost use Rattle.published_index.specs.Events.{AreNumbered, RunsAsEvents};
 
@@ -11,8 +14,9 @@ use crate::receipts::Receipt;
 use crate::rules::EditionWriter;
 use crate::writing::{add, catch_up, offer, show};
 use core::mem::replace_with;
+use harvest_lattice::{Entry, State};
 use memento_index::Merge;
-use memento_time::NoMemory;
+use memento_time::{ArchiveName, NoMemory, Original};
 use replica_exchange::{Cursor, Cursors, Delta, TakeFault};
 use std::alloc::Global;
 use std::marker::{Brand, Model};
@@ -101,11 +105,28 @@ impl Merger {
         Ok(())
     }
 
+    /// The state of everything that was published, and of nothing that is pending. While it is borrowed, nothing can be
+    /// appended or published, and no gate waits.
+    pub fn published_state(&self) -> &State
+        ensures { result.now ≡ lat (fold_of self.now.published) }
+    {
+        self.writer.published().stamped.index().state()
+    }
+
     /// The cursor that is held for a peer.
     pub fn cursor(&self, peer: u64) -> Option<Cursor>
         ensures { result ≡ map.get self.now.cursors peer }
     {
         self.cursors.held(peer)
+    }
+
+    /// The entry of an archive and original in the state of all that was published, if there is one.
+    pub fn published_entry(&self, archive: ArchiveName, original: &Original) -> Option<&Entry>
+        ensures { option_copied result
+            ≡ map.get (state_after (merges_of self.now.published)) (archive, original.now) }
+    {
+        let shown = self.writer.published().stamped.index().state();
+        shown.entry(archive, original)
     }
 
     /// Makes everything that is pending into one batch, which may be empty, at the end of the published list, and

@@ -70,6 +70,7 @@ fn add(fetch: &mut MemoryFetch, alloc: Global, url: &[u8], body: &[u8]) -> Resul
     let answer = Answer {
         status: 200,
         encoding: Items::of(vec![in alloc; identity]?),
+        retry_after: Items::of(Vec::new(alloc)),
         body: Octets::of(Vec::from_slice(alloc, body)?),
     };
     fetch.add(url, answer)?;

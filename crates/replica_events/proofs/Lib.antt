@@ -4,6 +4,7 @@ pub mod Sound
 pub mod Moments
 pub mod Explained
 mod Deliveries
+mod SentFirst
 pub mod Stampings
 pub mod Outcomes
 mod Causes

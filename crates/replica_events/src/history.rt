@@ -28,8 +28,9 @@ pub fn what_replicas_have_taken()
 {}
 
 /// A message that no delivery names changes nothing in what replicas have learnt. Nor does another delivery of the same
-/// message to the same replica, if the replica wasn't restarted and no other message got the number in between. Two
-/// successive events, neither of which is a restart or a sending, can be exchanged.
+/// message to the same replica, if the replica wasn't restarted and no other message got the number in between
+/// (`repeated`); in a course of events none does (`again`). Two successive events, neither of which is a restart or a
+/// sending, can be exchanged.
 pub fn deliveries_in_any_order()
     ensures lost { (before after : History) (sending : Event) (k : ℕ) →
         ((i : ℕ) → ¬ Contains after (Deliver i k, Ok Joined)) →
@@ -39,6 +40,11 @@ pub fn deliveries_in_any_order()
         NoRestart between i → ((sending : Event) → ¬ Contains between (sending, Ok (Sent k))) →
         (j : ℕ) (h : Harvested) →
         Learnt (before ++ (Deliver i k, Ok Joined) ∷ between ++ (Deliver i k, Ok Joined) ∷ after) j h
+        ↔ Learnt (before ++ (Deliver i k, Ok Joined) ∷ between ++ after) j h }
+    ensures again { (base : List ℕ) (course : Course base) (before between after : History) (i k : ℕ) →
+        history_of course ≡ before ++ (Deliver i k, Ok Joined) ∷ between ++ (Deliver i k, Ok Joined) ∷ after →
+        NoRestart between i → (j : ℕ) (h : Harvested) →
+        Learnt (history_of course) j h
         ↔ Learnt (before ++ (Deliver i k, Ok Joined) ∷ between ++ after) j h }
     ensures reordered { (before after : History) (x y : Happened) → IsLocal x → IsLocal y →
         (i : ℕ) (h : Harvested) →

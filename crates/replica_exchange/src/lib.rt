@@ -69,4 +69,4 @@ pub use laws::{
 };
 pub use reading::{read_delta, read_state};
 pub use stamped::{StampFault, Stamped};
-pub use writing::{write_delta, write_state};
+pub use writing::{write_delta, write_entry, write_state};

@@ -119,7 +119,8 @@ fn write_parts(out: &mut Vec<u8>, entry: &Entry) -> Result<(), AllocError>
     Ok(())
 }
 
-fn write_entry(
+/// Writes the lines of an entry, in format 2. After an error some of them may have been written.
+pub fn write_entry(
     out: &mut Vec<u8>,
     archive: ArchiveName,
     original: &Original,

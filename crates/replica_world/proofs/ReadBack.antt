@@ -12,9 +12,10 @@ use Rattle.memento_time.specs.Mementos.{IsMemento}
 use Rattle.memento_time.specs.Second.{IsSecond, imf}
 use Rattle.memento_time.specs.Text.{IsOriginal}
 use Rattle.memento_time.proofs.ReadLemmas.{Reads-imf}
-use Rattle.link_format.specs.Grammar.{Link}
+use Rattle.link_format.specs.Grammar.{Link, Reading}
 use Rattle.link_format.specs.Limits.{FewLinks, FewParams, ShortTargets}
 use Rattle.timemap_reader.specs.Answer.{IsAnswer, IsShort, base_of}
+use Rattle.timemap_reader.specs.Page.{IsPageOf}
 use Rattle.link_format.specs.Writing.{param_text, params_text, link_text, escape, followed}
 use Rattle.link_format.proofs.Appended.{escape_longer}
 use Rattle.timemap_writer.specs.Service.{IsBase}
@@ -194,6 +195,13 @@ index_few : (base original : List ℕ) (ms : List Memento) → IsShort (index_te
 index_few base original ms short =
     let count = numbered_length (page_link base original ms) 1 (pages ms) in
     omega (arith, index_length base original ms, short, count)
+
+-- an index of any length has one reading, which names just its pages
+pub index_named : (base original : List ℕ) (mementos : List Memento) → IsBase base → IsFollowed base → IsOriginal original → IsFollowed original
+    → All IsMemento mementos → length mementos < 2 ^ 64
+    → Reading (index_text base original mementos) (index_links base original mementos) × ((url : Parts) → IsPageOf url (index_links base original mementos) (index_of base original mementos))
+index_named base original ms is base_is known followed each small =
+    (index_reads base original ms is known each small, λ url. its_index base original url ms is known base_is followed small)
 
 pub index_back : (base original address : List ℕ) (url : Parts) (mementos : List Memento) → IsBase base → IsFollowed base → IsOriginal original → IsFollowed original
     → All IsMemento mementos → length mementos < 2 ^ 64 → base_of address ≡ Some url → IsShort (index_text base original mementos)

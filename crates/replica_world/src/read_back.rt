@@ -6,10 +6,12 @@ ghost use Rattle.memento_time.specs.Text.{IsOriginal};
 ghost use Rattle.memento_time.specs.declared.mementos.Memento.{Memento};
 ghost use Rattle.memento_time.specs.Mementos.{IsMemento};
 ghost use Rattle.url_texts.specs.Followed.{IsFollowed};
+ghost use Rattle.link_format.specs.Grammar.{Reading};
+ghost use Rattle.timemap_reader.specs.Page.{IsPageOf};
 ghost use Rattle.timemap_reader.specs.Answer.{IsAnswer, IsShort, base_of};
 ghost use Rattle.timemap_writer.specs.Service.{IsBase};
 ghost use Rattle.timemap_writer.specs.TimeMap.{timemap_text};
-ghost use Rattle.timemap_writer.specs.Pages.{numbers, stretch, index_text, page_text};
+ghost use Rattle.timemap_writer.specs.Pages.{numbers, stretch, index_links, index_text, page_text};
 ghost use Rattle.replica_world.specs.ReadBack.{AreOnWeb, page_of, index_of};
 
 /// A TimeMap can be read as a page of exactly its mementos, whatever http or https URL it was fetched from, if it has
@@ -23,12 +25,19 @@ pub fn timemaps_are_pages()
         → IsAnswer address (timemap_text base original mementos) (Ok (page_of mementos)) }
 {}
 
-/// The index of a TimeMap and each of its pages can also be read as pages of an archive. A page is always short enough.
-/// The index, for an original as `read_original` writes it, has no mementos, and its further TimeMaps are exactly the
-/// pages, in order, with nothing left out. Page K has the mementos of its stretch of the list. The stretches, in order,
-/// are the list: whoever reads the index and then the pages that it names has exactly the list's mementos.
+/// The index of a TimeMap and each of its pages can also be read as pages of an archive. The index, for a base as
+/// `Service::new` keeps it and an original as `read_original` writes it, has one reading, wherever it stands: no
+/// mementos, and its further TimeMaps are exactly the pages, in order, with nothing left out. `read_page` gives it so
+/// where it has at most 8,388,608 bytes. A page is always short enough, and page K has the mementos of its stretch of
+/// the list. The stretches, in order, are the list: whoever reads the index and then the pages that it names has
+/// exactly the list's mementos.
 pub fn paged_timemaps_are_pages()
-    ensures index { (base original address : List ℕ) (url : Parts) (mementos : List Memento)
+    ensures index { (base original : List ℕ) (mementos : List Memento)
+        → IsBase base → IsFollowed base → IsOriginal original → IsFollowed original
+        → All IsMemento mementos → length mementos < 2 ^ 64
+        → Reading (index_text base original mementos) (index_links base original mementos)
+        × ((url : Parts) → IsPageOf url (index_links base original mementos) (index_of base original mementos)) }
+    ensures answer { (base original address : List ℕ) (url : Parts) (mementos : List Memento)
         → IsBase base → IsFollowed base → IsOriginal original → IsFollowed original
         → All IsMemento mementos → length mementos < 2 ^ 64
         → base_of address ≡ Some url → IsShort (index_text base original mementos)

@@ -1,6 +1,8 @@
 //! Calls of mergers and gates, of what stands between them and HTTP, and of settings.
 use anyhow::Result;
-use hyper_edge::{Answers, GateService, allowed_addresses, form, read_host, request_of};
+use hyper_edge::{
+    Agent, Answers, GateService, Readiness, allowed_addresses, form, read_host, request_of,
+};
 use memento_time::{Items, Octets};
 use published_index::{Gate, GateFault, Merger, ask_both, open};
 use refused_calls::{Tried, insist};
@@ -29,16 +31,22 @@ enum OnEdge {
     AllowedAddresses,
     RequestOf,
     Form,
+    AgentNew,
+    ReadinessNew,
+    ReadinessShare,
 }
 
-const ON_EDGE: [OnEdge; 4] = [
+const ON_EDGE: [OnEdge; 7] = [
     OnEdge::ReadHost,
     OnEdge::AllowedAddresses,
     OnEdge::RequestOf,
     OnEdge::Form,
+    OnEdge::AgentNew,
+    OnEdge::ReadinessNew,
+    OnEdge::ReadinessShare,
 ];
 
-fn octets(alloc: Global, text: &[u8]) -> Option<Octets> {
+pub(crate) fn octets(alloc: Global, text: &[u8]) -> Option<Octets> {
     Some(Octets::of(Vec::from_slice(alloc, text).ok()?))
 }
 
@@ -47,7 +55,7 @@ fn service(alloc: Global) -> Option<Service> {
 }
 
 /// GET of this target, without a datetime.
-fn get(alloc: Global, target: &[u8]) -> Option<Request> {
+pub(crate) fn get(alloc: Global, target: &[u8]) -> Option<Request> {
     Some(Request {
         method: octets(alloc, b"GET")?,
         target: octets(alloc, target)?,
@@ -72,6 +80,9 @@ fn try_on_edge(alloc: Global, call: OnEdge) -> Option<Tried> {
         }
         OnEdge::RequestOf => request_of(alloc, &http::Request::new(alloc, ())).is_ok(),
         OnEdge::Form => form(alloc, &reply(alloc)?).is_ok(),
+        OnEdge::AgentNew => Agent::new(alloc, "Maplewrench").is_ok(),
+        OnEdge::ReadinessNew => Readiness::new(alloc).is_ok(),
+        OnEdge::ReadinessShare => Readiness::new(alloc).ok()?.share().is_ok(),
     };
     Some(Tried::of(is_answered))
 }

@@ -1,14 +1,15 @@
 //! Walks over archives in memory: which pages are fetched and in which order, which are lost, and where a walk ends.
 use anyhow::{Result, bail};
 use harvester::{
-    Answer, FetchFault, Job, MAX_PAGES, MAX_WORKERS, MemoryFetch, Outcome, WalkFault,
-    have_first_urls, run_round, walk,
+    Answer, Fetch, FetchFault, Job, MAX_PAGES, MAX_WORKERS, MemoryFetch, Outcome, WalkFault,
+    asked_patience, harvest_job, have_first_urls, run_round, walk,
 };
-use memento_time::Items;
+use memento_time::{Clean, Items};
 use std::alloc::{AllocGlobal, Global};
 use std::net::{Net, TcpListener, TcpStream};
 use std::random::RandomSource;
 use std::sync::Wait;
+use std::sync::atomic::{AtomicU64, Ordering};
 use std::thread::Threads;
 use std::time::Clock;
 use text_trials::makers::{archive, clean, octets, original};
@@ -24,6 +25,7 @@ fn answer(alloc: Global, status: u16, coding: &str, body: &str) -> Result<Answer
     Ok(Answer {
         status,
         encoding: Items::of(encoding),
+        retry_after: Items::of(Vec::new(alloc)),
         body: octets(alloc, body.as_bytes())?,
     })
 }
@@ -491,6 +493,132 @@ fn rounds(rt: HostRuntime) -> Result<()> {
     for workers in [1, 2, 3, 64] {
         let outcomes = round(&rt, &table, &jobs, workers)?;
         assert!(rt; are_of_three_jobs(&outcomes) && are_numbered(&outcomes));
+    }
+    Ok(())
+}
+
+/// How many mementos a walk without a record harvests, whether they are a part, and what was asked for.
+fn walk_unkept<
+    R: Wait + Clock + Net<Listener = TcpListener, Stream = TcpStream> + RandomSource + AllocGlobal,
+>(rt: &R, table: &MemoryFetch) -> Result<(Option<(usize, bool)>, Option<u64>)> {
+    let job = job(rt.alloc(), "http://arc.example/i")?;
+    if !job.has_first_url() {
+        bail!("no first URL");
+    }
+    let walked = harvest_job(rt, table, &job, 784_111_777);
+    let harvested = match &walked.result {
+        Ok(harvest) => Some((harvest.mementos().len(), harvest.is_part())),
+        Err(_) => None,
+    };
+    Ok((harvested, walked.asked))
+}
+
+#[test]
+fn walks_without_a_record(rt: HostRuntime) -> Result<()> {
+    let whole = three_pages(rt.alloc(), 200, "", 200)?;
+    assert_eq!(rt; walk_unkept(&rt, &whole)?, (Some((2, false)), None));
+    let part = three_pages(rt.alloc(), 200, "", 500)?;
+    assert_eq!(rt; walk_unkept(&rt, &part)?, (Some((1, true)), None));
+    let none = three_pages(rt.alloc(), 500, "", 200)?;
+    assert_eq!(rt; walk_unkept(&rt, &none)?, (None, None));
+    Ok(())
+}
+
+/// An answer with this status and this value of `Retry-After`.
+fn asking(alloc: Global, status: u16, value: &str) -> Result<Answer> {
+    let mut asking = answer(alloc, status, "", "")?;
+    let mut values = Vec::new(alloc);
+    values.push(octets(alloc, value.as_bytes())?)?;
+    asking.retry_after = Items::of(values);
+    Ok(asking)
+}
+
+#[test]
+fn patience_that_is_asked_for(rt: HostRuntime) -> Result<()> {
+    let alloc = rt.alloc();
+    let cases = [
+        (200, "7", None),
+        (429, "7", Some(7)),
+        (503, "soon", Some(60)),
+        (503, "-5", Some(60)),
+        (503, "86400", Some(3_600)),
+        (503, "999999999999999999999999999999", Some(3_600)),
+        (429, "Sun, 06 Nov 1994 08:50:07 GMT", Some(30)),
+        (429, "Sun, 06 Nov 1994 08:49:07 GMT", Some(0)),
+        (429, "Fri, 31 Dec 9999 23:59:59 GMT", Some(3_600)),
+    ];
+    for (status, value, seconds) in cases {
+        let asked = asked_patience(&asking(alloc, status, value)?, 784_111_777);
+        assert_eq!(rt; asked, seconds, "{value}");
+    }
+    assert_eq!(rt;
+        asked_patience(&answer(alloc, 503, "", "")?, 784_111_777),
+        Some(60)
+    );
+    Ok(())
+}
+
+#[test]
+fn the_longest_patience_counts(rt: HostRuntime) -> Result<()> {
+    let alloc = rt.alloc();
+    let mut table = MemoryFetch::new(alloc);
+    add(&mut table, alloc, "http://arc.example/i", 200, "", ALL)?;
+    table.add(
+        clean(alloc, b"http://arc.example/p1")?,
+        asking(alloc, 503, "120")?,
+    )?;
+    table.add(
+        clean(alloc, b"http://arc.example/p2")?,
+        asking(alloc, 429, "7")?,
+    )?;
+    assert_eq!(rt; walk_unkept(&rt, &table)?, (Some((0, true)), Some(120)));
+    Ok(())
+}
+
+/// Answers from a table, and counts how often it is asked.
+#[derive(Drop)]
+struct CountedFetch {
+    table: MemoryFetch,
+    asked: AtomicU64,
+}
+
+impl Fetch for CountedFetch {
+    ghost use Rattle.std.specs.Prelude.{⊤};
+
+    ghost answers = { λ _ _ _. ⊤ };
+
+    ghost faults = { λ _ _ _. ⊤ };
+
+    fn fetch<R>(&self, rt: &R, url: &Clean) -> Result<Answer, FetchFault>
+    where
+        R: Wait
+            + Clock
+            + Net<Listener = TcpListener, Stream = TcpStream>
+            + RandomSource
+            + AllocGlobal,
+    {
+        self.asked.fetch_add(1, Ordering::SeqCst);
+        self.table.fetch(rt, url)
+    }
+}
+
+#[test]
+fn each_page_is_asked_for_once(rt: HostRuntime) -> Result<()> {
+    let job = job(rt.alloc(), "http://arc.example/i")?;
+    if !job.has_first_url() {
+        bail!("no first URL");
+    }
+    for table in [
+        three_pages(rt.alloc(), 200, "", 404)?,
+        silent_page(rt.alloc())?,
+    ] {
+        let fetch = CountedFetch {
+            table,
+            asked: AtomicU64::new(0),
+        };
+        let outcome = walk(&rt, &fetch, &job);
+        assert!(rt; outcome.result.is_ok());
+        assert_eq!(rt; fetch.asked.load(Ordering::SeqCst), 3);
     }
     Ok(())
 }

@@ -38,6 +38,7 @@ fn add(table: &mut MemoryFetch, alloc: Global, replica: &Stamped, target: &str) 
     let answer = Answer {
         status: reply.status,
         encoding: Items::of(Vec::new(alloc)),
+        retry_after: Items::of(Vec::new(alloc)),
         body: reply.body,
     };
     table.add(clean(alloc, url.as_bytes())?, answer)?;

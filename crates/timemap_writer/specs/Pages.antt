@@ -1,13 +1,13 @@
 -- The pages of a long TimeMap (RFC 7089, section 5.1.2): 1,000 mementos on each, in order, and the index that names
 -- them.
 use Rattle.std.specs.Prelude.{ℕ, ◌+◌, ◌-◌, ◌*◌, ◌/◌, ◌≤◌, Bool, true, false, ◌&&◌, not, ◌==◌, List, [], ◌∷◌, ◌++◌, length, take, drop, map}
-use Rattle.std.specs.Prelude.{codes, nat_lt, if◌then◌else◌}
-use Rattle.std.specs.List.{range_with_len}
+use Rattle.std.specs.Prelude.{codes, nat_lt, if◌then◌else◌, bytes_eq}
+use Rattle.std.specs.List.{range_with_len, list_any, filter}
 use Rattle.std.specs.Fmt.{decimal}
 use Rattle.link_format.specs.Grammar.{Link}
 use Rattle.memento_time.specs.declared.mementos.Memento.{Memento}
 use Rattle.timemap_writer.specs.TimeMap.{head_links, timemap_address, timemap_link, memento_link, memento_links, lines_text}
-use Rattle.timemap_writer.specs.TimeMap.{timemap_text}
+use Rattle.timemap_writer.specs.TimeMap.{timemap_text, rel}
 
 -- how many pages a list has: the last is perhaps shorter
 abbrev pub pages : {A : Type 0} → List A → ℕ
@@ -69,3 +69,15 @@ abbrev pub stretch_links : Bool → Bool → List Memento → List Link
 stretch_links first more [] = []
 stretch_links first more (m ∷ ms) =
     memento_link first (not more && (length ms == 0)) m ∷ stretch_links false more ms
+
+-- the link has a datetime, as a link to a memento has and no other (RFC 7089, section 2.2.4)
+abbrev pub has_datetime : Link → Bool
+has_datetime link = list_any (λ param. bytes_eq param.name (codes "datetime")) link.params
+
+-- those of a text's links that lead to mementos, in order
+abbrev pub memento_lines : List Link → List Link
+memento_lines links = filter has_datetime links
+
+-- the link to a text, as the text itself has it: the relation, which stands first, is `self`
+abbrev pub of_itself : Link → Link
+of_itself link = record { target = link.target; params = rel (codes "self") ∷ drop 1 link.params }

@@ -25,6 +25,28 @@ pub enum Key {
     /// Optional.
     Hosts,
     Log,
+    /// Optional.
+    AtOnce,
+    /// Optional.
+    Tolerance,
+    /// Optional.
+    Dormant,
+    /// Optional.
+    Walk,
+    /// Optional.
+    Rate,
+    /// Optional.
+    Again,
+    /// Optional.
+    AgainNone,
+    /// Optional.
+    Publish,
+    /// Optional.
+    Pull,
+    /// Optional.
+    Agent,
+    /// Optional.
+    Ready,
 }
 
 impl Key {
@@ -45,11 +67,22 @@ impl Key {
             Key::Patience => "patience",
             Key::Hosts => "hosts",
             Key::Log => "log",
+            Key::AtOnce => "at_once",
+            Key::Tolerance => "tolerance",
+            Key::Dormant => "dormant",
+            Key::Walk => "walk",
+            Key::Rate => "rate",
+            Key::Again => "again",
+            Key::AgainNone => "again_none",
+            Key::Publish => "publish",
+            Key::Pull => "pull",
+            Key::Agent => "agent",
+            Key::Ready => "ready",
         }
     }
 
-    /// The least and the greatest number at the key; for a list, the least and the greatest number of its elements. The
-    /// base is one text. The log is wanted (1) or not.
+    /// The least and the greatest number at the key; for a list, the least and the greatest number of its elements; for
+    /// the agent, of its bytes. The base is one text. The log and waiting until a gate is ready are wanted (1) or not.
     pub fn limits(self) -> (u64, u64)
         ensures { result ≡ limits self }
     {
@@ -64,7 +97,13 @@ impl Key {
             Key::Archives => (0, 1_000),
             Key::Patience => (1, 86_400),
             Key::Hosts => (0, 1_000),
-            Key::Log => (0, 1),
+            Key::Log | Key::Ready => (0, 1),
+            Key::AtOnce => (1, MAX_WORKERS as u64),
+            Key::Tolerance => (1, 1_000_000_000),
+            Key::Dormant | Key::Walk | Key::Publish | Key::Pull => (1, 86_400),
+            Key::Rate => (1, 1_000_000),
+            Key::Again | Key::AgainNone => (1, 2_592_000),
+            Key::Agent => (1, 256),
         }
     }
 }

@@ -9,7 +9,7 @@ use crate::replaying::watched::Watched;
 use std::alloc::Global;
 use std::io::{Read, Write};
 
-/// A reader counts as failed if it isn't at its end after this many pieces, so that a replay ends.
+/// A reader counts as failed if it gave this many pieces and its end had not been seen, so that a replay ends.
 const MOST_PIECES: u64 = 1_000_000_000;
 
 /// Reads everything that a reader gives.

@@ -13,7 +13,7 @@ use std::fmt;
 pub enum ReplayFault {
     /// The line with this number, counted from 1, isn't a command, or what must follow it is missing.
     BadLine { number: u64 },
-    /// The reader failed, or gave bytes in 1,000,000,000 pieces and wasn't at its end.
+    /// The reader failed, or gave bytes in 1,000,000,000 pieces and its end had not been seen.
     Read,
     /// The writer failed, or took no byte.
     Write,

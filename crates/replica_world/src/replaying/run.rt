@@ -137,8 +137,8 @@ fn replay_script<W: Write>(
 ///
 /// - `BadLine`: the line with this number is none of these, or its block or lines are cut short. The commands before it
 ///   were performed.
-/// - `Read`, `Write`: a device failed in this call; a write that takes no byte is a failure. `Read` also if the reader
-///   wasn't at its end after 1,000,000,000 reads that gave bytes; no script of fewer bytes needs that many.
+/// - `Read`, `Write`: a device failed in this call; a write that takes no byte is a failure. `Read` also if
+///   1,000,000,000 reads gave bytes and the reader's end had not been seen; no script of fewer bytes needs that many.
 /// - `NoMemory`: the allocator refused a growth.
 ///
 /// If the reader and the writer say which bytes they read and write, then what is written is the one output of the

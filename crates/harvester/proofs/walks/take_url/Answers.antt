@@ -1,48 +1,59 @@
-use Rattle.std.proofs.Common.{Ok, Err}
+use Rattle.std.proofs.Common.{◌+◌, Ok, Err}
 use Rattle.harvester.proofs.Ends.{distinct_known, on_any_ok, page_stands, page_err, loss_stands, loss_err, given_after}
+use Rattle.harvester.proofs.Standing.{ends_with, goes_with}
 use Rattle.harvester.proofs.walks.take_url.Goals as goal
 
 pub add_page-requires-clause-distinct : goal.add_page-requires-clause-distinct
-add_page-requires-clause-distinct g c = distinct_known _ _ _ _ _ _ _ c.requires.stands
+add_page-requires-clause-distinct g c = distinct_known _ _ _ _ _ _ _ c.requires.goes.stands
 
-pub returns-in-Ok-clause-stands : goal.returns-in-Ok-clause-stands
-returns-in-Ok-clause-stands g c =
+pub returns-in-Ok-clause-goes : goal.returns-in-Ok-clause-goes
+returns-in-Ok-clause-goes g c =
     let e = c.add_page.ensures in
-    page_stands (g.F.Fetch.answers c.args.fetcher.now) (g.F.Fetch.faults c.args.fetcher.now) c.args.job.now c.args.tried.now.fetched.items c.args.tried.now.lost.items
-    c.args.known.now.items c.args.next c.args.mementos.now.items c.requires.stands c.requires.given c.requires.within c.index-url.result.now c.index-url.ensures c.fetch_page.new.fetched.items
-    c.in-Ok.page c.in-Ok.ensures c.add_page.new.known.items c.add_page.new.mementos.items c.add_page.result e.known e.few_urls e.united e.few_mementos
-
-pub returns-in-Ok-clause-given : goal.returns-in-Ok-clause-given
-returns-in-Ok-clause-given g c =
-    on_any_ok c.add_page.result
-    (given_after (g.F.Fetch.answers c.args.fetcher.now) (g.F.Fetch.faults c.args.fetcher.now) c.args.job.now c.args.tried.now.fetched.items c.args.tried.now.lost.items
-    c.args.known.now.items c.args.next c.args.mementos.now.items c.requires.stands c.requires.given c.requires.within c.index-url.result.now c.index-url.ensures c.fetch_page.new.fetched.items
-    (Ok c.in-Ok.page) c.in-Ok.ensures)
+    let was = c.requires.goes in
+    let into = c.in-Ok.ensures.fetches was.entries was.kept in
+    goes_with (g.F.Fetch.answers c.args.fetcher.now) (g.F.Fetch.faults c.args.fetcher.now) (g.K.Record.stands_for c.fetch_page.new.kept) c.args.job.now into.new into.kept
+    c.args.tried.now.lost.items c.add_page.new.known.items (c.args.next + 1) c.add_page.new.mementos.items c.add_page.result
+    (page_stands (g.F.Fetch.answers c.args.fetcher.now) (g.F.Fetch.faults c.args.fetcher.now) c.args.job.now was.entries c.args.tried.now.lost.items
+    c.args.known.now.items c.args.next c.args.mementos.now.items was.stands was.given c.requires.within c.index-url.result.now c.index-url.ensures into.new
+    c.in-Ok.page into.fetches c.add_page.new.known.items c.add_page.new.mementos.items c.add_page.result e.known e.few_urls e.united e.few_mementos)
+    (on_any_ok c.add_page.result
+    (given_after (g.F.Fetch.answers c.args.fetcher.now) (g.F.Fetch.faults c.args.fetcher.now) c.args.job.now was.entries c.args.tried.now.lost.items
+    c.args.known.now.items c.args.next c.args.mementos.now.items was.stands was.given c.requires.within c.index-url.result.now c.index-url.ensures into.new
+    (Ok c.in-Ok.page) into.fetches))
 
 pub returns-in-Ok-clause-err : goal.returns-in-Ok-clause-err
 returns-in-Ok-clause-err g c =
     let e = c.add_page.ensures in
-    page_err (g.F.Fetch.answers c.args.fetcher.now) (g.F.Fetch.faults c.args.fetcher.now) c.args.job.now c.args.tried.now.fetched.items c.args.tried.now.lost.items
-    c.args.known.now.items c.args.next c.args.mementos.now.items c.requires.stands c.requires.given c.requires.within c.index-url.result.now c.index-url.ensures c.fetch_page.new.fetched.items
-    c.in-Ok.page c.in-Ok.ensures c.add_page.result e.many_urls e.many_mementos e.err
+    let was = c.requires.goes in
+    let into = c.in-Ok.ensures.fetches was.entries was.kept in
+    ends_with (g.F.Fetch.answers c.args.fetcher.now) (g.F.Fetch.faults c.args.fetcher.now) (g.K.Record.stands_for c.fetch_page.new.kept) c.args.job.now into.new into.kept
+    c.args.tried.now.lost.items c.add_page.result
+    (page_err (g.F.Fetch.answers c.args.fetcher.now) (g.F.Fetch.faults c.args.fetcher.now) c.args.job.now was.entries c.args.tried.now.lost.items
+    c.args.known.now.items c.args.next c.args.mementos.now.items was.stands was.given c.requires.within c.index-url.result.now c.index-url.ensures into.new
+    c.in-Ok.page into.fetches c.add_page.result e.many_urls e.many_mementos e.err)
 
-pub returns-in-Err-clause-stands : goal.returns-in-Err-clause-stands
-returns-in-Err-clause-stands g c =
+pub returns-in-Err-clause-goes : goal.returns-in-Err-clause-goes
+returns-in-Err-clause-goes g c =
     let e = c.lose.ensures in
-    loss_stands (g.F.Fetch.answers c.args.fetcher.now) (g.F.Fetch.faults c.args.fetcher.now) c.args.job.now c.args.tried.now.fetched.items c.args.tried.now.lost.items
-    c.args.known.now.items c.args.next c.args.mementos.now.items c.requires.stands c.requires.given c.requires.within c.index-url.result.now c.index-url.ensures c.fetch_page.new.fetched.items
-    c.in-Err.fault c.in-Err.ensures c.lose.new.lost.items c.lose.result e.lost e.further e.goes_on
-
-pub returns-in-Err-clause-given : goal.returns-in-Err-clause-given
-returns-in-Err-clause-given g c =
-    on_any_ok c.lose.result
-    (given_after (g.F.Fetch.answers c.args.fetcher.now) (g.F.Fetch.faults c.args.fetcher.now) c.args.job.now c.args.tried.now.fetched.items c.args.tried.now.lost.items
-    c.args.known.now.items c.args.next c.args.mementos.now.items c.requires.stands c.requires.given c.requires.within c.index-url.result.now c.index-url.ensures c.fetch_page.new.fetched.items
-    (Err c.in-Err.fault) c.in-Err.ensures)
+    let was = c.requires.goes in
+    let into = c.in-Err.ensures.fetches was.entries was.kept in
+    goes_with (g.F.Fetch.answers c.args.fetcher.now) (g.F.Fetch.faults c.args.fetcher.now) (g.K.Record.stands_for c.fetch_page.new.kept) c.args.job.now into.new into.kept
+    c.lose.new.lost.items c.args.known.now.items (c.args.next + 1) c.args.mementos.now.items c.lose.result
+    (loss_stands (g.F.Fetch.answers c.args.fetcher.now) (g.F.Fetch.faults c.args.fetcher.now) c.args.job.now was.entries c.args.tried.now.lost.items
+    c.args.known.now.items c.args.next c.args.mementos.now.items was.stands was.given c.requires.within c.index-url.result.now c.index-url.ensures into.new
+    c.in-Err.fault into.fetches c.lose.new.lost.items c.lose.result e.lost e.further e.goes_on)
+    (on_any_ok c.lose.result
+    (given_after (g.F.Fetch.answers c.args.fetcher.now) (g.F.Fetch.faults c.args.fetcher.now) c.args.job.now was.entries c.args.tried.now.lost.items
+    c.args.known.now.items c.args.next c.args.mementos.now.items was.stands was.given c.requires.within c.index-url.result.now c.index-url.ensures into.new
+    (Err c.in-Err.fault) into.fetches))
 
 pub returns-in-Err-clause-err : goal.returns-in-Err-clause-err
 returns-in-Err-clause-err g c =
     let e = c.lose.ensures in
-    loss_err (g.F.Fetch.answers c.args.fetcher.now) (g.F.Fetch.faults c.args.fetcher.now) c.args.job.now c.args.tried.now.fetched.items c.args.tried.now.lost.items
-    c.args.known.now.items c.args.next c.args.mementos.now.items c.requires.stands c.requires.given c.requires.within c.index-url.result.now c.index-url.ensures c.fetch_page.new.fetched.items
-    c.in-Err.fault c.in-Err.ensures c.lose.new.lost.items c.lose.result e.same e.err
+    let was = c.requires.goes in
+    let into = c.in-Err.ensures.fetches was.entries was.kept in
+    ends_with (g.F.Fetch.answers c.args.fetcher.now) (g.F.Fetch.faults c.args.fetcher.now) (g.K.Record.stands_for c.fetch_page.new.kept) c.args.job.now into.new into.kept
+    c.lose.new.lost.items c.lose.result
+    (loss_err (g.F.Fetch.answers c.args.fetcher.now) (g.F.Fetch.faults c.args.fetcher.now) c.args.job.now was.entries c.args.tried.now.lost.items
+    c.args.known.now.items c.args.next c.args.mementos.now.items was.stands was.given c.requires.within c.index-url.result.now c.index-url.ensures into.new
+    c.in-Err.fault into.fetches c.lose.new.lost.items c.lose.result e.same e.err)

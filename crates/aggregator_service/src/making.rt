@@ -1,0 +1,580 @@
+//! The thread of the rounds at work: it hands out jobs, takes in what comes, pulls and publishes.
+ghost use Rattle.std.specs.Prelude.{◌≡◌, ◌*◌, ◌≤◌, IfSome, None};
+
+use crate::clocks::revision_now;
+use crate::dues::{Dues, Stopwatch};
+use crate::freshness::{has_mementos, is_fresh};
+use crate::lines::{Dormancy, Greeting, Line, Matter, PeerFault, Progress, name_text};
+use crate::logs::Log;
+use crate::means::Means;
+use crate::notes::Notes;
+use crate::pool::News;
+use crate::pulls::{PullAnswer, PullRequest, brings_nothing};
+use crate::rounds::Round;
+use crate::runtimes::SocketRuntime;
+use crate::settings::{Archive, Settings};
+use crate::terms::Terms;
+use harvest_lattice::Harvest;
+use harvest_schedule::{Limits, Mood, Pace, Schedule, Turn, Verdict};
+use harvest_workers::{Assignment, Opened, WalkReport, WalkRules, verdict_of};
+use harvester::WalkFault;
+use memento_time::Clean;
+use published_index::Merger;
+use std::alloc::{AllocError, AllocGlobal, Global};
+use std::io::Write;
+use std::thread;
+use std::time::Duration;
+
+/// How many milliseconds the thread of the rounds waits at most before it looks at what is due.
+const TICK: u64 = 250;
+
+/// How many jobs are passed over at most before it looks at what is due.
+const MOST_PASSED: usize = 4_096;
+
+/// What the thread of the rounds works with.
+#[derive(Drop)]
+pub(crate) struct Rounds<'a, R, P: WalkRules, L: Copy> {
+    pub(crate) rt: &'a R,
+    pub(crate) terms: &'a Terms<P>,
+    pub(crate) means: &'a Means<P>,
+    pub(crate) watch: Stopwatch,
+    pub(crate) log: Log<L>,
+}
+
+/// Where the rounds stand.
+#[derive(Drop)]
+pub(crate) struct Standing {
+    /// Lasts over rounds, so that what an archive answered in one counts in the next.
+    schedule: Schedule,
+    dues: Dues,
+    /// For each peer, whether it is being pulled.
+    pulled: Vec<bool>,
+    /// The number of the round, counted from 1.
+    number: u64,
+    round: Round,
+    notes: Notes,
+    /// The revision of a round's jobs, unless each has its own.
+    revision: u64,
+    /// How many jobs are out.
+    out: usize,
+    /// How many jobs of the round were passed over.
+    passed: u64,
+}
+
+/// What handing out jobs came to.
+#[derive(Clone, Copy, Debug, PartialEq, Eq)]
+enum Handed {
+    /// There may be more to hand out at once.
+    More,
+    /// All hands are busy, or no archive may be asked now.
+    Enough,
+}
+
+/// Whether the settings have a key by which more is told than the specified lines.
+pub(crate) fn tells_more(settings: &Settings) -> bool {
+    settings.asking.tolerance.is_some()
+        || settings.timing.again.is_some()
+        || settings.timing.publish.is_some()
+        || settings.timing.pull.is_some()
+}
+
+/// Whether an archive failed too often, and hasn't answered since.
+fn is_asleep(mood: Option<Mood>) -> bool {
+    matches!(mood, Some(Mood::Dormant { .. } | Mood::Probed))
+}
+
+/// How often an archive may be asked. An archive with a time between two requests is walked one at a time.
+fn pace_of(settings: &Settings, archive: &Archive) -> Pace
+    ensures every { IfSome archive.now.every (λ every. result ≡ record { at_once = 1; every = every }) }
+    ensures at_any_time { archive.now.every ≡ None → result.every ≡ 0 }
+    ensures own { archive.now.every ≡ None → IfSome archive.now.at_once (λ most. result.at_once ≡ most) }
+    ensures of_all { archive.now.every ≡ None → archive.now.at_once ≡ None
+        → result.at_once ≡ settings.now.asking.at_once }
+{
+    let at_once = archive.at_once.unwrap_or(settings.asking.at_once);
+    match archive.every {
+        Some(every) => Pace { at_once: 1, every },
+        None => Pace {
+            at_once: at_once as usize,
+            every: 0,
+        },
+    }
+}
+
+/// The schedule of these settings. Its times are milliseconds.
+fn schedule_of(alloc: Global, settings: &Settings) -> Result<Schedule, AllocError> {
+    let mut paces = Vec::with_capacity(alloc, settings.archives.len())?;
+    for archive in &settings.archives {
+        paces.push(pace_of(settings, archive))?;
+    }
+    let limits = Limits {
+        tolerance: settings.asking.tolerance,
+        pause: settings.asking.dormant.saturating_mul(1_000),
+    };
+    Schedule::new(alloc, limits, &paces, settings.originals.len())
+}
+
+/// How many jobs a round has.
+fn jobs_in(settings: &Settings) -> u64 {
+    let jobs = settings
+        .originals
+        .len()
+        .saturating_mul(settings.archives.len());
+    jobs as u64
+}
+
+/// Whether something was learnt in a round, or the settings name nobody to learn from.
+fn has_learnt(settings: &Settings, round: Round) -> bool {
+    round.harvests > 0 || round.pulls > 0 || jobs_in(settings) == 0 && settings.peers.is_empty()
+}
+
+/// How many milliseconds to wait between two rounds.
+fn pause_of(settings: &Settings) -> u64
+    ensures { result ≡ settings.now.pause * 1000 }
+{
+    settings.pause.saturating_mul(1_000)
+}
+
+/// For how many milliseconds to wait: until this time, and no longer than a tick.
+fn wait_until(time: Option<u64>, now: u64) -> u64
+    ensures { (1 ≤ result) × (result ≤ 250) }
+{
+    match time {
+        Some(time) => time.saturating_sub(now).max(1).min(TICK),
+        None => TICK,
+    }
+}
+
+impl Standing {
+    /// Before the first round, at this millisecond.
+    pub(crate) fn new(
+        alloc: Global,
+        settings: &Settings,
+        now: u64,
+    ) -> Result<Standing, AllocError> {
+        let mut pulled = Vec::with_capacity(alloc, settings.peers.len())?;
+        for _ in &settings.peers {
+            pulled.push(false)?;
+        }
+        Ok(Standing {
+            schedule: schedule_of(alloc, settings)?,
+            dues: Dues::new(settings, tells_more(settings), now),
+            pulled,
+            number: 1,
+            round: Round::NONE,
+            notes: Notes::new(alloc, settings),
+            revision: 0,
+            out: 0,
+            passed: 0,
+        })
+    }
+
+    /// Begins the round with this number. What was pulled since the last one counts in it.
+    fn begin(&mut self, alloc: Global, settings: &Settings, number: u64) {
+        let _ = self.schedule.begin(settings.originals.len());
+        self.number = number;
+        self.notes = Notes::new(alloc, settings);
+        self.passed = 0;
+    }
+
+    fn progress(&self, settings: &Settings) -> Progress {
+        Progress {
+            done: self.round.jobs.saturating_add(self.passed),
+            jobs: jobs_in(settings),
+            failed: self.notes.failed(),
+            passed: self.passed,
+        }
+    }
+}
+
+impl<R, P, L> Rounds<'_, R, P, L>
+where
+    R: SocketRuntime,
+    P: WalkRules,
+    L: Write + Copy,
+{
+    fn settings(&self) -> &Settings {
+        self.terms.settings()
+    }
+
+    fn alloc(&self) -> Global {
+        self.rt.alloc()
+    }
+
+    /// The millisecond since the rounds began.
+    fn now(&self) -> u64 {
+        self.watch.now(self.rt)
+    }
+
+    /// Pulls each peer before the first round, and publishes what each gives as it comes. Waits for one patience at
+    /// most; what comes later is taken in later.
+    pub(crate) fn greet(&self, standing: &mut Standing, merger: &mut Merger) {
+        let settings = self.settings();
+        if settings.timing.pull.is_none() || !self.means.pullers.are_some() {
+            return;
+        }
+        let end = self
+            .now()
+            .saturating_add(settings.patience.saturating_mul(1_000));
+        self.ask_peers(standing, merger);
+        for _ in 0..settings.peers.len() {
+            let left = end.saturating_sub(self.now());
+            let Some(answer) = self.means.pullers.wait(self.rt, left) else {
+                break;
+            };
+            self.take_pull(standing, merger, answer);
+            if standing.round.pending {
+                self.publish(standing, merger);
+            }
+        }
+        let greeting = Greeting {
+            gave: standing.round.pulls,
+            peers: settings.peers.len() as u64,
+        };
+        self.log.tell(self.alloc(), Line::Start(greeting));
+    }
+
+    /// Makes the round with this number, and tells the log what went wrong. What is refused for lack of memory isn't
+    /// appended and isn't counted.
+    pub(crate) fn make(&self, standing: &mut Standing, merger: &mut Merger, number: u64) -> Round {
+        let settings = self.settings();
+        standing.begin(self.alloc(), settings, number);
+        standing.revision = revision_now(self.rt);
+        self.harvest(standing, merger);
+        let tells = tells_more(settings);
+        standing
+            .notes
+            .tell(self.alloc(), number, settings, tells, self.log);
+        if settings.timing.pull.is_none() || !self.means.pullers.are_some() {
+            standing
+                .round
+                .pull_all(self.rt, number, settings, merger, self.log);
+        }
+        self.publish(standing, merger);
+        let round = standing.round;
+        standing.round = Round::NONE;
+        round
+    }
+
+    /// Walks each archive for each original, as far as the schedule allows, and takes in what comes.
+    fn harvest(&self, standing: &mut Standing, merger: &mut Merger) {
+        standing.dues.progress.done(self.now());
+        for _ in self.rt.forever() {
+            let handed = self.hand_out(standing, merger);
+            if standing.out == 0 && standing.schedule.is_over(self.now()) {
+                break;
+            }
+            if handed == Handed::Enough && !self.take_news(standing, merger) {
+                break;
+            }
+            self.tend(standing, merger);
+        }
+        self.tell_left(standing);
+    }
+
+    /// Waits a while for what comes, and takes it in. Returns whether there is a worker left.
+    fn take_news(&self, standing: &mut Standing, merger: &mut Merger) -> bool {
+        let now = self.now();
+        let wait = wait_until(standing.schedule.next_time(now), now);
+        match self.means.pool.news(self.rt, wait) {
+            News::Report(report) => {
+                standing.out = standing.out.saturating_sub(1);
+                self.take_report(standing, merger, report);
+                true
+            }
+            News::Nothing => true,
+            News::Gone => false,
+        }
+    }
+
+    /// Hands out as many jobs as there are hands. Jobs that needn't be walked are passed over.
+    fn hand_out(&self, standing: &mut Standing, merger: &mut Merger) -> Handed {
+        for _ in 0..MOST_PASSED {
+            if standing.out >= self.means.pool.hands() {
+                return Handed::Enough;
+            }
+            let now = self.now();
+            let Some(turn) = standing.schedule.offer(now) else {
+                return Handed::Enough;
+            };
+            if self.is_known(merger, turn) && standing.schedule.pass_over(turn) {
+                standing.passed = standing.passed.saturating_add(1);
+            } else if standing.schedule.hand_out(turn, now) {
+                self.hand(standing, merger, turn);
+                if standing.out == 0 {
+                    // It was walked in this thread.
+                    return Handed::More;
+                }
+            }
+        }
+        Handed::More
+    }
+
+    /// Whether what is known of the job of a turn is young enough.
+    fn is_known(&self, merger: &Merger, turn: Turn) -> bool {
+        let settings = self.settings();
+        if settings.timing.again_none.is_none() {
+            return false;
+        }
+        let (Some(archive), Some(original)) = (
+            settings.archives.get(turn.archive),
+            settings.originals.get(turn.original),
+        ) else {
+            return false;
+        };
+        match merger.published_entry(archive.name, original) {
+            Some(entry) => is_fresh(settings.timing, entry, revision_now(self.rt)),
+            None => false,
+        }
+    }
+
+    /// The revision of a job that is handed out now: where what is known isn't asked for again, that of this second,
+    /// so that of two replicas the one that looked later wins.
+    fn revision(&self, standing: &Standing) -> u64 {
+        if self.settings().timing.again.is_some() {
+            revision_now(self.rt)
+        } else {
+            standing.revision
+        }
+    }
+
+    /// Gives the job of this turn to a worker. Without a worker it is walked at once.
+    fn hand(&self, standing: &mut Standing, merger: &mut Merger, turn: Turn) {
+        let revision = self.revision(standing);
+        let Some(assignment) = self.terms.assignment(self.alloc(), turn, revision) else {
+            // Memory was refused, or the URL is too long.
+            let _ = standing.schedule.done(turn, Verdict::Unknown, self.now());
+            standing.round.add_job();
+            standing.notes.add_unwalked();
+            return;
+        };
+        match self.means.pool.give(self.rt, assignment) {
+            Ok(()) => standing.out = standing.out.saturating_add(1),
+            Err(assignment) => self.walk_here(standing, merger, assignment),
+        }
+    }
+
+    /// Walks a job in this thread.
+    fn walk_here(&self, standing: &mut Standing, merger: &mut Merger, assignment: Assignment<P>) {
+        let report = self.terms.walk(self.rt, assignment);
+        self.take_report(standing, merger, report);
+    }
+
+    /// Takes in what came of a job.
+    fn take_report(&self, standing: &mut Standing, merger: &mut Merger, report: WalkReport<P>) {
+        let Opened {
+            turn,
+            job,
+            begun: _,
+            result: walked,
+            asked,
+        } = report.open();
+        // An archive is left alone only where it may be dormant, too.
+        let asked = match self.settings().asking.tolerance {
+            Some(_) => asked,
+            None => None,
+        };
+        let was_asleep = is_asleep(standing.schedule.mood(turn.archive));
+        let now = self.now();
+        let _ = standing
+            .schedule
+            .done(turn, verdict_of(&walked, asked, now), now);
+        if asked.is_none() {
+            standing.round.add_job();
+        }
+        standing.notes.add(turn.archive, &job.first, &walked);
+        self.tell_mood(standing, turn.archive, was_asleep);
+        self.take_walked(standing, merger, turn, walked);
+    }
+
+    /// Appends the harvest of a walk, if it gave one.
+    fn take_walked(
+        &self,
+        standing: &mut Standing,
+        merger: &mut Merger,
+        turn: Turn,
+        walked: Result<Harvest, WalkFault>,
+    ) {
+        let Ok(harvest) = walked else {
+            return;
+        };
+        if is_emptied(merger, &harvest) {
+            standing.notes.add_emptied(turn.archive);
+        }
+        if !standing.round.take_harvest(merger, harvest) {
+            standing.notes.add_unkept();
+        }
+    }
+
+    /// Tells the log, once each in a round, that an archive is dormant, and that it answers again.
+    fn tell_mood(&self, standing: &mut Standing, place: usize, was_asleep: bool) {
+        let settings = self.settings();
+        let (Some(failures), Some(archive)) = (
+            settings.asking.tolerance,
+            settings.archives.get(place),
+        ) else {
+            return;
+        };
+        let sleeps = is_asleep(standing.schedule.mood(place));
+        if sleeps == was_asleep || !standing.notes.tells_mood(place, sleeps) {
+            return;
+        }
+        let left = standing.schedule.left(place) as u64;
+        let matter = if sleeps {
+            Matter::Dormant(Dormancy {
+                failures,
+                seconds: settings.asking.dormant,
+                left,
+            })
+        } else {
+            Matter::Awake(left)
+        };
+        self.tell_archive(standing.number, archive, matter);
+    }
+
+    fn tell_archive(&self, round: u64, archive: &Archive, matter: Matter<'_>) {
+        let line = Line::Archive {
+            round,
+            name: name_text(&archive.name),
+            matter,
+        };
+        self.log.tell(self.alloc(), line);
+    }
+
+    /// Tells the log of jobs that weren't handed out, since their archive was dormant.
+    fn tell_left(&self, standing: &Standing) {
+        for (place, archive) in (0..).zip(&self.settings().archives) {
+            let left = standing.schedule.left(place);
+            if left > 0 {
+                self.tell_archive(standing.number, archive, Matter::Left(left as u64));
+            }
+        }
+    }
+
+    /// Does what is due: takes in what peers gave, pulls, publishes, and tells the log how far the round is.
+    fn tend(&self, standing: &mut Standing, merger: &mut Merger) {
+        self.tend_peers(standing, merger);
+        let now = self.now();
+        if standing.dues.progress.is_due(now) {
+            standing.dues.progress.done(now);
+            let line = Line::Progress {
+                round: standing.number,
+                progress: standing.progress(self.settings()),
+            };
+            self.log.tell(self.alloc(), line);
+        }
+    }
+
+    /// Takes in what peers gave, pulls and publishes, where that is due.
+    fn tend_peers(&self, standing: &mut Standing, merger: &mut Merger) {
+        for _ in 0..self.settings().peers.len() {
+            let Some(answer) = self.means.pullers.answered(self.rt) else {
+                break;
+            };
+            self.take_pull(standing, merger, answer);
+        }
+        let now = self.now();
+        if standing.dues.pull.is_due(now) {
+            standing.dues.pull.done(now);
+            self.ask_peers(standing, merger);
+        }
+        if standing.round.pending && standing.dues.publish.is_due(now) {
+            standing.dues.publish.done(now);
+            self.publish(standing, merger);
+        }
+    }
+
+    /// Publishes what is pending. The gates are ready once something is shown, or nobody can be learnt from.
+    fn publish(&self, standing: &mut Standing, merger: &mut Merger) {
+        standing
+            .round
+            .publish(self.rt, standing.number, merger, self.log);
+        if standing.round.published && has_learnt(self.settings(), standing.round) {
+            self.means.readiness.set();
+        }
+    }
+
+    /// Has each peer pulled that isn't being pulled.
+    fn ask_peers(&self, standing: &mut Standing, merger: &Merger) {
+        if !self.means.pullers.are_some() {
+            return;
+        }
+        for ((peer, base), is_pulled) in (1..)
+            .zip(&self.settings().peers)
+            .zip(&mut standing.pulled)
+        {
+            if !*is_pulled {
+                *is_pulled = self.ask_peer(merger, peer, base);
+            }
+        }
+    }
+
+    /// Has a peer pulled. Returns whether it will be.
+    fn ask_peer(&self, merger: &Merger, peer: u64, base: &Clean) -> bool {
+        let Ok(base) = base.try_clone() else {
+            return false;
+        };
+        let request = PullRequest {
+            peer,
+            base,
+            cursor: merger.cursor(peer),
+        };
+        self.means.pullers.ask(self.rt, request)
+    }
+
+    /// Takes in what a peer gave, and tells the log, once in a round, if it gave nothing. A delta that brings nothing
+    /// isn't appended.
+    fn take_pull(&self, standing: &mut Standing, merger: &mut Merger, answer: PullAnswer) {
+        let PullAnswer {
+            peer,
+            base,
+            cursor,
+            answer,
+        } = answer;
+        for (number, is_pulled) in (1..).zip(&mut standing.pulled) {
+            if number == peer {
+                *is_pulled = false;
+            }
+        }
+        let taken = match answer {
+            Ok(delta) if brings_nothing(&delta, cursor) => Ok(()),
+            Ok(delta) => standing.round.take_delta(merger, peer, &delta),
+            Err(fault) => Err(PeerFault::Pull(fault)),
+        };
+        if let Err(fault) = taken {
+            if standing.notes.tells_peer(peer) {
+                let line = Line::Peer {
+                    round: standing.number,
+                    base: base.as_str(),
+                    fault,
+                };
+                self.log.tell(self.alloc(), line);
+            }
+        }
+    }
+
+    /// Waits as long as the settings say between two rounds. Where peers are pulled, that goes on meanwhile.
+    pub(crate) fn wait_between(&self, standing: &mut Standing, merger: &mut Merger) {
+        let pause = pause_of(self.settings());
+        if self.settings().timing.pull.is_none() {
+            let _ = thread::sleep(self.rt, Duration::from_millis(pause));
+            return;
+        }
+        for begun in (0..pause).step_by(TICK as usize) {
+            let left = pause.saturating_sub(begun).min(TICK);
+            let _ = thread::sleep(self.rt, Duration::from_millis(left));
+            self.tend_peers(standing, merger);
+        }
+    }
+}
+
+/// Whether a whole harvest has no memento where there were some.
+fn is_emptied(merger: &Merger, harvest: &Harvest) -> bool {
+    if harvest.is_part() || !harvest.mementos().is_empty() {
+        return false;
+    }
+    match merger.published_entry(harvest.archive(), harvest.original()) {
+        Some(entry) => has_mementos(entry),
+        None => false,
+    }
+}

@@ -1,0 +1,88 @@
+//! What the jobs of a service are, and how they are walked.
+ghost use Rattle.std.specs.Prelude.{◌≡◌};
+ghost use Rattle.std.specs.Arc.{arc_value};
+ghost use Rattle.aggregator_service.specs.Jobs.{Covers};
+
+use crate::clocks::revision_now;
+use crate::jobs::job_at;
+use crate::runtimes::SocketRuntime;
+use crate::settings::Settings;
+use harvest_schedule::Turn;
+use harvest_workers::{Assignment, RuledFetch, WalkReport, WalkRules, walk_assignment};
+use hyper_edge::{CarefulFetch, Limits, Patience};
+use std::alloc::{AllocError, Global};
+use std::marker::PhantomData;
+use std::sync::Arc;
+
+/// The settings, of which the rules allow all jobs and all that may be fetched. Each worker has a copy, which shares
+/// the settings.
+#[derive(Drop)]
+pub(crate) struct Terms<P: WalkRules> {
+    settings: Arc<Settings, Global>,
+    of: PhantomData<P>,
+
+    ghost covers: { ∥ Covers (arc_value settings) P.jobs P.answers P.faults ∥₁ },
+}
+
+impl<P: WalkRules> Terms<P> {
+    pub(crate) fn new(settings: Arc<Settings, Global>) -> Terms<P>
+        requires { Covers (arc_value settings) P.jobs P.answers P.faults }
+    {
+        Terms {
+            settings,
+            of: PhantomData,
+        }
+    }
+
+    pub(crate) fn try_clone(&self) -> Result<Terms<P>, AllocError> {
+        let settings = Arc::try_clone(&self.settings)?;
+        Ok(Terms {
+            settings,
+            of: PhantomData,
+        })
+    }
+
+    pub(crate) fn settings(&self) -> &Settings
+        ensures { result.now ≡ arc_value self.now.settings }
+    {
+        &*self.settings
+    }
+
+    /// The job of a turn, to be handed out. `None` if memory is refused, or if its URL is too long.
+    pub(crate) fn assignment(
+        &self,
+        alloc: Global,
+        turn: Turn,
+        revision: u64,
+    ) -> Option<Assignment<P>> {
+        let job = job_at(alloc, self.settings(), turn, revision)?;
+        if !job.has_first_url() {
+            return None;
+        }
+        Some(Assignment::new(turn, job))
+    }
+
+    /// Walks a job that was handed out.
+    pub(crate) fn walk<R>(&self, rt: &R, assignment: Assignment<P>) -> WalkReport<P>
+    where
+        R: SocketRuntime,
+    {
+        let settings = self.settings();
+        let every = match settings.archives.get(assignment.turn().archive) {
+            Some(archive) => archive.every,
+            None => None,
+        };
+        let fetch = CarefulFetch {
+            patience: Patience::of_seconds(settings.patience),
+            hosts: settings.hosts.as_deref(),
+            limits: Limits {
+                walk: settings.asking.walk,
+                rate: settings.asking.rate,
+                every,
+            },
+            agent: settings.agent.as_ref(),
+        };
+        let fetch: RuledFetch<CarefulFetch<'_>, P> = RuledFetch::new(fetch);
+        walk_assignment(rt, &fetch, assignment, revision_now(rt))
+    }
+}

@@ -1,0 +1,181 @@
+//! Gates that also answer in other forms than link-format.
+ghost use Rattle.std.specs.Prelude.{◌≡◌, IfOk, option_map, Err};
+ghost use Rattle.timegate.specs.declared.reply.Reply.{Reply as Answered};
+ghost use Rattle.timegate.specs.Route.{is_head};
+ghost use Rattle.timemap_formats.specs.Listing.{behind};
+ghost use Rattle.format_gates.specs.Converted.{asked_in, form_at, as_link, form_reply, unread_reply, listing_reply};
+ghost use Rattle.format_gates.specs.Converted.{IsConverted, RepliesBy};
+
+use hyper_edge::Answers;
+use memento_time::{Items, NoMemory, Octets};
+use published_index::GateFault;
+use std::alloc::Global;
+use timegate::{Header, Reply, Request};
+use timemap_formats::{Form, Listing, read_listing, write_listing};
+
+/// In which forms beside link-format a gate answers.
+#[derive(Clone, Copy, Debug, PartialEq, Eq)]
+pub struct Forms {
+    pub json: bool,
+    pub cdxj: bool,
+}
+
+/// A gate that also answers in these forms, by what the gate inside says.
+#[derive(Drop)]
+pub struct FormGate<G> {
+    alloc: Global,
+    gate: G,
+    forms: Forms,
+}
+
+/// What follows the front, if the target begins with it.
+fn behind<'a>(front: &[u8], target: &'a [u8]) -> Option<&'a [u8]>
+    ensures { option_map (λ rest. rest.now) result ≡ behind front.now target.now }
+{
+    target.strip_prefix(front)
+}
+
+/// The form and what the target names, if the form is answered and the target asks in it.
+fn asked_in(form: Form, is_answered: bool, target: &[u8]) -> Option<(Form, &[u8])>
+    ensures { option_map (λ asked. (asked.0, asked.1.now)) result ≡ asked_in form is_answered target.now }
+{
+    if !is_answered {
+        return None;
+    }
+    let rest = behind(form.front(), target)?;
+    Some((form, rest))
+}
+
+/// In which of the forms the target asks for a TimeMap or a page, and what it names.
+#[tactic(auto, unfolding(crate::specs::Converted::form_at))]
+fn form_at(forms: Forms, target: &[u8]) -> Option<(Form, &[u8])>
+    ensures { option_map (λ asked. (asked.0, asked.1.now)) result ≡ form_at forms target.now }
+{
+    match asked_in(Form::Json, forms.json, target) {
+        Some(asked) => Some(asked),
+        None => asked_in(Form::Cdxj, forms.cdxj, target),
+    }
+}
+
+/// The request for the same in link-format.
+fn as_link(alloc: Global, rest: &[u8], request: &Request) -> Result<Request, NoMemory>
+    ensures { IfOk result (λ asked. asked ≡ as_link rest.now request.now) }
+{
+    let mut target = Vec::from_slice(alloc, b"/timemap/link/")?;
+    target.extend_from_slice(rest)?;
+    Ok(Request {
+        method: request.method.try_clone()?,
+        target: Octets::of(target),
+        asked: Items::of(Vec::new(alloc)),
+    })
+}
+
+fn is_head(request: &Request) -> bool
+    ensures { result ≡ is_head request.now }
+{
+    request.method.as_slice() == b"HEAD".as_slice()
+}
+
+fn octets(alloc: Global, text: &[u8]) -> Result<Octets, NoMemory>
+    ensures { IfOk result (λ octets. octets ≡ text.now) }
+{
+    Ok(Octets::of(Vec::from_slice(alloc, text)?))
+}
+
+/// A text in the form.
+fn form_reply(alloc: Global, form: Form, text: Vec<u8>) -> Result<Reply, NoMemory>
+    ensures { IfOk result (λ reply. reply ≡ form_reply form text.items) }
+{
+    let mut headers = Vec::new(alloc);
+    headers.push((Header::ContentType, octets(alloc, form.media_type())?))?;
+    Ok(Reply {
+        status: 200,
+        headers: Items::of(headers),
+        body: Octets::of(text),
+    })
+}
+
+/// The reply where a text can't be read.
+fn unread_reply(alloc: Global) -> Result<Reply, NoMemory>
+    ensures { IfOk result (λ reply. reply ≡ unread_reply) }
+{
+    let mut headers = Vec::new(alloc);
+    headers.push((Header::ContentType, octets(alloc, b"text/plain")?))?;
+    Ok(Reply {
+        status: 500,
+        headers: Items::of(headers),
+        body: octets(alloc, b"not convertible\n")?,
+    })
+}
+
+/// What a text lists, in the form, if it is known.
+fn listing_reply(alloc: Global, form: Form, listing: &Option<Listing>) -> Result<Reply, NoMemory>
+    ensures { IfOk result (λ reply. reply ≡ listing_reply form listing.now) }
+{
+    match listing {
+        Some(listing) => form_reply(alloc, form, write_listing(alloc, form, listing)?),
+        None => unread_reply(alloc),
+    }
+}
+
+/// What is made of the reply to the request for the same in link-format.
+fn converted(alloc: Global, form: Form, request: &Request, inner: Reply) -> Result<Reply, NoMemory>
+    ensures { IfOk result (IsConverted form request.now inner) }
+{
+    if inner.status != 200 {
+        return Ok(inner);
+    }
+    if is_head(request) {
+        return form_reply(alloc, form, Vec::new(alloc));
+    }
+    let listing = read_listing(alloc, inner.body.as_slice())?;
+    listing_reply(alloc, form, &listing)
+}
+
+impl<G: Answers> FormGate<G> {
+    /// A gate that answers in these forms too.
+    pub fn new(alloc: Global, gate: G, forms: Forms) -> FormGate<G>
+        ensures { result.forms ≡ forms }
+    {
+        FormGate { alloc, gate, forms }
+    }
+
+    /// The reply to a request for what `rest` names, in the form.
+    fn answer_in(&mut self, form: Form, rest: &[u8], request: &Request) -> Result<Reply, GateFault>
+        ensures made { IfOk result (λ made. (inner : Answered) × G.replies (as_link rest.now request.now) inner
+            × IsConverted form request.now inner made) }
+        ensures closed { result ≡ Err GateFault.Closed → G.may_close }
+    {
+        let Ok(asked) = as_link(self.alloc, rest, request) else {
+            return Err(GateFault::NoMemory);
+        };
+        let inner = self.gate.answer(&asked)?;
+        match converted(self.alloc, form, request, inner) {
+            Ok(reply) => Ok(reply),
+            Err(_) => Err(GateFault::NoMemory),
+        }
+    }
+
+    /// The reply to a request: in a form, what is made of the TimeMap in link-format; and else that of the gate inside.
+    pub fn reply(&mut self, request: &Request) -> Result<Reply, GateFault>
+        ensures allowed { IfOk result (RepliesBy G.replies (form_at self.old.forms request.now.target) request.now) }
+        ensures closed { result ≡ Err GateFault.Closed → G.may_close }
+    {
+        match form_at(self.forms, request.target.as_slice()) {
+            Some((form, rest)) => self.answer_in(form, rest, request),
+            None => self.gate.answer(request),
+        }
+    }
+}
+
+impl<G: Answers> Answers for FormGate<G> {
+    ghost use Rattle.format_gates.specs.Converted.{RepliesInForms};
+
+    ghost replies = { RepliesInForms G.replies };
+
+    ghost may_close = { G.may_close };
+
+    fn answer(&mut self, request: &Request) -> Result<Reply, GateFault> {
+        self.reply(request)
+    }
+}

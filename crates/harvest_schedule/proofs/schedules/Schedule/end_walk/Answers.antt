@@ -1,0 +1,9 @@
+use Rattle.std.proofs.Common.{arith}
+use Rattle.harvest_schedule.specs.Steps.{WalkEnded}
+use Rattle.harvest_schedule.proofs.Calls.{told}
+use Rattle.harvest_schedule.proofs.schedules.Schedule.end_walk.Goals as goal
+
+pub returns-clause-lanes : goal.returns-clause-lanes
+returns-clause-lanes c =
+    told c.try_end_walk.result c.args.self.now.limits c.args.archive (WalkEnded c.args.now c.args.verdict) c.args.self.now.lanes.items c.index_mut.result.now c.try_end_walk.new.self
+    (omega arith) c.index_mut.ensures.value c.try_end_walk.ensures.can c.try_end_walk.ensures.after

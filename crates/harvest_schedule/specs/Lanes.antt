@@ -1,0 +1,116 @@
+-- What may be asked of an archive, and what asking and answers change.
+use Rattle.std.specs.Prelude.{◌≡◌, ◌⊎◌, ℕ, ◌+◌, ◌-◌, ◌<◌, ◌≤◌, List, [], ◌∷◌, ◌++◌, length, Option, Some, None, IsSome, IsNone, max, remove, if◌then◌else◌, nat_lt, ◌==◌, option_map}
+use Rattle.std.specs.List.{position_or_len}
+use Rattle.harvest_schedule.specs.declared.moods.Limits.{Limits}
+use Rattle.harvest_schedule.specs.declared.moods.Pace.{Pace}
+use Rattle.harvest_schedule.specs.declared.moods.Mood.TheVariants.{Awake}
+use Rattle.harvest_schedule.specs.declared.moods.Verdict.{Verdict}
+use Rattle.harvest_schedule.specs.Moods as moods
+use Rattle.harvest_schedule.specs.Standing.{Standing, walks}
+
+-- an archive of which nothing was asked yet
+abbrev pub fresh : ℕ → Pace → Standing
+fresh originals pace = record {
+  pace = pace;
+  originals = originals;
+  next = 0;
+  out = [];
+  again = [];
+  wished = 0;
+  mood = Awake 0;
+  rest = 0;
+}
+
+-- a new round begins, in which its list starts anew
+abbrev pub begun : ℕ → Standing → Standing
+begun originals s = record s { originals = originals; next = 0; again = [] }
+
+-- the job that is handed out next: one that comes again, or the next of the list
+abbrev pub job_by : List ℕ → ℕ → ℕ → Option ℕ
+job_by (original ∷ rest) next originals = Some original
+job_by [] next originals = if nat_lt next originals then Some next else None
+
+abbrev pub job_of : Standing → Option ℕ
+job_of s = job_by s.again s.next s.originals
+
+-- how many jobs are neither handed out nor passed over, those that come again included
+abbrev pub left_of : Standing → ℕ
+left_of s = s.originals - s.next + length s.again
+
+-- one walk more may begin: not too many are out, and its time has come by its pace and by its mood
+pub record MayWalk (now : ℕ) (s : Standing) : Type 0 where
+  pub few : walks s < s.pace.at_once
+  pub rested : s.rest ≤ now
+  pub may : moods.MayAsk now s.mood
+
+-- a job may be handed out: there is one, and one walk more may begin
+pub record IsReady (now : ℕ) (s : Standing) : Type 0 where
+  pub job : IsSome (job_of s)
+  pub may : MayWalk now s
+
+-- the list without its next job
+abbrev pub advanced_by : List ℕ → Standing → Standing
+advanced_by (original ∷ rest) s = record s { again = rest }
+advanced_by [] s = record s { next = s.next + 1 }
+
+abbrev pub advanced : Standing → Standing
+advanced s = advanced_by s.again s
+
+-- the archive is asked at this time
+abbrev pub asked : ℕ → Standing → Standing
+asked now s = record s { mood = moods.asked s.mood; rest = moods.rest_after s.pace now s.rest }
+
+-- a walk of the archive has ended at this time
+abbrev pub answered : Limits → ℕ → Verdict → Standing → Standing
+answered limits now verdict s = record s {
+  mood = moods.mood_after limits verdict now s.mood;
+  rest = moods.rest_after s.pace now s.rest;
+}
+
+-- the next job, which is this original's, is handed out
+abbrev pub handed : ℕ → ℕ → Standing → Standing
+handed now original s = asked now (record (advanced s) { out = s.out ++ original ∷ [] })
+
+-- the originals without the first place of one
+abbrev pub without : ℕ → List ℕ → List ℕ
+without original xs = remove xs (position_or_len (λ x. x == original) xs)
+
+-- the walk of an original has ended
+abbrev pub ended : Limits → ℕ → ℕ → Verdict → Standing → Standing
+ended limits now original verdict s = answered limits now verdict (record s {
+  out = without original s.out;
+  again = (if moods.comes_again limits verdict then s.again ++ original ∷ [] else s.again);
+})
+
+-- a walk beyond the list begins
+abbrev pub walk_begun : ℕ → Standing → Standing
+walk_begun now s = asked now (record s { wished = s.wished + 1 })
+
+-- a walk beyond the list has ended
+abbrev pub walk_ended : Limits → ℕ → Verdict → Standing → Standing
+walk_ended limits now verdict s = answered limits now verdict (record s { wished = s.wished - 1 })
+
+-- the round is over for the archive: no job is out, and none is left, or the archive is dormant until a later time
+pub record IsOver (now : ℕ) (s : Standing) : Type 0 where
+  pub idle : s.out ≡ []
+  pub done : IsNone (job_of s) ⊎ moods.SleepsAt now s.mood
+
+-- the archive is dormant, at whatever time
+abbrev pub IsDormant : Standing → Type 0
+IsDormant s = moods.is_dormant s.mood
+
+-- the earliest time at which one walk more may begin if nothing else happens, if there is one
+abbrev pub walk_from : Standing → Option ℕ
+walk_from s = if nat_lt (walks s) s.pace.at_once then option_map (max s.rest) (moods.asked_from s.mood) else None
+
+-- the time after this one from which on a job may be handed out if nothing else happens, if there is one
+abbrev pub after : ℕ → Option ℕ → Option ℕ
+after now None = None
+after now (Some time) = if nat_lt now time then Some time else None
+
+abbrev pub time_by : Option ℕ → ℕ → Standing → Option ℕ
+time_by None now s = None
+time_by (Some original) now s = after now (walk_from s)
+
+abbrev pub time_after : ℕ → Standing → Option ℕ
+time_after now s = time_by (job_of s) now s

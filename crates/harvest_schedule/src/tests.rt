@@ -1,0 +1,119 @@
+use crate::{Limits, Mood, Pace, Schedule, Turn, Verdict};
+use std::test::Fail;
+
+const LIMITS: Limits = Limits {
+    tolerance: Some(2),
+    pause: 100,
+};
+
+fn turn(archive: usize, original: usize) -> Turn {
+    Turn { archive, original }
+}
+
+#[test]
+fn archives_take_turns_in_each_round(rt: HostRuntime) -> Result<(), Fail> {
+    let pace = Pace {
+        at_once: 1,
+        every: 0,
+    };
+    let mut schedule = Schedule::new(rt.alloc(), LIMITS, &[pace, pace], 2)?;
+    assert_eq!(rt; schedule.offer(5), Some(turn(0, 0)));
+    assert!(rt; schedule.hand_out(turn(0, 0), 5));
+    assert!(rt; !schedule.hand_out(turn(0, 0), 5), "handed out already");
+    assert_eq!(rt; schedule.offer(5), Some(turn(1, 0)));
+    assert!(rt; schedule.pass_over(turn(1, 0)));
+    assert!(rt; !schedule.pass_over(turn(1, 0)), "passed over already");
+    assert_eq!(rt; schedule.offer(5), Some(turn(1, 1)));
+    assert!(rt; schedule.hand_out(turn(1, 1), 5));
+    assert_eq!(rt; schedule.offer(5), None);
+    assert!(rt; !schedule.begin(2), "jobs are out");
+    assert!(rt;
+        schedule.done(turn(0, 0), Verdict::Answered, 4),
+        "a clock may go back"
+    );
+    assert!(rt; !schedule.done(turn(0, 0), Verdict::Answered, 4), "not out");
+    assert!(rt; schedule.done(turn(1, 1), Verdict::Answered, 6));
+    assert_eq!(rt;
+        (schedule.left(0), schedule.left(1), schedule.left(2)),
+        (1, 0, 0)
+    );
+    assert!(rt; !schedule.is_over(6));
+    assert!(rt; schedule.pass_over(turn(0, 1)));
+    assert!(rt; schedule.is_over(6));
+    assert!(rt; schedule.begin(1));
+    assert_eq!(rt;
+        (schedule.left(0), schedule.offer(6)),
+        (1, Some(turn(0, 0)))
+    );
+    Ok(())
+}
+
+#[test]
+fn busy_archives_are_put_aside_and_dormant_ones_probed(rt: HostRuntime) -> Result<(), Fail> {
+    let pace = Pace {
+        at_once: 2,
+        every: 0,
+    };
+    let mut schedule = Schedule::new(rt.alloc(), LIMITS, &[pace], 3)?;
+    assert!(rt; schedule.hand_out(turn(0, 0), 0));
+    assert!(rt; schedule.hand_out(turn(0, 1), 0));
+    assert!(rt; schedule.done(turn(0, 1), Verdict::Busy { until: 50 }, 1));
+    assert!(rt; schedule.done(turn(0, 0), Verdict::Busy { until: 60 }, 2));
+    assert_eq!(rt;
+        schedule.mood(0),
+        Some(Mood::Aside {
+            until: 60,
+            failed: 1
+        })
+    );
+    assert_eq!(rt;
+        (schedule.offer(59), schedule.next_time(2), schedule.left(0)),
+        (None, Some(60), 3)
+    );
+    assert_eq!(rt; schedule.offer(60), Some(turn(0, 1)));
+    assert!(rt; schedule.hand_out(turn(0, 1), 60));
+    assert!(rt; !schedule.is_dormant(0));
+    assert!(rt; schedule.done(turn(0, 1), Verdict::Failed, 61));
+    assert_eq!(rt; schedule.mood(0), Some(Mood::Dormant { until: 161 }));
+    assert!(rt; schedule.is_dormant(0));
+    assert!(rt; schedule.is_over(160));
+    assert!(rt; !schedule.is_over(161));
+    assert!(rt; schedule.hand_out(turn(0, 0), 161));
+    assert_eq!(rt;
+        (schedule.offer(900), schedule.next_time(161)),
+        (None, None),
+        "one probe alone"
+    );
+    assert!(rt; schedule.done(turn(0, 0), Verdict::Unknown, 170));
+    assert_eq!(rt; schedule.mood(0), Some(Mood::Dormant { until: 270 }));
+    Ok(())
+}
+
+#[test]
+fn walks_beyond_the_list_keep_to_the_pace(rt: HostRuntime) -> Result<(), Fail> {
+    let pace = Pace {
+        at_once: 2,
+        every: 10,
+    };
+    let mut schedule = Schedule::new(rt.alloc(), LIMITS, &[pace], 3)?;
+    assert!(rt; schedule.begin_walk(0, 100));
+    assert!(rt; !schedule.begin_walk(0, 109), "too early");
+    assert_eq!(rt;
+        (schedule.offer(109), schedule.next_time(100)),
+        (None, Some(110))
+    );
+    assert!(rt; schedule.hand_out(turn(0, 0), 110));
+    assert!(rt; !schedule.begin_walk(0, 500), "two are out");
+    assert!(rt; schedule.end_walk(0, Verdict::Answered, 200));
+    assert!(rt;
+        !schedule.end_walk(0, Verdict::Answered, 200),
+        "none is out"
+    );
+    assert!(rt;
+        !schedule.begin_walk(0, 209),
+        "too early after the end of a walk"
+    );
+    assert!(rt; schedule.begin_walk(0, 210));
+    assert!(rt; !schedule.begin_walk(1, 210), "no such archive");
+    Ok(())
+}

@@ -1,0 +1,16 @@
+//! Jobs that are handed to workers in threads of their own, and what they report.
+//!
+//! `WalkRules` names, for proofs alone, which job each turn of a round has, and what may be fetched. An `Assignment`
+//! has the job of its turn, and a `WalkReport` what may come of that very job. Both are facts of their types, so that
+//! they hold of whatever a channel brings.
+#![tactic(auto)]
+
+mod messages;
+mod rules;
+mod verdicts;
+mod walking;
+
+pub use messages::{Assignment, Opened, WalkReport};
+pub use rules::{RuledFetch, WalkRules};
+pub use verdicts::verdict_of;
+pub use walking::walk_assignment;

@@ -1,0 +1,26 @@
+//! The lines between texts.
+ghost use Rattle.std.specs.Prelude.{◌≡◌, ◌++◌, ◌∷◌, [], IfSome};
+ghost use Rattle.snapshot_sections.specs.Sections.{line_text, IsLine};
+
+use text_fields::read_decimal;
+
+/// A line that follows the first line or a text.
+#[derive(Clone, Copy, Debug, PartialEq, Eq)]
+pub enum Line {
+    /// A text of so many bytes follows.
+    Section(u64),
+    /// There are so many texts, and nothing follows.
+    Last(u64),
+}
+
+/// The line whose bytes before the LF these are.
+pub fn line_of(text: &[u8]) -> Option<Line>
+    ensures found { IfSome result (λ line. text.now ++ 10 ∷ [] ≡ line_text line) }
+    ensures fits { IfSome result IsLine }
+{
+    if let Some(length) = text.strip_prefix(b"section ".as_slice()) {
+        return Some(Line::Section(read_decimal(length)?));
+    }
+    let count = text.strip_prefix(b"sections ".as_slice())?;
+    Some(Line::Last(read_decimal(count)?))
+}

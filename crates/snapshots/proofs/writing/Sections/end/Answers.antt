@@ -1,0 +1,7 @@
+use Rattle.snapshots.proofs.Sectioning.{all_ended}
+use Rattle.snapshots.proofs.writing.Sections.end.Goals as goal
+
+pub returns-clause-ended : goal.returns-clause-ended
+returns-clause-ended g c =
+    λ start done stands. all_ended start _ _ _ _ _ done (c.in_ok-end_begun.ensures.ended start done stands) c.in_ok-end_begun.ensures.empty c.in_ok-write_last_line.ensures.fits
+    c.in_ok-write_last_line.ensures.written

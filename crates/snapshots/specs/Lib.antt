@@ -1,0 +1,4 @@
+pub mod Cuts
+pub mod Snapshots
+pub mod Standing
+pub mod Faults

@@ -1,0 +1,5 @@
+pub mod DateLemmas
+pub mod ReadingLemmas
+pub mod WritingLemmas
+pub mod JsonLemmas
+pub mod ListedLemmas

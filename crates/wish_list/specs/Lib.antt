@@ -1,0 +1,5 @@
+pub mod Jobs
+pub mod Queue
+pub mod Stages
+pub mod Tables
+pub mod Wishing

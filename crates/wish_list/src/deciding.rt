@@ -1,0 +1,248 @@
+//! Takes wishes within their limits, and notes which originals were looked after.
+ghost use Rattle.std.specs.Prelude.{◌≡◌, ◌≤◌, ◌+◌, ◌-◌, ◌++◌, ◌∷◌, [], None, false, IfOk, IfNone, IfSome, OnOk, OnErr, filter, length, position};
+ghost use Rattle.std.specs.NonZero.{non_zero_usize_get};
+ghost use Rattle.lru.specs.LruCache.{lru_cache};
+ghost use Rattle.wish_list.specs.Queue.{Grants, PutsBack, is_waiting, isnt_of, most_wishes, stands};
+ghost use Rattle.wish_list.specs.Tables.{second_of};
+ghost use Rattle.wish_list.specs.Wishing as spec;
+ghost use Rattle.wish_list.specs.Wishing.{asked_if, decision, has_room, left_at, noted_second, seconds_for, spent, with_note, with_wish};
+
+use crate::queue::{MOST_WISHES, Queue, Wish};
+use crate::table::Table;
+use crate::wishes::{Decision, Limits, Wishes};
+use memento_time::{NoMemory, Original};
+use original_sets::{Key, OriginalSet};
+use std::alloc::Global;
+use std::hash::RandomState;
+use std::mem;
+
+/// Whether an original that was last looked after in this second, if at all, is to be looked after again.
+fn is_due(last: Option<u64>, again: u64, now: u64) -> bool
+    ensures { result ≡ spec.is_due last again now }
+{
+    match last {
+        Some(second) => now.saturating_sub(second) >= again,
+        None => true,
+    }
+}
+
+/// The seconds in which an original is looked after again where an archive gave no harvest.
+pub const RETRY: u64 = 600;
+
+/// The second to note for an original that was looked after now.
+fn noted_second(again: u64, is_whole: bool, now: u64) -> u64
+    ensures { result ≡ noted_second again is_whole now }
+{
+    if is_whole {
+        now
+    } else {
+        now.saturating_sub(again.saturating_sub(RETRY))
+    }
+}
+
+impl Wishes {
+    /// No wishes, and room for as many as there may be.
+    pub fn new(alloc: Global, limits: Limits, keys: RandomState) -> Result<Wishes, NoMemory>
+        ensures limits { IfOk result (λ wishes. wishes.limits ≡ limits) }
+        ensures queue { IfOk result (λ wishes. wishes.queue ≡ []) }
+        ensures shown { IfOk result (λ wishes. wishes.shown ≡ lru_cache [] (non_zero_usize_get limits.remembered)) }
+        ensures unshown { IfOk result (λ wishes. wishes.unshown ≡ lru_cache [] (non_zero_usize_get limits.remembered)) }
+        ensures listed { IfOk result (λ wishes. wishes.listed ≡ []) }
+        ensures room { IfOk result (λ wishes. wishes.room ≡ usize.MAX) }
+    {
+        let shown = Table::new(alloc, limits.remembered, keys)?;
+        let unshown = Table::new(alloc, limits.remembered, keys)?;
+        let listed = OriginalSet::with_room(alloc, 0, keys)?;
+        Ok(Wishes {
+            limits,
+            queue: Queue::new(alloc),
+            shown,
+            unshown,
+            listed,
+            room: usize::MAX,
+            turned_away: 0,
+            minute: 0,
+            left: limits.in_a_minute,
+        })
+    }
+
+    /// The second in which an original was looked after last.
+    fn last(&self, original: &Key, is_shown: bool) -> Option<u64>
+        ensures { result ≡ second_of (seconds_for self.now is_shown) original.now }
+    {
+        if is_shown {
+            self.shown.get(original)
+        } else {
+            self.unshown.get(original)
+        }
+    }
+
+    /// Whether one more wish may stand in the queue.
+    fn has_room(&self, is_shown: bool) -> bool
+        ensures { result ≡ has_room self.now is_shown }
+    {
+        self.queue.len() < MOST_WISHES && (is_shown || self.queue.unshown() < self.room)
+    }
+
+    /// How many more wishes may be taken in the minute of this second.
+    fn left_at(&self, now: u64) -> u64
+        ensures left { result ≡ left_at self.now now }
+        ensures most { result ≤ self.now.limits.in_a_minute }
+    {
+        if now / 60 == self.minute {
+            self.left
+        } else {
+            self.limits.in_a_minute
+        }
+    }
+
+    /// What becomes of a wish.
+    fn decision(&self, original: &Original, key: &Key, is_shown: bool, now: u64) -> Decision
+        requires { key.now ≡ original.now }
+        ensures { result ≡ decision self.now original.now is_shown now }
+    {
+        if is_shown && self.listed.has(key) {
+            Decision::Listed
+        } else if self.queue.has(original) {
+            Decision::Waits
+        } else if !is_due(self.last(key, is_shown), self.limits.again, now) {
+            Decision::Fresh
+        } else if !self.has_room(is_shown) {
+            Decision::Full
+        } else if self.left_at(now) == 0 {
+            Decision::Late
+        } else {
+            Decision::Added
+        }
+    }
+
+    /// Takes a wish for an original of which something was shown or nothing, if the limits allow it.
+    pub fn wish(
+        &mut self,
+        original: Original,
+        is_shown: bool,
+        now: u64,
+    ) -> Result<Decision, NoMemory>
+        ensures decision { IfOk result (λ it. it ≡ decision self.old original is_shown now) }
+        ensures queue { OnOk result (self.new.queue
+            ≡ with_wish (decision self.old original is_shown now) self.old.queue original is_shown) }
+        ensures shown { OnOk result (self.new.shown ≡ asked_if is_shown self.old.shown original) }
+        ensures unshown { self.new.unshown ≡ self.old.unshown }
+        ensures limits { (self.new.limits ≡ self.old.limits) × (self.new.room ≡ self.old.room) }
+        ensures listed { self.new.listed ≡ self.old.listed }
+        ensures spent { OnOk result (left_at self.new now
+            ≡ spent (decision self.old original is_shown now) (left_at self.old now)) }
+        ensures turned_away { OnOk result (self.new.turned_away
+            ≡ spec.turned_away (decision self.old original is_shown now) self.old.turned_away) }
+        ensures err { OnErr result (self.new ≡ self.old) }
+    {
+        let key = Key::new(&original)?;
+        let decision = self.decision(&original, &key, is_shown, now);
+        if decision == Decision::Added {
+            self.add(original, is_shown, now)?;
+        }
+        if decision == Decision::Full {
+            self.turned_away = self.turned_away.saturating_add(1);
+        }
+        if is_shown {
+            self.shown.ask(&key);
+        }
+        Ok(decision)
+    }
+
+    /// Takes a wish within the limits.
+    fn add(&mut self, original: Original, is_shown: bool, now: u64) -> Result<(), NoMemory>
+        requires room { length self.old.queue + 1 ≤ most_wishes }
+        requires new { stands self.old.queue original ≡ false }
+        ensures queue { OnOk result (self.new.queue
+            ≡ self.old.queue ++ record { original = original; is_shown = is_shown; is_granted = false } ∷ []) }
+        ensures left { OnOk result (left_at self.new now ≡ left_at self.old now - 1) }
+        ensures rest { (self.new.shown ≡ self.old.shown) × (self.new.unshown ≡ self.old.unshown)
+            × (self.new.limits ≡ self.old.limits) × (self.new.room ≡ self.old.room)
+            × (self.new.listed ≡ self.old.listed) × (self.new.turned_away ≡ self.old.turned_away) }
+        ensures err { OnErr result (self.new ≡ self.old) }
+    {
+        let left = self.left_at(now);
+        self.queue.push(Wish {
+            original,
+            is_shown,
+            is_granted: false,
+        })?;
+        self.minute = now / 60;
+        self.left = left.saturating_sub(1);
+        Ok(())
+    }
+
+    /// Tells which originals rounds look after. Returns those of before.
+    pub fn set_listed(&mut self, listed: OriginalSet) -> OriginalSet
+        ensures before { result ≡ self.old.listed }
+        ensures after { self.new ≡ record self.old { listed = listed } }
+    {
+        mem::replace(&mut self.listed, listed)
+    }
+
+    /// Allows so many wishes for originals of which nothing is shown to stand in the queue. What stands there stays.
+    pub fn set_room(&mut self, room: usize)
+        ensures { self.new ≡ record self.old { room = room } }
+    {
+        self.room = room;
+    }
+
+    /// How many wishes were turned away since this was last asked, because there were as many as may be.
+    pub fn turned_away(&mut self) -> u64
+        ensures count { result ≡ self.old.turned_away }
+        ensures after { self.new ≡ record self.old { turned_away = 0 } }
+    {
+        let count = self.turned_away;
+        self.turned_away = 0;
+        count
+    }
+
+    /// Grants the oldest wish that waits: its original, whose archives are to be asked. The wish stands in the queue
+    /// until `end`, so that its original isn't wished for once more.
+    pub fn grant(&mut self) -> Result<Option<Original>, NoMemory>
+        ensures some { IfOk result (λ it. IfSome it (λ original. Grants self.old.queue original self.new.queue)) }
+        ensures none { IfOk result (λ it. IfNone it (position is_waiting self.old.queue ≡ None)) }
+        ensures rest { self.new ≡ record self.old { queue = self.new.queue } }
+        ensures err { OnErr result (self.new ≡ self.old) }
+    {
+        self.queue.grant()
+    }
+
+    /// Lets a granted wish wait again, at its place: its archives couldn't be asked.
+    pub fn put_back(&mut self, original: &Original)
+        ensures queue { PutsBack self.old.queue original.now self.new.queue }
+        ensures rest { self.new ≡ record self.old { queue = self.new.queue } }
+    {
+        self.queue.put_back(original);
+    }
+
+    /// Ends the wish for an original, if there is one.
+    pub fn end(&mut self, original: &Original)
+        ensures { self.new ≡ record self.old { queue = filter (isnt_of original.now) self.old.queue } }
+    {
+        self.queue.end(original);
+    }
+
+    /// Notes that an original was looked after in this second: whether something of it is shown, and whether each
+    /// archive gave a harvest. Where one didn't, the original is to be looked after again in `RETRY` seconds at most.
+    pub fn note(
+        &mut self,
+        original: &Original,
+        is_shown: bool,
+        is_whole: bool,
+        now: u64,
+    ) -> Result<(), NoMemory>
+        ensures ok { OnOk result
+            (self.new ≡ with_note self.old original.now is_shown (noted_second self.old.limits.again is_whole now)) }
+        ensures err { OnErr result (self.new ≡ self.old) }
+    {
+        let key = Key::new(original)?;
+        let second = noted_second(self.limits.again, is_whole, now);
+        if is_shown {
+            self.shown.note(key, second)
+        } else {
+            self.unshown.note(key, second)
+        }
+    }
+}
