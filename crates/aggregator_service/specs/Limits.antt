@@ -3,8 +3,8 @@ use Rattle.std.specs.Prelude.{ℕ, ◌≤◌, ◌+◌, ◌*◌, ◌^◌}
 use Rattle.aggregator_service.specs.declared.settings.fault.Key.{Key}
 use Rattle.aggregator_service.specs.declared.settings.fault.Key.TheVariants as key
 
--- the least and the greatest number at a key; for a list, of its elements; for the agent, of its bytes. The base is one
--- text. The log and waiting until a gate is ready are wanted (1) or not.
+-- the least and the greatest number at a key; for a list, of its elements; for the agent and paths, of their bytes. The
+-- base and the status' address are one text. What may be `true` is wanted (1) or not.
 abbrev pub limits : Key → ℕ × ℕ
 limits key.Base = (1, 1)
 limits key.Gates = (1, 64)
@@ -29,6 +29,14 @@ limits key.Publish = (1, 86400)
 limits key.Pull = (1, 86400)
 limits key.Agent = (1, 256)
 limits key.Ready = (0, 1)
+limits key.Wanted = (0, 1000000)
+limits key.Wishes = (1, 60000)
+limits key.Alike = (0, 1)
+limits key.OriginalsFile = (1, 4096)
+limits key.Snapshot = (1, 4096)
+limits key.SnapshotEvery = (1, 86400)
+limits key.Formats = (0, 2)
+limits key.Status = (1, 1)
 
 -- the most milliseconds between two requests of one archive
 abbrev pub most_every : ℕ
@@ -104,3 +112,21 @@ pub record AreLimits : Type 0 where
   pub agent : TakesUpTo key.Agent (2 ^ 8)
   pub not_ready : IsWithin key.Ready 0
   pub ready : TakesUpTo key.Ready 1
+  pub none_wanted : IsWithin key.Wanted 0
+  pub wanted : TakesUpTo key.Wanted (10 ^ 6)
+  pub no_wish : ¬ IsWithin key.Wishes 0
+  pub a_wish : IsWithin key.Wishes 1
+  pub wishes : TakesUpTo key.Wishes (60 * 10 ^ 3)
+  pub not_alike : IsWithin key.Alike 0
+  pub alike : TakesUpTo key.Alike 1
+  pub no_originals_file : ¬ IsWithin key.OriginalsFile 0
+  pub an_originals_file : IsWithin key.OriginalsFile 1
+  pub originals_file : TakesUpTo key.OriginalsFile (2 ^ 12)
+  pub no_snapshot : ¬ IsWithin key.Snapshot 0
+  pub a_snapshot : IsWithin key.Snapshot 1
+  pub snapshot : TakesUpTo key.Snapshot (2 ^ 12)
+  pub no_snapshot_every : ¬ IsWithin key.SnapshotEvery 0
+  pub a_snapshot_every : IsWithin key.SnapshotEvery 1
+  pub snapshot_every : TakesUpTo key.SnapshotEvery (24 * 60 * 60)
+  pub no_format : IsWithin key.Formats 0
+  pub formats : TakesUpTo key.Formats 2

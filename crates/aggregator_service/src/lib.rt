@@ -29,5 +29,6 @@ mod terms;
 pub use laws::limits_by_example;
 pub use serving::{ServeFault, serve_settings};
 pub use settings::{
-    Archive, Asking, Key, MAX_TEXT, Settings, SettingsFault, Timing, read_settings,
+    Archive, Asking, Key, MAX_TEXT, Settings, SettingsFault, Storing, Timing, Wishing,
+    read_settings,
 };

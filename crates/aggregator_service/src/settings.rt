@@ -13,25 +13,34 @@ mod archives;
 mod asking;
 mod fault;
 mod hosts;
+mod showing;
+mod storing;
 mod timing;
 mod values;
+mod wishing;
 
 use crate::settings::archives::archives_at;
 use crate::settings::asking::{agent_at, asking_at};
 use crate::settings::hosts::hosts_at;
+use crate::settings::showing::{forms_at, status_at};
+use crate::settings::storing::storing_at;
 use crate::settings::timing::timing_at;
 use crate::settings::values::{
     gates_at, number_at, number_or, originals_at, peers_at, service_at, wants,
 };
+use crate::settings::wishing::wishing_at;
 pub use archives::Archive;
 pub use asking::Asking;
 pub use fault::{Key, SettingsFault};
+use format_gates::Forms;
 use hyper_edge::{Agent, AllowedHost, DEFAULT_PATIENCE};
 use memento_time::{Clean, Original};
 use std::alloc::Global;
+pub use storing::Storing;
 use timemap_writer::Service;
 pub use timing::Timing;
 use toml::Table;
+pub use wishing::Wishing;
 
 /// The most bytes that the text of settings can have.
 pub const MAX_TEXT: usize = 1_048_576;
@@ -72,6 +81,14 @@ pub struct Settings {
     pub agent: Option<Agent>,
     /// Whether a gate says that it isn't ready until something was published or taken in.
     pub ready: bool,
+    /// What readers may wish for, and where more originals are named.
+    pub wishing: Wishing,
+    /// Where what is known is kept over a restart.
+    pub storing: Storing,
+    /// In which forms beside link-format gates answer.
+    pub forms: Forms,
+    /// The address at which the status is shown: a text that std reads as a socket address; `None` if it isn't.
+    pub status: Option<String>,
 
     ghost few_gates: { IsWithin Gates (length gates.items) },
     ghost few_connections: { IsWithin Connections connections },
@@ -106,6 +123,10 @@ struct OwnKeys {
     timing: Timing,
     agent: Option<Agent>,
     ready: bool,
+    wishing: Wishing,
+    storing: Storing,
+    forms: Forms,
+    status: Option<String>,
 }
 
 /// What stands at the keys from `at_once` on.
@@ -121,11 +142,19 @@ fn own_keys_at(
     let timing = timing_at(table)?;
     let agent = agent_at(alloc, table)?;
     let ready = wants(table, Key::Ready)?;
+    let wishing = wishing_at(alloc, table)?;
+    let storing = storing_at(alloc, table)?;
+    let forms = forms_at(table)?;
+    let status = status_at(alloc, table)?;
     Ok(OwnKeys {
         asking,
         timing,
         agent,
         ready,
+        wishing,
+        storing,
+        forms,
+        status,
     })
 }
 
@@ -142,12 +171,7 @@ fn settings_of(alloc: Global, table: &Table) -> Result<Settings, SettingsFault> 
     let patience = number_or(table, Key::Patience, DEFAULT_PATIENCE)?;
     let hosts = hosts_at(alloc, table)?;
     let log = wants(table, Key::Log)?;
-    let OwnKeys {
-        asking,
-        timing,
-        agent,
-        ready,
-    } = own_keys_at(alloc, table, workers, archives.len())?;
+    let own = own_keys_at(alloc, table, workers, archives.len())?;
     Ok(Settings {
         base,
         gates,
@@ -161,9 +185,13 @@ fn settings_of(alloc: Global, table: &Table) -> Result<Settings, SettingsFault> 
         patience,
         hosts,
         log,
-        asking,
-        timing,
-        agent,
-        ready,
+        asking: own.asking,
+        timing: own.timing,
+        agent: own.agent,
+        ready: own.ready,
+        wishing: own.wishing,
+        storing: own.storing,
+        forms: own.forms,
+        status: own.status,
     })
 }

@@ -35,14 +35,15 @@ patience_named now [] = usual_patience
 patience_named now (value ∷ _) =
     min (unwrap_or (seconds_named now (trim_blanks value)) usual_patience) most_patience
 
--- too many requests (RFC 6585, section 4), or an archive that can't answer for the moment (RFC 9110, section 15.6.4)
-abbrev pub asks_for_patience : ℕ → Bool
-asks_for_patience status = status == 429 || status == 503
+-- Too many requests (RFC 6585, section 4), or an archive that can't answer for the moment and says when it may
+-- (RFC 9110, section 15.6.4).
+abbrev pub asks_for_patience : Answer → Bool
+asks_for_patience answer = answer.status == 429 || answer.status == 503 && not (length answer.retry_after == 0)
 
 -- the seconds for which an answer asks, if it does
 abbrev pub asked_patience : ℕ → Answer → Option ℕ
 asked_patience now answer =
-    if asks_for_patience answer.status then Some (patience_named now answer.retry_after) else None
+    if asks_for_patience answer then Some (patience_named now answer.retry_after) else None
 
 -- the longer of two patiences, as far as they were asked for
 abbrev pub longer : Option ℕ → Option ℕ → Option ℕ
@@ -64,6 +65,10 @@ pub record IsPatience : Type 0 where
       → seconds_named now text ≡ Some (s - now)
   pub most : (now : ℕ) (values : List (List ℕ)) → patience_named now values ≤ 3600
 
+-- an answer with this status and these values of `Retry-After`
+abbrev pub answered : ℕ → List (List ℕ) → Answer
+answered status values = record { status = status; encoding = []; retry_after = values; body = [] }
+
 -- worked examples: at the second 784111777, which is Sun, 06 Nov 1994 08:49:37 GMT
 pub record ArePatiences : Type 0 where
   pub missing : patience_named 784111777 [] ≡ 60
@@ -78,3 +83,9 @@ pub record ArePatiences : Type 0 where
   pub longer : patience_named 784111777 (codes "3601" ∷ []) ≡ 3600
   pub thirty_digits : patience_named 784111777 (codes "999999999999999999999999999999" ∷ []) ≡ 3600
   pub first_counts : patience_named 784111777 (codes "5" ∷ codes "120" ∷ []) ≡ 5
+  pub too_many : asked_patience 784111777 (answered 429 []) ≡ Some 60
+  pub too_many_until : asked_patience 784111777 (answered 429 (codes "7" ∷ [])) ≡ Some 7
+  pub overloaded : asked_patience 784111777 (answered 503 []) ≡ None
+  pub overloaded_until : asked_patience 784111777 (answered 503 (codes "7" ∷ [])) ≡ Some 7
+  pub broken_down : asked_patience 784111777 (answered 500 (codes "7" ∷ [])) ≡ None
+  pub found : asked_patience 784111777 (answered 200 (codes "7" ∷ [])) ≡ None

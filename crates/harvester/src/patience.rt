@@ -14,11 +14,11 @@ const MOST_PATIENCE: u64 = 3_600;
 /// The seconds that count if the archive names none.
 const USUAL_PATIENCE: u64 = 60;
 
-/// Whether an answer with this status asks for patience.
-fn asks_for_patience(status: u16) -> bool
-    ensures { result ≡ spec.asks_for_patience status }
+/// Whether an answer asks for patience.
+fn asks_for_patience(answer: &Answer) -> bool
+    ensures { result ≡ spec.asks_for_patience answer.now }
 {
-    status == 429 || status == 503
+    answer.status == 429 || answer.status == 503 && !answer.retry_after.is_empty()
 }
 
 fn are_digits(text: &[u8]) -> bool
@@ -70,11 +70,12 @@ fn patience_named(values: &[Octets], now: u64) -> u64
 }
 
 /// The seconds from now on, a second since the start of 1970, for which an answer asks to be left alone, if it does: at
-/// most an hour, and a minute if it names neither a number of seconds nor a date.
+/// most an hour, and a minute if it names neither a number of seconds nor a date. A 503 without `Retry-After` doesn't
+/// ask: it is an archive's failure as any other.
 pub fn asked_patience(answer: &Answer, now: u64) -> Option<u64>
     ensures { result ≡ spec.asked_patience now answer.now }
 {
-    if asks_for_patience(answer.status) {
+    if asks_for_patience(answer) {
         Some(patience_named(answer.retry_after.as_slice(), now))
     } else {
         None

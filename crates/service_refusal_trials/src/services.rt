@@ -5,7 +5,7 @@ use hyper_edge::{
 };
 use memento_time::{Items, Octets};
 use published_index::{Gate, GateFault, Merger, ask_both, open};
-use refused_calls::{Tried, insist};
+use refused_calls::{Tried, insist, share};
 use replica_exchange::{Delta, read_delta};
 use std::alloc::Global;
 use std::net::{IpAddr, Ipv4Addr, SocketAddr};
@@ -36,14 +36,13 @@ enum OnEdge {
     ReadinessShare,
 }
 
-const ON_EDGE: [OnEdge; 7] = [
+const ON_EDGE: [OnEdge; 6] = [
     OnEdge::ReadHost,
     OnEdge::AllowedAddresses,
     OnEdge::RequestOf,
     OnEdge::Form,
     OnEdge::AgentNew,
     OnEdge::ReadinessNew,
-    OnEdge::ReadinessShare,
 ];
 
 pub(crate) fn octets(alloc: Global, text: &[u8]) -> Option<Octets> {
@@ -257,6 +256,11 @@ pub(crate) fn perform<R: Wait + Print + Eprint + Clone + Drop>(
     for call in ON_EDGE {
         insist(rt, call, || try_on_edge(alloc, call))?;
     }
+    share(
+        rt,
+        OnEdge::ReadinessShare,
+        || try_on_edge(alloc, OnEdge::ReadinessShare),
+    )?;
     for call in ON_GATES {
         insist(rt, call, || try_on_gate(rt, alloc, call))?;
     }

@@ -28,15 +28,19 @@ has_room w is_shown =
 abbrev pub left_at : Wishes → ℕ → ℕ
 left_at w now = if now / 60 == w.minute then w.left else w.limits.in_a_minute
 
--- what becomes of a wish in this second: the first of these that fits
-abbrev pub decision : Wishes → List ℕ → Bool → ℕ → Decision
-decision w original is_shown now =
-    if is_shown && set.stands w.listed original then Listed
-    else if stands w.queue original then Waits
+-- what becomes of a wish in this second for an original that rounds don't look after: the first of these that fits
+abbrev pub unlisted_decision : Wishes → List ℕ → Bool → ℕ → Decision
+unlisted_decision w original is_shown now =
+    if stands w.queue original then Waits
     else if not (is_due (second_of (seconds_for w is_shown) original) w.limits.again now) then Fresh
     else if not (has_room w is_shown) then Full
     else if left_at w now == 0 then Late
     else Added
+
+-- and of any wish
+abbrev pub decision : Wishes → List ℕ → Bool → ℕ → Decision
+decision w original is_shown now =
+    if is_shown && set.stands w.listed original then Listed else unlisted_decision w original is_shown now
 
 -- the queue then
 abbrev pub with_wish : Decision → List Wish → List ℕ → Bool → List Wish

@@ -1,11 +1,12 @@
 //! Takes wishes within their limits, and notes which originals were looked after.
-ghost use Rattle.std.specs.Prelude.{◌≡◌, ◌≤◌, ◌+◌, ◌-◌, ◌++◌, ◌∷◌, [], None, false, IfOk, IfNone, IfSome, OnOk, OnErr, filter, length, position};
+ghost use Rattle.std.specs.Prelude.{◌≡◌, ◌≤◌, ◌+◌, ◌-◌, ◌++◌, ◌∷◌, [], ◌&&◌, not, None, false, IfOk, IfNone, IfSome, OnOk, OnErr, filter, length, position};
 ghost use Rattle.std.specs.NonZero.{non_zero_usize_get};
 ghost use Rattle.lru.specs.LruCache.{lru_cache};
 ghost use Rattle.wish_list.specs.Queue.{Grants, PutsBack, is_waiting, isnt_of, most_wishes, stands};
 ghost use Rattle.wish_list.specs.Tables.{second_of};
+ghost use Rattle.original_sets.specs.Sets as set;
 ghost use Rattle.wish_list.specs.Wishing as spec;
-ghost use Rattle.wish_list.specs.Wishing.{asked_if, decision, has_room, left_at, noted_second, seconds_for, spent, with_note, with_wish};
+ghost use Rattle.wish_list.specs.Wishing.{asked_if, decision, unlisted_decision, has_room, left_at, noted_second, seconds_for, spent, with_note, with_wish};
 
 use crate::queue::{MOST_WISHES, Queue, Wish};
 use crate::table::Table;
@@ -96,14 +97,12 @@ impl Wishes {
         }
     }
 
-    /// What becomes of a wish.
+    /// What becomes of a wish for an original that rounds don't look after.
     fn decision(&self, original: &Original, key: &Key, is_shown: bool, now: u64) -> Decision
         requires { key.now ≡ original.now }
-        ensures { result ≡ decision self.now original.now is_shown now }
+        ensures { result ≡ unlisted_decision self.now original.now is_shown now }
     {
-        if is_shown && self.listed.has(key) {
-            Decision::Listed
-        } else if self.queue.has(original) {
+        if self.queue.has(original) {
             Decision::Waits
         } else if !is_due(self.last(key, is_shown), self.limits.again, now) {
             Decision::Fresh
@@ -126,7 +125,8 @@ impl Wishes {
         ensures decision { IfOk result (λ it. it ≡ decision self.old original is_shown now) }
         ensures queue { OnOk result (self.new.queue
             ≡ with_wish (decision self.old original is_shown now) self.old.queue original is_shown) }
-        ensures shown { OnOk result (self.new.shown ≡ asked_if is_shown self.old.shown original) }
+        ensures shown { OnOk result (self.new.shown
+            ≡ asked_if (is_shown && not (set.stands self.old.listed original)) self.old.shown original) }
         ensures unshown { self.new.unshown ≡ self.old.unshown }
         ensures limits { (self.new.limits ≡ self.old.limits) × (self.new.room ≡ self.old.room) }
         ensures listed { self.new.listed ≡ self.old.listed }
@@ -137,6 +137,9 @@ impl Wishes {
         ensures err { OnErr result (self.new ≡ self.old) }
     {
         let key = Key::new(&original)?;
+        if is_shown && self.listed.has(&key) {
+            return Ok(Decision::Listed);
+        }
         let decision = self.decision(&original, &key, is_shown, now);
         if decision == Decision::Added {
             self.add(original, is_shown, now)?;

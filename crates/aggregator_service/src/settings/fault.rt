@@ -47,6 +47,22 @@ pub enum Key {
     Agent,
     /// Optional.
     Ready,
+    /// Optional.
+    Wanted,
+    /// Optional.
+    Wishes,
+    /// Optional.
+    Alike,
+    /// Optional.
+    OriginalsFile,
+    /// Optional.
+    Snapshot,
+    /// Optional.
+    SnapshotEvery,
+    /// Optional.
+    Formats,
+    /// Optional.
+    Status,
 }
 
 impl Key {
@@ -78,16 +94,25 @@ impl Key {
             Key::Pull => "pull",
             Key::Agent => "agent",
             Key::Ready => "ready",
+            Key::Wanted => "wanted",
+            Key::Wishes => "wishes",
+            Key::Alike => "alike",
+            Key::OriginalsFile => "originals_file",
+            Key::Snapshot => "snapshot",
+            Key::SnapshotEvery => "snapshot_every",
+            Key::Formats => "formats",
+            Key::Status => "status",
         }
     }
 
     /// The least and the greatest number at the key; for a list, the least and the greatest number of its elements; for
-    /// the agent, of its bytes. The base is one text. The log and waiting until a gate is ready are wanted (1) or not.
+    /// the agent and paths, of their bytes. The base and the status' address are one text. What may be `true` is wanted
+    /// (1) or not.
     pub fn limits(self) -> (u64, u64)
         ensures { result ≡ limits self }
     {
         match self {
-            Key::Base => (1, 1),
+            Key::Base | Key::Status => (1, 1),
             Key::Gates => (1, MOST_GATES as u64),
             Key::Connections | Key::Rounds => (1, 1_000_000_000),
             Key::Pause => (0, 86_400),
@@ -97,13 +122,17 @@ impl Key {
             Key::Archives => (0, 1_000),
             Key::Patience => (1, 86_400),
             Key::Hosts => (0, 1_000),
-            Key::Log | Key::Ready => (0, 1),
+            Key::Log | Key::Ready | Key::Alike => (0, 1),
             Key::AtOnce => (1, MAX_WORKERS as u64),
             Key::Tolerance => (1, 1_000_000_000),
-            Key::Dormant | Key::Walk | Key::Publish | Key::Pull => (1, 86_400),
+            Key::Dormant | Key::Walk | Key::Publish | Key::Pull | Key::SnapshotEvery => (1, 86_400),
             Key::Rate => (1, 1_000_000),
             Key::Again | Key::AgainNone => (1, 2_592_000),
             Key::Agent => (1, 256),
+            Key::Wanted => (0, 1_000_000),
+            Key::Wishes => (1, 60_000),
+            Key::OriginalsFile | Key::Snapshot => (1, 4_096),
+            Key::Formats => (0, 2),
         }
     }
 }

@@ -23,4 +23,10 @@ returns c = record {
   longer = refl;
   thirty_digits = refl;
   first_counts = refl;
+  too_many = refl;
+  too_many_until = refl;
+  overloaded = refl;
+  overloaded_until = refl;
+  broken_down = refl;
+  found = refl;
 }
