@@ -18,7 +18,7 @@ const USUAL_PATIENCE: u64 = 60;
 fn asks_for_patience(answer: &Answer) -> bool
     ensures { result ≡ spec.asks_for_patience answer.now }
 {
-    answer.status == 429 || answer.status == 503 && !answer.retry_after.is_empty()
+    answer.status == 429 || answer.status == 503 && !answer.retry_after.as_slice().is_empty()
 }
 
 fn are_digits(text: &[u8]) -> bool
