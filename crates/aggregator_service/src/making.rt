@@ -261,6 +261,7 @@ where
     fn harvest(&self, standing: &mut Standing, merger: &mut Merger) {
         standing.dues.progress.done(self.now());
         for _ in self.rt.forever() {
+            self.take_waiting(standing, merger);
             let handed = self.hand_out(standing, merger);
             if standing.out == 0 && standing.schedule.is_over(self.now()) {
                 break;
@@ -279,13 +280,29 @@ where
         let wait = wait_until(standing.schedule.next_time(now), now);
         match self.means.pool.news(self.rt, wait) {
             News::Report(report) => {
-                standing.out = standing.out.saturating_sub(1);
-                self.take_report(standing, merger, report);
+                self.take_reported(standing, merger, report);
                 true
             }
             News::Nothing => true,
             News::Gone => false,
         }
+    }
+
+    /// Takes in the reports that wait. A job is handed out only then, since one of them may say that its archive is
+    /// busy.
+    fn take_waiting(&self, standing: &mut Standing, merger: &mut Merger) {
+        for _ in 0..self.means.pool.hands() {
+            let Some(report) = self.means.pool.waiting(self.rt) else {
+                return;
+            };
+            self.take_reported(standing, merger, report);
+        }
+    }
+
+    /// Takes in what a worker reports.
+    fn take_reported(&self, standing: &mut Standing, merger: &mut Merger, report: WalkReport<P>) {
+        standing.out = standing.out.saturating_sub(1);
+        self.take_report(standing, merger, report);
     }
 
     /// Hands out as many jobs as there are hands. Jobs that needn't be walked are passed over.
