@@ -4,6 +4,7 @@ ghost use Rattle.std.specs.Prelude.{◌≡◌, ◌*◌, ◌≤◌, IfSome, None}
 use crate::clocks::revision_now;
 use crate::dues::{Dues, Stopwatch};
 use crate::freshness::{has_mementos, is_fresh};
+use crate::jobs::original_of;
 use crate::lines::{Dormancy, Greeting, Line, Matter, PeerFault, Progress, name_text};
 use crate::logs::Log;
 use crate::means::Means;
@@ -355,10 +356,17 @@ where
         }
     }
 
+    /// The job of a turn, to be handed out.
+    fn assignment(&self, turn: Turn, revision: u64) -> Option<Assignment<P>> {
+        let original = original_of(&self.settings().originals, turn)?;
+        self.terms
+            .assignment(self.alloc(), turn, original, revision)
+    }
+
     /// Gives the job of this turn to a worker. Without a worker it is walked at once.
     fn hand(&self, standing: &mut Standing, merger: &mut Merger, turn: Turn) {
         let revision = self.revision(standing);
-        let Some(assignment) = self.terms.assignment(self.alloc(), turn, revision) else {
+        let Some(assignment) = self.assignment(turn, revision) else {
             // Memory was refused, or the URL is too long.
             let _ = standing.schedule.done(turn, Verdict::Unknown, self.now());
             standing.round.add_job();
