@@ -4,6 +4,7 @@ ghost use Rattle.std.specs.Prelude.{◌≡◌, ◌*◌, ◌≤◌, IfSome, None}
 use crate::clocks::revision_now;
 use crate::dues::{Dues, Stopwatch};
 use crate::freshness::{has_mementos, is_fresh};
+use crate::jobs::original_of;
 use crate::keeping::Keeping;
 use crate::lines::{Dormancy, Greeting, Line, Matter, PeerFault, Progress, name_text};
 use crate::logs::Log;
@@ -268,6 +269,7 @@ where
     fn harvest(&self, standing: &mut Standing, merger: &mut Merger) {
         standing.dues.progress.done(self.now());
         for _ in self.rt.forever() {
+            self.take_waiting(standing, merger);
             let handed = self.hand_out(standing, merger);
             if standing.out == 0 && standing.schedule.is_over(self.now()) {
                 break;
@@ -286,13 +288,29 @@ where
         let wait = wait_until(standing.schedule.next_time(now), now);
         match self.means.pool.news(self.rt, wait) {
             News::Report(report) => {
-                standing.out = standing.out.saturating_sub(1);
-                self.take_report(standing, merger, report);
+                self.take_reported(standing, merger, report);
                 true
             }
             News::Nothing => true,
             News::Gone => false,
         }
+    }
+
+    /// Takes in the reports that wait. A job is handed out only then, since one of them may say that its archive is
+    /// busy.
+    fn take_waiting(&self, standing: &mut Standing, merger: &mut Merger) {
+        for _ in 0..self.means.pool.hands() {
+            let Some(report) = self.means.pool.waiting(self.rt) else {
+                return;
+            };
+            self.take_reported(standing, merger, report);
+        }
+    }
+
+    /// Takes in what a worker reports.
+    fn take_reported(&self, standing: &mut Standing, merger: &mut Merger, report: WalkReport<P>) {
+        standing.out = standing.out.saturating_sub(1);
+        self.take_report(standing, merger, report);
     }
 
     /// Hands out as many jobs as there are hands. Jobs that needn't be walked are passed over.
@@ -346,10 +364,17 @@ where
         }
     }
 
+    /// The job of a turn, to be handed out.
+    fn assignment(&self, turn: Turn, revision: u64) -> Option<Assignment<P>> {
+        let original = original_of(&self.settings().originals, turn)?;
+        self.terms
+            .assignment(self.alloc(), turn, original, revision)
+    }
+
     /// Gives the job of this turn to a worker. Without a worker it is walked at once.
     fn hand(&self, standing: &mut Standing, merger: &mut Merger, turn: Turn) {
         let revision = self.revision(standing);
-        let Some(assignment) = self.terms.assignment(self.alloc(), turn, revision) else {
+        let Some(assignment) = self.assignment(turn, revision) else {
             // Memory was refused, or the URL is too long.
             let _ = standing.schedule.done(turn, Verdict::Unknown, self.now());
             standing.round.add_job();
