@@ -5,6 +5,7 @@ use crate::clocks::revision_now;
 use crate::dues::{Dues, Stopwatch};
 use crate::freshness::{has_mementos, is_fresh};
 use crate::jobs::original_of;
+use crate::keeping::Keeping;
 use crate::lines::{Dormancy, Greeting, Line, Matter, PeerFault, Progress, name_text};
 use crate::logs::Log;
 use crate::means::Means;
@@ -48,6 +49,7 @@ pub(crate) struct Standing {
     /// Lasts over rounds, so that what an archive answered in one counts in the next.
     schedule: Schedule,
     dues: Dues,
+    pub(crate) keeping: Keeping,
     /// For each peer, whether it is being pulled.
     pulled: Vec<bool>,
     /// The number of the round, counted from 1.
@@ -129,6 +131,11 @@ fn has_learnt(settings: &Settings, round: Round) -> bool {
     round.harvests > 0 || round.pulls > 0 || jobs_in(settings) == 0 && settings.peers.is_empty()
 }
 
+/// Whether there may be something to do between two rounds.
+fn is_tended_between(settings: &Settings) -> bool {
+    settings.timing.pull.is_some() || settings.storing.snapshot.is_some()
+}
+
 /// How many milliseconds to wait between two rounds.
 fn pause_of(settings: &Settings) -> u64
     ensures { result ≡ settings.now.pause * 1000 }
@@ -160,6 +167,7 @@ impl Standing {
         Ok(Standing {
             schedule: schedule_of(alloc, settings)?,
             dues: Dues::new(settings, tells_more(settings), now),
+            keeping: Keeping::new(&settings.storing, now),
             pulled,
             number: 1,
             round: Round::NONE,
@@ -479,6 +487,7 @@ where
     /// Does what is due: takes in what peers gave, pulls, publishes, and tells the log how far the round is.
     fn tend(&self, standing: &mut Standing, merger: &mut Merger) {
         self.tend_peers(standing, merger);
+        self.tend_snapshot(standing, merger);
         let now = self.now();
         if standing.dues.progress.is_due(now) {
             standing.dues.progress.done(now);
@@ -509,13 +518,38 @@ where
         }
     }
 
-    /// Publishes what is pending. The gates are ready once something is shown, or nobody can be learnt from.
+    /// Publishes what is pending, and keeps it where that is due. The gates are ready once something is shown, or
+    /// nobody can be learnt from.
     fn publish(&self, standing: &mut Standing, merger: &mut Merger) {
+        let is_appended = standing.round.pending;
         standing
             .round
             .publish(self.rt, standing.number, merger, self.log);
-        if standing.round.published && has_learnt(self.settings(), standing.round) {
+        let is_published = standing.round.published;
+        if is_published && has_learnt(self.settings(), standing.round) {
             self.means.readiness.set();
+        }
+        standing.keeping.note_publish(is_appended, is_published);
+        self.tend_snapshot(standing, merger);
+    }
+
+    /// Writes a snapshot, where one is due.
+    fn tend_snapshot(&self, standing: &mut Standing, merger: &Merger) {
+        if standing.keeping.is_due(self.now()) {
+            self.keep(standing, merger);
+        }
+    }
+
+    /// Writes a snapshot, if the settings ask for one and it would have more than the last one.
+    pub(crate) fn keep(&self, standing: &mut Standing, merger: &Merger) {
+        let Some(path) = &self.settings().storing.snapshot else {
+            return;
+        };
+        if standing.keeping.is_behind() {
+            standing
+                .keeping
+                .keep(self.rt, path.as_str(), merger, self.log);
+            standing.keeping.tried(self.now());
         }
     }
 
@@ -578,10 +612,11 @@ where
         }
     }
 
-    /// Waits as long as the settings say between two rounds. Where peers are pulled, that goes on meanwhile.
+    /// Waits as long as the settings say between two rounds. Where peers are pulled and snapshots written, that goes on
+    /// meanwhile.
     pub(crate) fn wait_between(&self, standing: &mut Standing, merger: &mut Merger) {
         let pause = pause_of(self.settings());
-        if self.settings().timing.pull.is_none() {
+        if !is_tended_between(self.settings()) {
             let _ = thread::sleep(self.rt, Duration::from_millis(pause));
             return;
         }
@@ -589,6 +624,7 @@ where
             let left = pause.saturating_sub(begun).min(TICK);
             let _ = thread::sleep(self.rt, Duration::from_millis(left));
             self.tend_peers(standing, merger);
+            self.tend_snapshot(standing, merger);
         }
     }
 }
