@@ -1,5 +1,5 @@
 //! What is known is kept in a file: it is taken in before the gates answer, and written while rounds are made.
-ghost use Rattle.std.specs.Prelude.{◌≡◌, ◌×◌, ◌↔◌, ◌++◌, true, IsTrue, OnErr, OnOk, map as map_list};
+ghost use Rattle.std.specs.Prelude.{◌≡◌, ◌↔◌, ◌++◌, true, IsTrue, OnErr, OnOk, map as map_list};
 ghost use Rattle.memento_index.specs.declared.merge.Merge.TheVariants.{State as StateMerge};
 ghost use Rattle.published_index.specs.Cursors.{with_publish};
 ghost use Rattle.published_index.specs.Events.{RunsAsEvents};
