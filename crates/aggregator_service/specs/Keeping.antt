@@ -17,8 +17,8 @@ pub record TakesSome (m : MergerView) (states : List Entries) (n : MergerView) :
   pub split : states ≡ taken ++ left
   pub merger : n ≡ with_states m taken
 
--- Whatever a start finds, it adds states and takes nothing away: all states of a snapshot are published as one batch; or
--- nothing is published, and the first few of them may be pending.
+-- Whatever a start finds, it adds states and takes nothing away: all states of a snapshot are published as one batch;
+-- or nothing is published, and the first few of them may be pending.
 abbrev pub Starts : MergerView → MergerView → Type 0
 Starts m n = (states : List Entries) × ((n ≡ with_publish (with_states m states)) ⊎ TakesSome m states n)
 
