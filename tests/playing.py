@@ -368,7 +368,7 @@ class Service:
         return get(self.ports[gate], target, **headers)
 
     def shows(self, original=ORIGINAL, gate=0):
-        """The memento that the TimeGate leads to; None where it has none, and its status where it says something else."""
+        """The memento that the TimeGate leads to; None if it has none, and its status if it says something else."""
         status, where, _ = self.get("/timegate/" + original, gate)
         return {302: where, 404: None}.get(status, status)
 
