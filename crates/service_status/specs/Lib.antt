@@ -5,3 +5,5 @@ pub mod Counts
 pub mod Samples
 pub mod Replies
 pub mod Examples
+pub mod Events
+pub mod Memory

@@ -82,17 +82,17 @@ samples_of s metric.Rounds = alone s.rounds
 samples_of s metric.RoundJobs = alone s.round.jobs
 samples_of s metric.RoundDone = alone s.round.done
 samples_of s metric.RoundPassed = alone s.round.passed
-samples_of s metric.Walks = flat_map walks_of s.archives
-samples_of s metric.WalkSeconds = map seconds_of s.archives
-samples_of s metric.DormantUntil = map dormant_of s.archives
+samples_of s metric.Walks = flat_map walks_of s.archives.items
+samples_of s metric.WalkSeconds = map seconds_of s.archives.items
+samples_of s metric.DormantUntil = map dormant_of s.archives.items
 samples_of s metric.Publishes = publishes_of s.publishes
 samples_of s metric.LastPublish = alone s.publishes.last
-samples_of s metric.Pulls = flat_map pulls_of s.peers
-samples_of s metric.LastDelta = map last_of s.peers
+samples_of s metric.Pulls = flat_map pulls_of s.peers.items
+samples_of s metric.LastDelta = map last_of s.peers.items
 samples_of s metric.Entries = alone s.known.entries
 samples_of s metric.Mementos = alone s.known.mementos
 samples_of s metric.Resident = if_known s.resident
-samples_of s metric.Replies = flat_map replies_of s.gates
+samples_of s metric.Replies = flat_map replies_of s.gates.items
 samples_of s metric.Wishes = wish_samples s.wishes
 
 -- the lines of samples

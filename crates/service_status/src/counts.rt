@@ -183,6 +183,16 @@ pub struct ReplyCounts {
 }
 
 impl ReplyCounts {
+    pub const NONE: ReplyCounts = ReplyCounts {
+        ok: 0,
+        found: 0,
+        bad: 0,
+        absent: 0,
+        method: 0,
+        refused: 0,
+        other: 0,
+    };
+
     /// Each status, and how many replies have it.
     #[tactic(auto, unfolding(crate::specs::Counts::reply_rows))]
     pub(crate) fn rows(self) -> [(&'static str, u64); 7]

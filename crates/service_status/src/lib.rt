@@ -7,14 +7,21 @@
 //! takes no lock.
 #![tactic(auto)]
 
+mod board;
+mod counters;
 mod counts;
+mod gates;
 mod laws;
+mod memory;
 mod metrics;
 mod replies;
 mod status;
 mod writing;
 
+pub use board::StatusBoard;
+pub use counters::ReplyCounter;
 pub use counts::{PullCounts, PullEnd, ReplyCounts, WalkCounts, WalkEnd, WishCounts};
+pub use gates::{CountingGate, StatusGate};
 pub use laws::{samples_are_read_back, texts_by_example};
 pub use metrics::Metric;
 pub use replies::reply_to;

@@ -1,6 +1,9 @@
 //! What a service tells of itself.
-use crate::counts::{PullCounts, ReplyCounts, WalkCounts, WishCounts};
-use memento_time::{ArchiveName, Clean, Items};
+ghost use Rattle.std.specs.Prelude.{◌≡◌};
+ghost use Rattle.service_status.specs.Events.{walked, pulled, published, refused};
+
+use crate::counts::{PullCounts, PullEnd, ReplyCounts, WalkCounts, WalkEnd, WishCounts};
+use memento_time::{ArchiveName, Clean};
 
 /// How far a round is.
 #[derive(Clone, Copy, Debug, PartialEq, Eq)]
@@ -22,6 +25,23 @@ pub struct PublishStatus {
     pub last: u64,
 }
 
+impl PublishStatus {
+    /// Counts a publish in this second.
+    pub fn add(&mut self, second: u64)
+        ensures { self.new ≡ published second self.old }
+    {
+        self.published = self.published.saturating_add(1);
+        self.last = second;
+    }
+
+    /// Counts a publish for which memory was refused.
+    pub fn add_refused(&mut self)
+        ensures { self.new ≡ refused self.old }
+    {
+        self.refused = self.refused.saturating_add(1);
+    }
+}
+
 /// How much is known.
 #[derive(Clone, Copy, Debug, PartialEq, Eq)]
 pub struct KnownStatus {
@@ -41,6 +61,16 @@ pub struct ArchiveStatus {
     pub dormant_until: u64,
 }
 
+impl ArchiveStatus {
+    /// Counts a walk that ended so, and took so many seconds.
+    pub fn add_walk(&mut self, end: WalkEnd, seconds: u64)
+        ensures { self.new ≡ walked end seconds self.old }
+    {
+        self.walks.add(end);
+        self.seconds = self.seconds.saturating_add(seconds);
+    }
+}
+
 /// What is told of a peer.
 #[derive(Debug, Drop)]
 pub struct PeerStatus {
@@ -48,6 +78,18 @@ pub struct PeerStatus {
     pub pulls: PullCounts,
     /// The second in which it gave a delta last; 0 before.
     pub last: u64,
+}
+
+impl PeerStatus {
+    /// Counts a pull that ended so in this second.
+    pub fn add_pull(&mut self, end: PullEnd, second: u64)
+        ensures { self.new ≡ pulled end second self.old }
+    {
+        self.pulls.add(end);
+        if matches!(end, PullEnd::News | PullEnd::NoNews) {
+            self.last = second;
+        }
+    }
 }
 
 /// What is told of a gate.
@@ -72,9 +114,9 @@ pub struct Status {
     pub known: KnownStatus,
     /// The bytes of memory that the process holds, if they are known.
     pub resident: Option<u64>,
-    pub archives: Items<ArchiveStatus>,
-    pub peers: Items<PeerStatus>,
-    pub gates: Items<GateStatus>,
+    pub archives: Vec<ArchiveStatus>,
+    pub peers: Vec<PeerStatus>,
+    pub gates: Vec<GateStatus>,
     /// `None` if no wishes are taken.
     pub wishes: Option<WishCounts>,
 }
