@@ -1,5 +1,5 @@
 //! The gate of the status' address, and gates whose replies are counted.
-ghost use Rattle.std.specs.Prelude.{◌≡◌, ⊥, IfOk, Err};
+ghost use Rattle.std.specs.Prelude.{◌≡◌, IfOk, Err};
 ghost use Rattle.service_status.specs.Replies.{IsStatusReply};
 
 use crate::board::StatusBoard;
@@ -68,7 +68,6 @@ impl<R: Clock + Files + Wait + AllocGlobal + Drop> StatusGate<R> {
 }
 
 impl<R: Clock + Files + Wait + AllocGlobal + Drop> Answers for StatusGate<R> {
-    ghost use Rattle.std.specs.Prelude.{⊥};
     ghost use Rattle.service_status.specs.Replies.{IsStatusReply};
 
     ghost replies = { IsStatusReply };
