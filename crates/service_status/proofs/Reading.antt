@@ -6,11 +6,10 @@ use Rattle.std.specs.Fmt.{decimal}
 use Rattle.std.proofs.lemmas.Bool.{true≢false}
 use Rattle.std.proofs.lemmas.Bool.Decides.{Decides-eqb}
 use Rattle.std.proofs.lemmas.Fmt.{decimal_injective}
-use Rattle.std.proofs.lemmas.List.{append-nil}
 use Rattle.std.proofs.lemmas.List.Elements.{All-head, All-tail}
 use Rattle.text_fields.proofs.DecimalLemmas.{decimal_lacks}
 use Rattle.text_fields.proofs.PartLemmas.{one_split}
-use Rattle.service_status.specs.Exposition.{escaped_byte, escaped, Label, label_text, labels_text, value_text, Sample, sample_line, is_name_byte, IsName, IsSample, AreReadBack}
+use Rattle.service_status.specs.Exposition.{escaped_byte, escaped, Label, label_text, labels_text, value_text, Sample, sample_line, is_name_byte, IsName, AreReadBack}
 
 -- a byte before what a value has
 abbrev with_byte : ℕ → List ℕ × List ℕ → List ℕ × List ℕ

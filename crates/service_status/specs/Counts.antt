@@ -1,5 +1,5 @@
 -- What is counted by how it ended: one more of it, and the counts as rows of a word and a number.
-use Rattle.std.specs.Prelude.{ℕ, ◌+◌, ◌-◌, ◌^◌, min, List, [], ◌∷◌, codes, if◌then◌else◌, ◌==◌}
+use Rattle.std.specs.Prelude.{ℕ, ◌+◌, ◌-◌, ◌^◌, min, List, [], ◌∷◌, codes}
 use Rattle.service_status.specs.declared.counts.WalkEnd.{WalkEnd}
 use Rattle.service_status.specs.declared.counts.WalkEnd.TheVariants as walk
 use Rattle.service_status.specs.declared.counts.WalkCounts.{WalkCounts}

@@ -1,5 +1,5 @@
 -- The labels that the code passes, as the format has them.
-use Rattle.std.specs.Prelude.{ℕ, List, [], ◌∷◌, ◌++◌, Option, None, Some}
+use Rattle.std.specs.Prelude.{List, [], ◌∷◌, ◌++◌, Option, None, Some}
 use Rattle.service_status.specs.declared.writing.Label.{Label}
 use Rattle.service_status.specs.Exposition as exposition
 

@@ -1,7 +1,6 @@
 -- What a status tells, as the samples of each metric and as one text.
-use Rattle.std.specs.Prelude.{ℕ, Bool, true, false, List, [], ◌∷◌, ◌++◌, map, flat_map, codes, Option, None, Some, if◌then◌else◌}
+use Rattle.std.specs.Prelude.{ℕ, Bool, true, false, List, [], ◌∷◌, ◌++◌, map, flat_map, codes, Option, None, Some}
 use Rattle.std.specs.Fmt.{decimal}
-use Rattle.service_status.specs.declared.counts.ReplyCounts.{ReplyCounts}
 use Rattle.service_status.specs.declared.counts.WishCounts.{WishCounts}
 use Rattle.service_status.specs.declared.metrics.Metric.{Metric}
 use Rattle.service_status.specs.declared.metrics.Metric.TheVariants as metric

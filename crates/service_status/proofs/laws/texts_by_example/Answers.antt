@@ -1,10 +1,6 @@
-use Rattle.std.proofs.Common.{ℕ, Bool, refl, ap}
+use Rattle.std.proofs.Common.{refl}
 use Rattle.std.specs.Fmt.{digits}
-use Rattle.service_status.specs.declared.metrics.Metric.TheVariants as metric
-use Rattle.service_status.specs.declared.status.PublishStatus.{PublishStatus}
 use Rattle.service_status.specs.Metrics.{name_of, help_of, kind_of}
-use Rattle.service_status.specs.Samples.{alone, lines_of, publishes_of}
-use Rattle.service_status.specs.Exposition.{help_line, type_line}
 use Rattle.service_status.specs.Replies.{reply_of}
 use Rattle.service_status.proofs.laws.texts_by_example.Goals as goal
 
