@@ -5,6 +5,8 @@ use Rattle.harvester.specs.Faults.{walk_words}
 use Rattle.hyper_edge.specs.Faults.{edge_words, pull_words}
 use Rattle.published_index.specs.Faults.{refused_words}
 use Rattle.replica_exchange.specs.CursorRule as rule
+use Rattle.snapshots.specs.Faults.{words_of as unread_words}
+use Rattle.snapshots.specs.declared.faults.WriteFault.TheVariants as unwritten
 use Rattle.aggregator_service.specs.Notes.{counts_words}
 use Rattle.aggregator_service.specs.declared.lines.PeerFault.{PeerFault}
 use Rattle.aggregator_service.specs.declared.lines.PeerFault.TheVariants.{Pull, Take}
@@ -19,10 +21,12 @@ use Rattle.aggregator_service.specs.declared.lines.Progress.{Progress}
 use Rattle.aggregator_service.specs.declared.lines.Greeting.{Greeting}
 use Rattle.aggregator_service.specs.declared.lines.Want.{Want}
 use Rattle.aggregator_service.specs.declared.lines.Want.TheVariants as want
+use Rattle.aggregator_service.specs.declared.lines.SnapshotEnd.{SnapshotEnd}
+use Rattle.aggregator_service.specs.declared.lines.SnapshotEnd.TheVariants.{TakenIn, Aside, Unread, Unwritten}
 use Rattle.aggregator_service.specs.declared.lines.GateEnd.{GateEnd}
 use Rattle.aggregator_service.specs.declared.lines.GateEnd.TheVariants as end
 use Rattle.aggregator_service.specs.declared.lines.Line.{Line}
-use Rattle.aggregator_service.specs.declared.lines.Line.TheVariants.{Archive, Wanting, Peer, Unpublished, Output, Gate, Start}
+use Rattle.aggregator_service.specs.declared.lines.Line.TheVariants.{Archive, Wanting, Peer, Unpublished, Output, Gate, Start, Snapshot}
 use Rattle.aggregator_service.specs.declared.lines.Line.TheVariants.{Progress as Goes}
 
 -- why a peer brought nothing
@@ -77,6 +81,15 @@ abbrev pub want_words : Want → List ℕ
 want_words want.Walks = codes "walks not begun: no memory"
 want_words want.Harvests = codes "harvests not kept: no memory"
 
+-- what became of a snapshot
+abbrev pub snapshot_words : SnapshotEnd → List ℕ
+snapshot_words TakenIn = codes "taken in"
+snapshot_words (Aside fault) = unread_words fault ++ codes ", and set aside"
+snapshot_words (Unread fault) = unread_words fault ++ codes ", and not set aside"
+snapshot_words (Unwritten unwritten.NotWritten) = codes "not written"
+snapshot_words (Unwritten unwritten.TooLong) = codes "not written: too long"
+snapshot_words (Unwritten unwritten.NoMemory) = codes "not written: no memory"
+
 -- how a gate ended
 abbrev pub end_words : GateEnd → List ℕ
 end_words end.Served = codes "its last connection is served"
@@ -93,6 +106,7 @@ line_words (Peer round base fault) =
 line_words (Unpublished round fault) = codes "round " ++ decimal round ++ codes ": " ++ refused_words
 line_words (Goes round progress) = codes "round " ++ decimal round ++ codes ": " ++ progress_words progress
 line_words (Start greeting) = codes "start: " ++ greeting_words greeting
+line_words (Snapshot end) = codes "snapshot: " ++ snapshot_words end
 line_words Output = codes "standard output fails: no further round is made"
 line_words (Gate number address end) =
     codes "gate " ++ decimal number ++ codes " (" ++ address.now ++ codes ") ended: " ++ end_words end

@@ -10,6 +10,7 @@ mod dues;
 mod freshness;
 mod gates;
 mod jobs;
+mod keeping;
 mod laws;
 mod lines;
 mod logs;

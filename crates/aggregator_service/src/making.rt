@@ -4,6 +4,8 @@ ghost use Rattle.std.specs.Prelude.{◌≡◌, ◌*◌, ◌≤◌, IfSome, None}
 use crate::clocks::revision_now;
 use crate::dues::{Dues, Stopwatch};
 use crate::freshness::{has_mementos, is_fresh};
+use crate::jobs::original_of;
+use crate::keeping::Keeping;
 use crate::lines::{Dormancy, Greeting, Line, Matter, PeerFault, Progress, name_text};
 use crate::logs::Log;
 use crate::means::Means;
@@ -47,6 +49,7 @@ pub(crate) struct Standing {
     /// Lasts over rounds, so that what an archive answered in one counts in the next.
     schedule: Schedule,
     dues: Dues,
+    pub(crate) keeping: Keeping,
     /// For each peer, whether it is being pulled.
     pulled: Vec<bool>,
     /// The number of the round, counted from 1.
@@ -128,6 +131,11 @@ fn has_learnt(settings: &Settings, round: Round) -> bool {
     round.harvests > 0 || round.pulls > 0 || jobs_in(settings) == 0 && settings.peers.is_empty()
 }
 
+/// Whether there may be something to do between two rounds.
+fn is_tended_between(settings: &Settings) -> bool {
+    settings.timing.pull.is_some() || settings.storing.snapshot.is_some()
+}
+
 /// How many milliseconds to wait between two rounds.
 fn pause_of(settings: &Settings) -> u64
     ensures { result ≡ settings.now.pause * 1000 }
@@ -159,6 +167,7 @@ impl Standing {
         Ok(Standing {
             schedule: schedule_of(alloc, settings)?,
             dues: Dues::new(settings, tells_more(settings), now),
+            keeping: Keeping::new(&settings.storing, now),
             pulled,
             number: 1,
             round: Round::NONE,
@@ -260,6 +269,7 @@ where
     fn harvest(&self, standing: &mut Standing, merger: &mut Merger) {
         standing.dues.progress.done(self.now());
         for _ in self.rt.forever() {
+            self.take_waiting(standing, merger);
             let handed = self.hand_out(standing, merger);
             if standing.out == 0 && standing.schedule.is_over(self.now()) {
                 break;
@@ -278,13 +288,29 @@ where
         let wait = wait_until(standing.schedule.next_time(now), now);
         match self.means.pool.news(self.rt, wait) {
             News::Report(report) => {
-                standing.out = standing.out.saturating_sub(1);
-                self.take_report(standing, merger, report);
+                self.take_reported(standing, merger, report);
                 true
             }
             News::Nothing => true,
             News::Gone => false,
         }
+    }
+
+    /// Takes in the reports that wait. A job is handed out only then, since one of them may say that its archive is
+    /// busy.
+    fn take_waiting(&self, standing: &mut Standing, merger: &mut Merger) {
+        for _ in 0..self.means.pool.hands() {
+            let Some(report) = self.means.pool.waiting(self.rt) else {
+                return;
+            };
+            self.take_reported(standing, merger, report);
+        }
+    }
+
+    /// Takes in what a worker reports.
+    fn take_reported(&self, standing: &mut Standing, merger: &mut Merger, report: WalkReport<P>) {
+        standing.out = standing.out.saturating_sub(1);
+        self.take_report(standing, merger, report);
     }
 
     /// Hands out as many jobs as there are hands. Jobs that needn't be walked are passed over.
@@ -338,10 +364,17 @@ where
         }
     }
 
+    /// The job of a turn, to be handed out.
+    fn assignment(&self, turn: Turn, revision: u64) -> Option<Assignment<P>> {
+        let original = original_of(&self.settings().originals, turn)?;
+        self.terms
+            .assignment(self.alloc(), turn, original, revision)
+    }
+
     /// Gives the job of this turn to a worker. Without a worker it is walked at once.
     fn hand(&self, standing: &mut Standing, merger: &mut Merger, turn: Turn) {
         let revision = self.revision(standing);
-        let Some(assignment) = self.terms.assignment(self.alloc(), turn, revision) else {
+        let Some(assignment) = self.assignment(turn, revision) else {
             // Memory was refused, or the URL is too long.
             let _ = standing.schedule.done(turn, Verdict::Unknown, self.now());
             standing.round.add_job();
@@ -454,6 +487,7 @@ where
     /// Does what is due: takes in what peers gave, pulls, publishes, and tells the log how far the round is.
     fn tend(&self, standing: &mut Standing, merger: &mut Merger) {
         self.tend_peers(standing, merger);
+        self.tend_snapshot(standing, merger);
         let now = self.now();
         if standing.dues.progress.is_due(now) {
             standing.dues.progress.done(now);
@@ -484,13 +518,38 @@ where
         }
     }
 
-    /// Publishes what is pending. The gates are ready once something is shown, or nobody can be learnt from.
+    /// Publishes what is pending, and keeps it where that is due. The gates are ready once something is shown, or
+    /// nobody can be learnt from.
     fn publish(&self, standing: &mut Standing, merger: &mut Merger) {
+        let is_appended = standing.round.pending;
         standing
             .round
             .publish(self.rt, standing.number, merger, self.log);
-        if standing.round.published && has_learnt(self.settings(), standing.round) {
+        let is_published = standing.round.published;
+        if is_published && has_learnt(self.settings(), standing.round) {
             self.means.readiness.set();
+        }
+        standing.keeping.note_publish(is_appended, is_published);
+        self.tend_snapshot(standing, merger);
+    }
+
+    /// Writes a snapshot, where one is due.
+    fn tend_snapshot(&self, standing: &mut Standing, merger: &Merger) {
+        if standing.keeping.is_due(self.now()) {
+            self.keep(standing, merger);
+        }
+    }
+
+    /// Writes a snapshot, if the settings ask for one and it would have more than the last one.
+    pub(crate) fn keep(&self, standing: &mut Standing, merger: &Merger) {
+        let Some(path) = &self.settings().storing.snapshot else {
+            return;
+        };
+        if standing.keeping.is_behind() {
+            standing
+                .keeping
+                .keep(self.rt, path.as_str(), merger, self.log);
+            standing.keeping.tried(self.now());
         }
     }
 
@@ -553,10 +612,11 @@ where
         }
     }
 
-    /// Waits as long as the settings say between two rounds. Where peers are pulled, that goes on meanwhile.
+    /// Waits as long as the settings say between two rounds. Where peers are pulled and snapshots written, that goes on
+    /// meanwhile.
     pub(crate) fn wait_between(&self, standing: &mut Standing, merger: &mut Merger) {
         let pause = pause_of(self.settings());
-        if self.settings().timing.pull.is_none() {
+        if !is_tended_between(self.settings()) {
             let _ = thread::sleep(self.rt, Duration::from_millis(pause));
             return;
         }
@@ -564,6 +624,7 @@ where
             let left = pause.saturating_sub(begun).min(TICK);
             let _ = thread::sleep(self.rt, Duration::from_millis(left));
             self.tend_peers(standing, merger);
+            self.tend_snapshot(standing, merger);
         }
     }
 }

@@ -25,6 +25,7 @@ use std::io::{self, Write};
 use std::marker::Brand;
 use std::net::{Net, SocketAddr, TcpListener, TcpStream};
 use std::random::RandomSource;
+use std::rt::Files;
 use std::sync::{Arc, Wait};
 use std::thread::Threads;
 use std::time::Clock;
@@ -96,6 +97,7 @@ where
         + Clock
         + Net<Listener = TcpListener, Stream = TcpStream>
         + RandomSource
+        + Files
         + AllocGlobal
         + Sync
         + Send
@@ -144,8 +146,13 @@ where
 {
     let terms: Terms<P> = Terms::new(Arc::try_clone(settings)?);
     let mut means = Means::new(rt.alloc(), terms.settings())?;
+    let mut standing = Standing::new(rt.alloc(), terms.settings(), 0)?;
+    if let Some(path) = &terms.settings().storing.snapshot {
+        if standing.keeping.take_in(rt, path.as_str(), merger, log) {
+            means.readiness.set();
+        }
+    }
     let watch = Stopwatch::start(rt);
-    let mut standing = Standing::new(rt.alloc(), terms.settings(), watch.now(rt))?;
     let doors = open_doors(rt, terms.settings(), gates, &means.readiness, log)?;
     let said = say_ports(&doors, terms.settings(), out);
     let made = match said {
@@ -158,7 +165,10 @@ where
                 watch,
                 log,
             };
-            make_all(&rounds, &mut standing, merger, out)
+            let made = make_all(&rounds, &mut standing, merger, out);
+            // From now on nothing changes.
+            rounds.keep(&mut standing, merger);
+            made
         }
         Err(fault) => Err(fault),
     };
