@@ -17,6 +17,7 @@ one_more n = min (n + 1) (2 ^ 64 - 1)
 abbrev pub with_walk : WalkEnd → WalkCounts → WalkCounts
 with_walk walk.Whole c = record c { whole = one_more c.whole }
 with_walk walk.Part c = record c { part = one_more c.part }
+with_walk walk.Busy c = record c { busy = one_more c.busy }
 with_walk walk.NoAnswer c = record c { no_answer = one_more c.no_answer }
 with_walk walk.TooLong c = record c { too_long = one_more c.too_long }
 with_walk walk.Status c = record c { status = one_more c.status }
@@ -42,7 +43,8 @@ Row = List ℕ × ℕ
 
 unfoldable pub walk_rows : WalkCounts → List Row
 walk_rows c =
-    (codes "whole", c.whole) ∷ (codes "part", c.part) ∷ (codes "no_answer", c.no_answer) ∷ (codes "too_long", c.too_long)
+    (codes "whole", c.whole) ∷ (codes "part", c.part) ∷ (codes "busy", c.busy) ∷ (codes "no_answer", c.no_answer)
+    ∷ (codes "too_long", c.too_long)
     ∷ (codes "status", c.status) ∷ (codes "encoded", c.encoded) ∷ (codes "no_page", c.no_page)
     ∷ (codes "too_many_pages", c.too_many_pages) ∷ (codes "too_many_mementos", c.too_many_mementos)
     ∷ (codes "no_memory", c.no_memory) ∷ []

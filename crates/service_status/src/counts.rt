@@ -9,6 +9,8 @@ pub enum WalkEnd {
     Whole,
     /// With a harvest in part.
     Part,
+    /// The archive was busy, and asked to be left alone.
+    Busy,
     NoAnswer,
     /// The body is too long.
     TooLong,
@@ -28,6 +30,7 @@ pub enum WalkEnd {
 pub struct WalkCounts {
     pub whole: u64,
     pub part: u64,
+    pub busy: u64,
     pub no_answer: u64,
     pub too_long: u64,
     pub status: u64,
@@ -42,6 +45,7 @@ impl WalkCounts {
     pub const NONE: WalkCounts = WalkCounts {
         whole: 0,
         part: 0,
+        busy: 0,
         no_answer: 0,
         too_long: 0,
         status: 0,
@@ -59,6 +63,7 @@ impl WalkCounts {
         match end {
             WalkEnd::Whole => self.whole = self.whole.saturating_add(1),
             WalkEnd::Part => self.part = self.part.saturating_add(1),
+            WalkEnd::Busy => self.busy = self.busy.saturating_add(1),
             WalkEnd::NoAnswer => self.no_answer = self.no_answer.saturating_add(1),
             WalkEnd::TooLong => self.too_long = self.too_long.saturating_add(1),
             WalkEnd::Status => self.status = self.status.saturating_add(1),
@@ -74,12 +79,13 @@ impl WalkCounts {
 
     /// A word for each way, and how many walks ended so.
     #[tactic(auto, unfolding(crate::specs::Counts::walk_rows))]
-    pub(crate) fn rows(self) -> [(&'static str, u64); 10]
+    pub(crate) fn rows(self) -> [(&'static str, u64); 11]
         ensures { map (λ row. (row.0.now, row.1)) result ≡ walk_rows self }
     {
         [
             ("whole", self.whole),
             ("part", self.part),
+            ("busy", self.busy),
             ("no_answer", self.no_answer),
             ("too_long", self.too_long),
             ("status", self.status),
