@@ -26,6 +26,7 @@ mod runtimes;
 mod serving;
 mod settings;
 mod terms;
+mod watching;
 
 pub use laws::limits_by_example;
 pub use serving::{ServeFault, serve_settings};
