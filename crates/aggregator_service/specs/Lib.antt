@@ -8,3 +8,4 @@ pub mod Logs
 pub mod Notes
 pub mod Pulls
 pub mod Reasons
+pub mod Wishes

@@ -6,12 +6,15 @@
 #![tactic(auto)]
 
 mod clocks;
+mod desks;
 mod dues;
 mod freshness;
 mod gates;
+mod granting;
 mod jobs;
 mod laws;
 mod lines;
+mod listing;
 mod logs;
 mod making;
 mod means;
@@ -25,6 +28,7 @@ mod runtimes;
 mod serving;
 mod settings;
 mod terms;
+mod wished;
 
 pub use laws::limits_by_example;
 pub use serving::{ServeFault, serve_settings};
