@@ -1,6 +1,7 @@
 pub mod Dues
 pub mod Freshness
 pub mod Jobs
+pub mod Keeping
 pub mod Keys
 pub mod Limits
 pub mod Lines

@@ -5,6 +5,8 @@ use Rattle.harvester.specs.Faults.{walk_words}
 use Rattle.hyper_edge.specs.Faults.{edge_words, pull_words}
 use Rattle.published_index.specs.Faults.{refused_words}
 use Rattle.replica_exchange.specs.CursorRule as rule
+use Rattle.snapshots.specs.Faults.{words_of as unread_words}
+use Rattle.snapshots.specs.declared.faults.WriteFault.TheVariants as unwritten
 use Rattle.aggregator_service.specs.Notes.{counts_words}
 use Rattle.aggregator_service.specs.declared.lines.PeerFault.{PeerFault}
 use Rattle.aggregator_service.specs.declared.lines.PeerFault.TheVariants.{Pull, Take}
@@ -19,10 +21,12 @@ use Rattle.aggregator_service.specs.declared.lines.Progress.{Progress}
 use Rattle.aggregator_service.specs.declared.lines.Greeting.{Greeting}
 use Rattle.aggregator_service.specs.declared.lines.Want.{Want}
 use Rattle.aggregator_service.specs.declared.lines.Want.TheVariants as want
+use Rattle.aggregator_service.specs.declared.lines.SnapshotEnd.{SnapshotEnd}
+use Rattle.aggregator_service.specs.declared.lines.SnapshotEnd.TheVariants.{TakenIn, Aside, Unread, Unwritten}
 use Rattle.aggregator_service.specs.declared.lines.GateEnd.{GateEnd}
 use Rattle.aggregator_service.specs.declared.lines.GateEnd.TheVariants as end
 use Rattle.aggregator_service.specs.declared.lines.Line.{Line}
-use Rattle.aggregator_service.specs.declared.lines.Line.TheVariants.{Archive, Wanting, Peer, Unpublished, Output, Gate, Start}
+use Rattle.aggregator_service.specs.declared.lines.Line.TheVariants.{Archive, Wanting, Peer, Unpublished, Output, Gate, Start, Snapshot}
 use Rattle.aggregator_service.specs.declared.lines.Line.TheVariants.{Progress as Goes, Wishes, List as Of_list}
 use Rattle.aggregator_service.specs.declared.lines.ListMatter.{ListMatter}
 use Rattle.aggregator_service.specs.declared.lines.ListMatter.TheVariants.{Bad, More, Unread, NoMemory}
@@ -92,6 +96,15 @@ list_words (More count) = decimal count ++ codes " more lines are no originals"
 list_words Unread = codes "not read: the originals of before stay"
 list_words NoMemory = codes "no memory: the originals of before stay"
 
+-- what became of a snapshot
+abbrev pub snapshot_words : SnapshotEnd → List ℕ
+snapshot_words TakenIn = codes "taken in"
+snapshot_words (Aside fault) = unread_words fault ++ codes ", and set aside"
+snapshot_words (Unread fault) = unread_words fault ++ codes ", and not set aside"
+snapshot_words (Unwritten unwritten.NotWritten) = codes "not written"
+snapshot_words (Unwritten unwritten.TooLong) = codes "not written: too long"
+snapshot_words (Unwritten unwritten.NoMemory) = codes "not written: no memory"
+
 -- how a gate ended
 abbrev pub end_words : GateEnd → List ℕ
 end_words end.Served = codes "its last connection is served"
@@ -110,6 +123,7 @@ line_words (Goes round progress) = codes "round " ++ decimal round ++ codes ": "
 line_words (Start greeting) = codes "start: " ++ greeting_words greeting
 line_words (Wishes counts) = codes "wishes: " ++ wish_words counts
 line_words (Of_list round matter) = codes "round " ++ decimal round ++ codes ": list: " ++ list_words matter
+line_words (Snapshot end) = codes "snapshot: " ++ snapshot_words end
 line_words Output = codes "standard output fails: no further round is made"
 line_words (Gate number address end) =
     codes "gate " ++ decimal number ++ codes " (" ++ address.now ++ codes ") ended: " ++ end_words end

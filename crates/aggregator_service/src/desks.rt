@@ -171,6 +171,11 @@ impl Desk {
         }
     }
 
+    /// Whether wishes brought something that isn't published.
+    pub(crate) fn has_pending(&self) -> bool {
+        self.due.is_some()
+    }
+
     /// Whether what wishes brought is to be published now.
     pub(crate) fn is_due(&self, now: u64) -> bool {
         matches!(self.due, Some(due) if due <= now)

@@ -12,6 +12,7 @@ mod freshness;
 mod gates;
 mod granting;
 mod jobs;
+mod keeping;
 mod laws;
 mod lines;
 mod listing;

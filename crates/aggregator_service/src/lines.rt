@@ -1,7 +1,7 @@
 //! The lines of the log.
 ghost use Rattle.std.specs.Prelude.{◌≡◌, Some};
 ghost use Rattle.aggregator_service.specs.Logs.{cause_words, end_words, line_words, matter_words, peer_words, want_words};
-ghost use Rattle.aggregator_service.specs.Logs.{dormancy_words, greeting_words, progress_words, reason_words};
+ghost use Rattle.aggregator_service.specs.Logs.{dormancy_words, greeting_words, progress_words, reason_words, snapshot_words};
 ghost use Rattle.aggregator_service.specs.Logs.{list_words, wish_words};
 
 use crate::desks::WishCounts;
@@ -11,6 +11,7 @@ use hyper_edge::{EdgeFault, PullFault};
 use memento_time::ArchiveName;
 use published_index::PublishRefused;
 use replica_exchange::TakeFault;
+use snapshots::{ReadFault, WriteFault};
 use std::fmt;
 
 /// Why a peer brought nothing in a round.
@@ -257,6 +258,34 @@ impl fmt::Display for GateEnd {
     }
 }
 
+/// What became of a snapshot.
+#[derive(Clone, Copy, Debug, PartialEq, Eq)]
+pub(crate) enum SnapshotEnd {
+    /// It was taken in at the start.
+    TakenIn,
+    /// It couldn't be taken in, and was set aside.
+    Aside(ReadFault),
+    /// It couldn't be taken in, and not be set aside either.
+    Unread(ReadFault),
+    /// None was written.
+    Unwritten(WriteFault),
+}
+
+impl fmt::Display for SnapshotEnd {
+    ghost output = { λ end. Some (snapshot_words end) };
+
+    fn fmt<W: fmt::Write>(&self, f: &mut fmt::Formatter<W>) -> fmt::Result {
+        match *self {
+            SnapshotEnd::TakenIn => f.write_str("taken in"),
+            SnapshotEnd::Aside(fault) => write!(f, "{fault}, and set aside"),
+            SnapshotEnd::Unread(fault) => write!(f, "{fault}, and not set aside"),
+            SnapshotEnd::Unwritten(WriteFault::NotWritten) => f.write_str("not written"),
+            SnapshotEnd::Unwritten(WriteFault::TooLong) => f.write_str("not written: too long"),
+            SnapshotEnd::Unwritten(WriteFault::NoMemory) => f.write_str("not written: no memory"),
+        }
+    }
+}
+
 /// What went wrong, each as one line.
 #[derive(Clone, Copy)]
 pub(crate) enum Line<'a> {
@@ -297,6 +326,8 @@ pub(crate) enum Line<'a> {
         round: u64,
         matter: ListMatter,
     },
+    /// A snapshot was read, or none was written.
+    Snapshot(SnapshotEnd),
     /// Standard output can't be written.
     Output,
     /// The gate with this number ended.
@@ -324,6 +355,7 @@ impl<'a> fmt::Display for Line<'a> {
             Line::Start(greeting) => write!(f, "start: {greeting}"),
             Line::Wishes(counts) => write!(f, "wishes: {counts}"),
             Line::List { round, matter } => write!(f, "round {round}: list: {matter}"),
+            Line::Snapshot(end) => write!(f, "snapshot: {end}"),
             Line::Output => f.write_str("standard output fails: no further round is made"),
             Line::Gate {
                 number,

@@ -6,6 +6,7 @@ use crate::desks::Desk;
 use crate::dues::{Dues, Stopwatch};
 use crate::freshness::{has_mementos, is_fresh};
 use crate::jobs::original_of;
+use crate::keeping::Keeping;
 use crate::lines::{Dormancy, Greeting, Line, Matter, PeerFault, Progress, name_text};
 use crate::listing::Listing;
 use crate::logs::Log;
@@ -54,6 +55,7 @@ pub(crate) struct Standing {
     /// Lasts over rounds, so that what an archive answered in one counts in the next.
     pub(crate) schedule: Schedule,
     dues: Dues,
+    pub(crate) keeping: Keeping,
     /// For each peer, whether it is being pulled.
     pulled: Vec<bool>,
     /// The number of the round, counted from 1.
@@ -144,6 +146,11 @@ fn has_learnt(settings: &Settings, round: Round, jobs: u64) -> bool {
     round.harvests > 0 || round.pulls > 0 || jobs == 0 && settings.peers.is_empty()
 }
 
+/// Whether there may be something to do between two rounds.
+fn is_tended_between(settings: &Settings) -> bool {
+    settings.timing.pull.is_some() || settings.storing.snapshot.is_some()
+}
+
 /// How many milliseconds to wait between two rounds.
 fn pause_of(settings: &Settings) -> u64
     ensures { result ≡ settings.now.pause * 1000 }
@@ -183,6 +190,7 @@ impl Standing {
         Ok(Standing {
             schedule: schedule_of(alloc, settings)?,
             dues: Dues::new(settings, tells_more(settings), now),
+            keeping: Keeping::new(&settings.storing, now),
             pulled,
             number: 1,
             round: Round::NONE,
@@ -307,6 +315,7 @@ where
         }
         self.tend_peers(standing, merger);
         self.tend_wishes(standing, merger);
+        self.tend_snapshot(standing, merger);
         let waited = if heard == Heard::Report { 0 } else { wait };
         self.now().saturating_sub(begun).max(waited)
     }
@@ -469,7 +478,12 @@ where
     }
 
     /// The job of a turn of the round, to be handed out.
-    fn assignment(&self, standing: &Standing, turn: Turn, revision: u64) -> Option<Assignment<P>> {
+    fn assignment_of(
+        &self,
+        standing: &Standing,
+        turn: Turn,
+        revision: u64,
+    ) -> Option<Assignment<P>> {
         let original = original_of(standing.list(self.settings()), turn)?;
         self.terms
             .assignment(self.alloc(), turn, original, revision)
@@ -478,7 +492,7 @@ where
     /// Gives the job of this turn to a worker. Without a worker it is walked at once.
     fn hand(&self, standing: &mut Standing, merger: &mut Merger, turn: Turn) {
         let revision = self.revision(standing);
-        let Some(assignment) = self.assignment(standing, turn, revision) else {
+        let Some(assignment) = self.assignment_of(standing, turn, revision) else {
             // Memory was refused, or the URL is too long.
             let _ = standing.schedule.done(turn, Verdict::Unknown, self.now());
             standing.round.add_job();
@@ -596,6 +610,7 @@ where
     fn tend(&self, standing: &mut Standing, merger: &mut Merger) {
         self.tend_peers(standing, merger);
         self.tend_wishes(standing, merger);
+        self.tend_snapshot(standing, merger);
         let now = self.now();
         if standing.dues.progress.is_due(now) {
             standing.dues.progress.done(now);
@@ -626,18 +641,43 @@ where
         }
     }
 
-    /// Publishes what is pending. The gates are ready once something is shown, or nobody can be learnt from.
+    /// Publishes what is pending, and keeps it where that is due. The gates are ready once something is shown, or
+    /// nobody can be learnt from.
     pub(crate) fn publish(&self, standing: &mut Standing, merger: &mut Merger) {
+        let is_appended = standing.round.pending || standing.desk.has_pending();
         standing
             .round
             .publish(self.rt, standing.number, merger, self.log);
+        let is_published = standing.round.published;
         let jobs = standing.jobs(self.settings());
-        if standing.round.published && has_learnt(self.settings(), standing.round, jobs) {
+        if is_published && has_learnt(self.settings(), standing.round, jobs) {
             self.means.readiness.set();
         }
         let now = self.now();
-        standing.desk.note_publish(standing.round.published, now);
+        standing.desk.note_publish(is_published, now);
         self.tell_room(standing, merger);
+        standing.keeping.note_publish(is_appended, is_published);
+        self.tend_snapshot(standing, merger);
+    }
+
+    /// Writes a snapshot, where one is due.
+    fn tend_snapshot(&self, standing: &mut Standing, merger: &Merger) {
+        if standing.keeping.is_due(self.now()) {
+            self.keep(standing, merger);
+        }
+    }
+
+    /// Writes a snapshot, if the settings ask for one and it would have more than the last one.
+    pub(crate) fn keep(&self, standing: &mut Standing, merger: &Merger) {
+        let Some(path) = &self.settings().storing.snapshot else {
+            return;
+        };
+        if standing.keeping.is_behind() {
+            standing
+                .keeping
+                .keep(self.rt, path.as_str(), merger, self.log);
+            standing.keeping.tried(self.now());
+        }
     }
 
     /// Has each peer pulled that isn't being pulled.
@@ -704,15 +744,15 @@ where
         self.settings().timing.pull.is_some() && brings_nothing(delta, held)
     }
 
-    /// Waits as long as the settings say between two rounds. Where peers are pulled, that goes on meanwhile, and so do
-    /// wishes.
+    /// Waits as long as the settings say between two rounds. Where peers are pulled and snapshots written, that goes on
+    /// meanwhile, and so do wishes.
     pub(crate) fn wait_between(&self, standing: &mut Standing, merger: &mut Merger) {
         let pause = pause_of(self.settings());
         if self.means.book.is_open() {
             self.serve_between(standing, merger, pause);
             return;
         }
-        if self.settings().timing.pull.is_none() {
+        if !is_tended_between(self.settings()) {
             let _ = thread::sleep(self.rt, Duration::from_millis(pause));
             return;
         }
@@ -720,6 +760,7 @@ where
             let left = pause.saturating_sub(begun).min(TICK);
             let _ = thread::sleep(self.rt, Duration::from_millis(left));
             self.tend_peers(standing, merger);
+            self.tend_snapshot(standing, merger);
         }
     }
 

@@ -159,8 +159,13 @@ where
     let terms: Terms<P> = Terms::new(Arc::try_clone(settings)?);
     let keys = secret_keys(rt, terms.settings())?;
     let mut means = Means::new(rt.alloc(), terms.settings(), keys)?;
+    let mut standing = Standing::new(rt.alloc(), terms.settings(), 0)?;
+    if let Some(path) = &terms.settings().storing.snapshot {
+        if standing.keeping.take_in(rt, path.as_str(), merger, log) {
+            means.readiness.set();
+        }
+    }
     let watch = Stopwatch::start(rt);
-    let mut standing = Standing::new(rt.alloc(), terms.settings(), watch.now(rt))?;
     let doors = open_doors(rt, terms.settings(), gates, &means, log)?;
     let said = say_ports(&doors, terms.settings(), out);
     let made = match said {
@@ -174,7 +179,10 @@ where
                 seed: incarnation_now(rt),
                 log,
             };
-            make_all(&rounds, &mut standing, merger, out)
+            let made = make_all(&rounds, &mut standing, merger, out);
+            // From now on nothing changes.
+            rounds.keep(&mut standing, merger);
+            made
         }
         Err(fault) => Err(fault),
     };
