@@ -21,5 +21,5 @@ pub one_state_more : (m n : MergerView) (states : List Entries) (state : Entries
 one_state_more m n states state so =
     ap (λ (k : MergerView). with_merge k (State state)) so
     ∙ ap (λ (merges : List Merge). record m { pending = merges })
-        (append_assoc m.pending (map State states) (State state ∷ [])
-        ∙ ap (λ (merges : List Merge). m.pending ++ merges) (sym (map_push states state)))
+    (append_assoc m.pending (map State states) (State state ∷ [])
+    ∙ ap (λ (merges : List Merge). m.pending ++ merges) (sym (map_push states state)))

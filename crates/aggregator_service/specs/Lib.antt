@@ -10,3 +10,4 @@ pub mod Notes
 pub mod Pulls
 pub mod Reasons
 pub mod Watching
+pub mod Wishes
