@@ -26,7 +26,7 @@ use Rattle.aggregator_service.specs.declared.lines.SnapshotEnd.TheVariants.{Take
 use Rattle.aggregator_service.specs.declared.lines.GateEnd.{GateEnd}
 use Rattle.aggregator_service.specs.declared.lines.GateEnd.TheVariants as end
 use Rattle.aggregator_service.specs.declared.lines.Line.{Line}
-use Rattle.aggregator_service.specs.declared.lines.Line.TheVariants.{Archive, Wanting, Peer, Unpublished, Output, Gate, Start, Snapshot}
+use Rattle.aggregator_service.specs.declared.lines.Line.TheVariants.{Archive, Wanting, Peer, Unpublished, Output, Gate, Status, Start, Snapshot}
 use Rattle.aggregator_service.specs.declared.lines.Line.TheVariants.{Progress as Goes, Wishes, List as Of_list}
 use Rattle.aggregator_service.specs.declared.lines.ListMatter.{ListMatter}
 use Rattle.aggregator_service.specs.declared.lines.ListMatter.TheVariants.{Bad, More, Unread, NoMemory}
@@ -127,6 +127,7 @@ line_words (Snapshot end) = codes "snapshot: " ++ snapshot_words end
 line_words Output = codes "standard output fails: no further round is made"
 line_words (Gate number address end) =
     codes "gate " ++ decimal number ++ codes " (" ++ address.now ++ codes ") ended: " ++ end_words end
+line_words (Status address end) = codes "status (" ++ address.now ++ codes ") ended: " ++ end_words end
 
 -- a whole line of the log
 abbrev pub log_line : Line → List ℕ

@@ -5,6 +5,7 @@ use crate::lines::{Line, Want};
 use crate::making::{Rounds, Standing, is_asleep};
 use crate::runtimes::SocketRuntime;
 use crate::settings::Settings;
+use crate::watching::walk_end;
 use crate::wished::{answer_to, is_kept, is_left_alone, room_left, wish_timing, wish_turn};
 use harvest_lattice::Harvest;
 use harvest_schedule::Verdict;
@@ -14,6 +15,7 @@ use memento_time::{NoMemory, Original};
 use original_list::spellings_of;
 use original_sets::{Key, OriginalSet};
 use published_index::Merger;
+use service_status::WishCounts;
 use std::alloc::Global;
 use std::hash::RandomState;
 use std::io::Write;
@@ -104,6 +106,11 @@ where
                 self.means.book.put_back(self.rt, &original);
                 return;
             }
+            let granted = WishCounts {
+                granted: 1,
+                ..WishCounts::NONE
+            };
+            self.means.telling.tell_wishes(self.rt, granted);
         }
     }
 
@@ -227,15 +234,17 @@ where
         let Opened {
             turn,
             job,
-            begun: _,
+            begun,
             result: walked,
             asked,
         } = opened;
         let asked = self.heeded(asked);
+        let end = walk_end(&walked, asked.is_some());
         let was_asleep = is_asleep(standing.schedule.mood(turn.archive));
         let now = self.now();
         let verdict = verdict_of(&walked, asked, now);
         let _ = standing.schedule.end_walk(turn.archive, verdict, now);
+        self.tell_walk(standing, turn.archive, end, begun);
         self.tell_mood(standing, turn.archive, was_asleep);
         let answer = answer_to(&walked);
         let is_taken = match walked {
@@ -298,6 +307,11 @@ where
                 now,
             );
             standing.desk.count(is_found);
+            let over = WishCounts {
+                ended: 1,
+                ..WishCounts::NONE
+            };
+            self.means.telling.tell_wishes(self.rt, over);
         }
     }
 
@@ -332,6 +346,11 @@ where
                 want: Want::Room,
             };
             self.log.tell(self.alloc(), line);
+            let turned_away = WishCounts {
+                turned_away: count,
+                ..WishCounts::NONE
+            };
+            self.means.telling.tell_wishes(self.rt, turned_away);
         }
     }
 }

@@ -336,6 +336,8 @@ pub(crate) enum Line<'a> {
         address: &'a str,
         end: GateEnd,
     },
+    /// The status' address isn't answered any more.
+    Status { address: &'a str, end: GateEnd },
 }
 
 impl<'a> fmt::Display for Line<'a> {
@@ -362,6 +364,7 @@ impl<'a> fmt::Display for Line<'a> {
                 address,
                 end,
             } => write!(f, "gate {number} ({address}) ended: {end}"),
+            Line::Status { address, end } => write!(f, "status ({address}) ended: {end}"),
         }
     }
 }

@@ -18,14 +18,17 @@ use crate::rounds::Round;
 use crate::runtimes::SocketRuntime;
 use crate::settings::{Archive, Settings};
 use crate::terms::Terms;
+use crate::watching::{pull_end, walk_end};
 use crate::wished::is_wish;
 use harvest_lattice::Harvest;
 use harvest_schedule::{Limits, Mood, Pace, Schedule, Turn, Verdict};
 use harvest_workers::{Assignment, Opened, WalkReport, WalkRules, verdict_of};
 use harvester::WalkFault;
+use hyper_edge::Patience;
 use memento_time::{Clean, Original};
 use published_index::Merger;
 use replica_exchange::{Cursor, Delta};
+use service_status::PullEnd;
 use std::alloc::{AllocError, AllocGlobal, Global};
 use std::io::Write;
 use std::thread;
@@ -71,6 +74,8 @@ pub(crate) struct Standing {
     /// Granted wishes.
     pub(crate) desk: Desk,
     pub(crate) listing: Listing,
+    /// When all mementos were counted last, if the status is told of them.
+    pub(crate) counted: Option<u64>,
 }
 
 /// What came while the thread of the rounds waited.
@@ -200,6 +205,7 @@ impl Standing {
             passed: 0,
             desk: Desk::new(alloc, windows_of(settings))?,
             listing: Listing::NONE,
+            counted: None,
         })
     }
 
@@ -225,7 +231,7 @@ impl Standing {
         jobs_in(settings, self.list(settings).len())
     }
 
-    fn progress(&self, settings: &Settings) -> Progress {
+    pub(crate) fn progress(&self, settings: &Settings) -> Progress {
         Progress {
             done: self.round.jobs.saturating_add(self.passed),
             jobs: self.jobs(settings),
@@ -329,6 +335,7 @@ where
         standing.revision = revision_now(self.rt);
         self.tell_listed(standing);
         self.tell_room(standing, merger);
+        self.tell_progress(standing);
         self.harvest(standing, merger);
         let tells = tells_more(settings);
         standing
@@ -336,16 +343,35 @@ where
             .tell(self.alloc(), number, settings, tells, self.log);
         self.tell_turned_away(number);
         if !self.means.pullers.are_some() {
-            standing
-                .round
-                .pull_all(self.rt, number, settings, merger, self.log);
+            self.pull_all(standing, merger);
         } else if settings.timing.pull.is_none() {
             self.pull_beside(standing, merger);
         }
         self.publish(standing, merger);
+        self.tell_round(standing, merger);
         let round = standing.round;
         standing.round = Round::NONE;
         round
+    }
+
+    /// Pulls each peer, one after the other, and tells the log of those that bring nothing.
+    fn pull_all(&self, standing: &mut Standing, merger: &mut Merger) {
+        let settings = self.settings();
+        let patience = Patience::of_seconds(settings.patience);
+        for (number, peer) in (1..).zip(&settings.peers) {
+            let taken = standing
+                .round
+                .pull(self.rt, merger, number, peer, patience);
+            self.tell_pull(number, pull_end(&taken));
+            if let Err(fault) = taken {
+                let line = Line::Peer {
+                    round: standing.number,
+                    base: peer.as_str(),
+                    fault,
+                };
+                self.log.tell(self.alloc(), line);
+            }
+        }
     }
 
     /// Pulls each peer, and waits until each has answered. Wishes go on meanwhile.
@@ -524,11 +550,12 @@ where
         let Opened {
             turn,
             job,
-            begun: _,
+            begun,
             result: walked,
             asked,
         } = opened;
         let asked = self.heeded(asked);
+        let end = walk_end(&walked, asked.is_some());
         let was_asleep = is_asleep(standing.schedule.mood(turn.archive));
         let now = self.now();
         let _ = standing
@@ -538,6 +565,7 @@ where
             standing.round.add_job();
         }
         standing.notes.add(turn.archive, &job.first, &walked);
+        self.tell_walk(standing, turn.archive, end, begun);
         self.tell_mood(standing, turn.archive, was_asleep);
         self.take_walked(standing, merger, turn, walked);
     }
@@ -611,6 +639,7 @@ where
         self.tend_peers(standing, merger);
         self.tend_wishes(standing, merger);
         self.tend_snapshot(standing, merger);
+        self.tell_progress(standing);
         let now = self.now();
         if standing.dues.progress.is_due(now) {
             standing.dues.progress.done(now);
@@ -652,7 +681,9 @@ where
         let jobs = standing.jobs(self.settings());
         if is_published && has_learnt(self.settings(), standing.round, jobs) {
             self.means.readiness.set();
+            self.means.telling.tell_shown(self.rt);
         }
+        self.tell_publish(standing, merger, is_published);
         let now = self.now();
         standing.desk.note_publish(is_published, now);
         self.tell_room(standing, merger);
@@ -722,11 +753,14 @@ where
                 *is_pulled = false;
             }
         }
+        let is_news = !matches!(&answer, Ok(delta) if self.is_passed(delta, cursor));
         let taken = match answer {
-            Ok(delta) if self.is_passed(&delta, cursor) => Ok(()),
+            Ok(_) if !is_news => Ok(()),
             Ok(delta) => standing.round.take_delta(merger, peer, &delta),
             Err(fault) => Err(PeerFault::Pull(fault)),
         };
+        let end = if is_news { pull_end(&taken) } else { PullEnd::NoNews };
+        self.tell_pull(peer, end);
         if let Err(fault) = taken {
             if standing.notes.tells_peer(peer) {
                 let line = Line::Peer {

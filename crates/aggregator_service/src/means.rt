@@ -4,6 +4,7 @@ use crate::pulls::Pullers;
 use crate::runtimes::SocketRuntime;
 use crate::settings::Settings;
 use crate::terms::Terms;
+use crate::watching::Telling;
 use crate::wished::DEFAULT_AGAIN;
 use harvest_workers::WalkRules;
 use hyper_edge::{Patience, Readiness};
@@ -23,6 +24,8 @@ pub(crate) struct Means<P: WalkRules> {
     pub(crate) readiness: Readiness,
     /// What readers wish for.
     pub(crate) book: WishBook,
+    /// What an operator is told.
+    pub(crate) telling: Telling,
     /// The secret keys of hashes, where sets of originals are made.
     pub(crate) keys: Option<RandomState>,
 }
@@ -71,6 +74,7 @@ impl<P: WalkRules> Means<P> {
             pullers: Pullers::new(alloc, peers_pulled(settings))?,
             readiness,
             book: book_of(alloc, settings, keys)?,
+            telling: Telling::new(alloc, settings).map_err(|_| AllocError)?,
             keys,
         })
     }
@@ -82,6 +86,7 @@ impl<P: WalkRules> Means<P> {
             pullers: _,
             readiness: _,
             book: _,
+            telling: _,
             keys: _,
         } = self;
         pool.close(rt);

@@ -163,6 +163,7 @@ where
     if let Some(path) = &terms.settings().storing.snapshot {
         if standing.keeping.take_in(rt, path.as_str(), merger, log) {
             means.readiness.set();
+            means.telling.tell_snapshot(rt, merger);
         }
     }
     let watch = Stopwatch::start(rt);
@@ -196,12 +197,18 @@ where
     ended
 }
 
-/// Writes a line for each gate, in the order of the settings.
+/// Writes a line for each gate, in the order of the settings, and one for the status, if the settings ask for it.
 fn say_ports<W: Write>(doors: &Doors, settings: &Settings, out: &mut W) -> Result<(), ServeFault> {
     for (address, port) in settings.gates.iter().zip(doors.ports()) {
         if let Ok(mut address) = address.parse::<SocketAddr>() {
             address.set_port(*port);
             writeln!(out, "gate {address}")?;
+        }
+    }
+    if let (Some(address), Some(port)) = (&settings.status, doors.status()) {
+        if let Ok(mut address) = address.parse::<SocketAddr>() {
+            address.set_port(port);
+            writeln!(out, "status {address}")?;
         }
     }
     out.flush()?;

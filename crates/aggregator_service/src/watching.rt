@@ -2,20 +2,30 @@
 ghost use Rattle.std.specs.Prelude.{◌≡◌};
 ghost use Rattle.aggregator_service.specs.Watching as spec;
 
+use crate::clocks::revision_now;
 use crate::lines::{PeerFault, Reason};
+use crate::making::{Rounds, Standing};
 use crate::reasons::reason_of;
+use crate::runtimes::SocketRuntime;
 use crate::settings::Settings;
 use harvest_lattice::{Entry, Harvest, State};
 use harvest_schedule::Mood;
+use harvest_workers::WalkRules;
 use harvester::WalkFault;
 use hyper_edge::PullFault;
 use memento_time::NoMemory;
+use published_index::Merger;
 use replica_exchange::TakeFault;
 use service_status::{
     ArchiveStatus, GateStatus, KnownStatus, PeerStatus, PublishStatus, PullCounts, PullEnd,
-    ReplyCounts, RoundStatus, Status, StatusBoard, WalkCounts, WalkEnd, WishCounts,
+    ReplyCounter, ReplyCounts, RoundStatus, Status, StatusBoard, StatusGate, WalkCounts, WalkEnd,
+    WishCounts,
 };
 use std::alloc::Global;
+use std::io::Write;
+
+/// How many milliseconds lie at least between two counts of all mementos within a round.
+const COUNT: u64 = 60_000;
 
 /// The archives of these settings, before any was walked.
 fn archives_of(alloc: Global, settings: &Settings) -> Result<Vec<ArchiveStatus>, NoMemory> {
@@ -59,17 +69,13 @@ fn gates_of(alloc: Global, settings: &Settings) -> Result<Vec<GateStatus>, NoMem
 /// What became of wishes, before there is one, if any are taken.
 fn wishes_of(settings: &Settings) -> Option<WishCounts> {
     match settings.wishing.wanted {
-        Some(_) => Some(WishCounts {
-            granted: 0,
-            ended: 0,
-            turned_away: 0,
-        }),
+        Some(_) => Some(WishCounts::NONE),
         None => None,
     }
 }
 
 /// The board of a service that begins, closed unless the settings ask for a status.
-pub(crate) fn board_of(alloc: Global, settings: &Settings) -> Result<StatusBoard, NoMemory> {
+fn board_of(alloc: Global, settings: &Settings) -> Result<StatusBoard, NoMemory> {
     if settings.status.is_none() {
         return Ok(StatusBoard::closed());
     }
@@ -154,7 +160,7 @@ pub(crate) fn pull_end(taken: &Result<(), PeerFault>) -> PullEnd
 
 /// In which second an archive of this mood is asked again, if that is in this millisecond and this second; 0 if it isn't
 /// dormant, and `None` if one walk finds out whether it is.
-pub(crate) fn dormant_until(mood: Option<Mood>, now: u64, second: u64) -> Option<u64> {
+fn dormant_until(mood: Option<Mood>, now: u64, second: u64) -> Option<u64> {
     match mood {
         Some(Mood::Dormant { until, .. }) => {
             let left = until.saturating_sub(now).div_ceil(1_000);
@@ -175,7 +181,7 @@ fn mementos_in(entry: &Entry) -> u64 {
 }
 
 /// How much a state has. Takes time in the number of its entries.
-pub(crate) fn known_in(state: &State) -> KnownStatus {
+fn known_in(state: &State) -> KnownStatus {
     let mut mementos = 0u64;
     for (_, entry) in state.rows() {
         mementos = mementos.saturating_add(mementos_in(entry));
@@ -183,5 +189,149 @@ pub(crate) fn known_in(state: &State) -> KnownStatus {
     KnownStatus {
         entries: state.len() as u64,
         mementos,
+    }
+}
+
+/// What an operator is told, and by what.
+#[derive(Drop)]
+pub(crate) struct Telling {
+    board: StatusBoard,
+    /// Of each gate in order.
+    counters: Vec<ReplyCounter>,
+}
+
+impl Telling {
+    /// Before anything has happened. Without a status in the settings, nothing is noted.
+    pub(crate) fn new(alloc: Global, settings: &Settings) -> Result<Telling, NoMemory> {
+        let mut counters = Vec::with_capacity(alloc, settings.gates.len())?;
+        for _ in &settings.gates {
+            let counter = match settings.status {
+                Some(_) => ReplyCounter::open(alloc)?,
+                None => ReplyCounter::closed(),
+            };
+            counters.push(counter)?;
+        }
+        Ok(Telling {
+            board: board_of(alloc, settings)?,
+            counters,
+        })
+    }
+
+    /// What counts the replies of each gate, in order.
+    pub(crate) fn counters(&self) -> &[ReplyCounter] {
+        &self.counters
+    }
+
+    /// The gate that shows the status, if the settings ask for one.
+    pub(crate) fn gate<R>(&self, rt: R, alloc: Global) -> Result<Option<StatusGate<R>>, NoMemory>
+    where
+        R: SocketRuntime + Drop,
+    {
+        let mut counters = Vec::with_capacity(alloc, self.counters.len())?;
+        for counter in &self.counters {
+            counters.push(counter.share()?)?;
+        }
+        Ok(StatusGate::new(rt, self.board.share()?, counters))
+    }
+
+    /// Notes that gates show something.
+    pub(crate) fn tell_shown<R: SocketRuntime>(&self, rt: &R) {
+        self.board.set_shown(rt);
+    }
+
+    /// Notes what a snapshot brought, which is published.
+    pub(crate) fn tell_snapshot<R: SocketRuntime>(&self, rt: &R, merger: &Merger) {
+        if self.board.is_open() {
+            self.board.add_publish(rt, revision_now(rt));
+            self.board
+                .set_known(rt, known_in(merger.published_state()));
+            self.board.set_shown(rt);
+        }
+    }
+
+    /// Counts so many wishes more.
+    pub(crate) fn tell_wishes<R: SocketRuntime>(&self, rt: &R, more: WishCounts) {
+        self.board.add_wishes(rt, more);
+    }
+}
+
+impl<R, P, L> Rounds<'_, R, P, L>
+where
+    R: SocketRuntime,
+    P: WalkRules,
+    L: Write + Copy,
+{
+    /// Tells the status of a walk of the archive at this place, which began in this second.
+    pub(crate) fn tell_walk(&self, standing: &Standing, place: usize, end: WalkEnd, begun: u64) {
+        let board = &self.means.telling.board;
+        if !board.is_open() {
+            return;
+        }
+        let second = revision_now(self.rt);
+        board.add_walk(self.rt, place, end, second.saturating_sub(begun));
+        if let Some(until) = dormant_until(standing.schedule.mood(place), self.now(), second) {
+            board.set_dormant(self.rt, place, until);
+        }
+    }
+
+    /// Tells the status how a pull from the peer with this number ended.
+    pub(crate) fn tell_pull(&self, number: u64, end: PullEnd) {
+        let board = &self.means.telling.board;
+        if board.is_open() {
+            board.add_pull(self.rt, number, end, revision_now(self.rt));
+        }
+    }
+
+    /// Tells the status how far the round is.
+    pub(crate) fn tell_progress(&self, standing: &Standing) {
+        let board = &self.means.telling.board;
+        if !board.is_open() {
+            return;
+        }
+        let progress = standing.progress(self.settings());
+        let round = RoundStatus {
+            jobs: progress.jobs,
+            done: progress.done,
+            passed: progress.passed,
+        };
+        board.set_round(self.rt, round);
+    }
+
+    /// Tells the status what a publish came to. What is known is counted once a minute.
+    pub(crate) fn tell_publish(&self, standing: &mut Standing, merger: &Merger, is_published: bool) {
+        let board = &self.means.telling.board;
+        if !board.is_open() {
+            return;
+        }
+        if is_published {
+            board.add_publish(self.rt, revision_now(self.rt));
+        } else {
+            board.add_refused(self.rt);
+        }
+        let is_due = match standing.counted {
+            Some(last) => last.saturating_add(COUNT) <= self.now(),
+            None => true,
+        };
+        if is_due {
+            self.count_known(standing, merger);
+        }
+    }
+
+    /// Tells the status how much is published.
+    fn count_known(&self, standing: &mut Standing, merger: &Merger) {
+        let known = known_in(merger.published_state());
+        self.means.telling.board.set_known(self.rt, known);
+        standing.counted = Some(self.now());
+    }
+
+    /// Tells the status that a round is over, and how much is known.
+    pub(crate) fn tell_round(&self, standing: &mut Standing, merger: &Merger) {
+        let board = &self.means.telling.board;
+        if !board.is_open() {
+            return;
+        }
+        self.tell_progress(standing);
+        board.add_round(self.rt);
+        self.count_known(standing, merger);
     }
 }

@@ -37,6 +37,18 @@ with_pull pull.NoDelta c = record c { no_delta = one_more c.no_delta }
 with_pull pull.Gap c = record c { gap = one_more c.gap }
 with_pull pull.NoMemory c = record c { no_memory = one_more c.no_memory }
 
+-- so many, as far as 64 bits can count
+abbrev pub counted : ℕ → ℕ
+counted n = min n (2 ^ 64 - 1)
+
+-- so many wishes more
+abbrev pub with_wishes : WishCounts → WishCounts → WishCounts
+with_wishes more c = record {
+  granted = counted (c.granted + more.granted);
+  ended = counted (c.ended + more.ended);
+  turned_away = counted (c.turned_away + more.turned_away);
+}
+
 -- a word for how something ended, and how often it did
 abbrev pub Row : Type 0
 Row = List ℕ × ℕ

@@ -114,10 +114,13 @@ impl StatusBoard {
         }
     }
 
-    /// Notes what became of wishes.
-    pub fn set_wishes<R: Wait>(&self, rt: &R, wishes: WishCounts) {
+    /// Counts so many wishes more, if wishes are taken.
+    pub fn add_wishes<R: Wait>(&self, rt: &R, more: WishCounts) {
         if let Some(shared) = &self.shared {
-            shared.lock(rt).wishes = Some(wishes);
+            let mut status = shared.lock(rt);
+            if let Some(wishes) = &mut status.wishes {
+                wishes.add(more);
+            }
         }
     }
 }

@@ -1,6 +1,6 @@
 //! Counts by how something ended.
 ghost use Rattle.std.specs.Prelude.{◌≡◌, map};
-ghost use Rattle.service_status.specs.Counts.{with_walk, with_pull, walk_rows, pull_rows, reply_rows, wish_rows};
+ghost use Rattle.service_status.specs.Counts.{with_walk, with_pull, with_wishes, walk_rows, pull_rows, reply_rows, wish_rows};
 
 /// How a walk ended.
 #[derive(Clone, Copy, Debug, PartialEq, Eq)]
@@ -225,6 +225,21 @@ pub struct WishCounts {
 }
 
 impl WishCounts {
+    pub const NONE: WishCounts = WishCounts {
+        granted: 0,
+        ended: 0,
+        turned_away: 0,
+    };
+
+    /// Counts so many more.
+    pub fn add(&mut self, more: WishCounts)
+        ensures { self.new ≡ with_wishes more self.old }
+    {
+        self.granted = self.granted.saturating_add(more.granted);
+        self.ended = self.ended.saturating_add(more.ended);
+        self.turned_away = self.turned_away.saturating_add(more.turned_away);
+    }
+
     /// A word for what became of wishes, and of how many it did.
     #[tactic(auto, unfolding(crate::specs::Counts::wish_rows))]
     pub(crate) fn rows(self) -> [(&'static str, u64); 3]
