@@ -753,13 +753,20 @@ where
                 *is_pulled = false;
             }
         }
-        let is_news = !matches!(&answer, Ok(delta) if self.is_passed(delta, cursor));
+        let is_passed = match &answer {
+            Ok(delta) => self.is_passed(delta, cursor),
+            Err(_) => false,
+        };
         let taken = match answer {
-            Ok(_) if !is_news => Ok(()),
+            Ok(delta) if self.is_passed(&delta, cursor) => Ok(()),
             Ok(delta) => standing.round.take_delta(merger, peer, &delta),
             Err(fault) => Err(PeerFault::Pull(fault)),
         };
-        let end = if is_news { pull_end(&taken) } else { PullEnd::NoNews };
+        let end = if is_passed {
+            PullEnd::NoNews
+        } else {
+            pull_end(&taken)
+        };
         self.tell_pull(peer, end);
         if let Err(fault) = taken {
             if standing.notes.tells_peer(peer) {
