@@ -23,10 +23,7 @@ one_state_more m n states state so =
     ∙ ap (λ (merges : List Merge). record m { pending = merges })
     (append_assoc m.pending (map State states) (State state ∷ [])
     ∙ ap (λ (merges : List Merge). m.pending ++ merges) (sym (map_push states state)))
-<<<<<<< HEAD
-=======
 
 -- where nothing is read, nothing changes
 pub nothing_is_added : (m : MergerView) → Starts m m
 nothing_is_added m = ([], inr (record { taken = []; left = []; split = refl; merger = no_state_more m }))
->>>>>>> 2e6411600367a9c847f52276188b03af94f62552
