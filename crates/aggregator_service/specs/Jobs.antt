@@ -9,8 +9,8 @@ use Rattle.timemap_reader.specs.Answer.{IsShort}
 use Rattle.aggregator_service.specs.declared.settings.Settings.{Settings}
 use Rattle.aggregator_service.specs.declared.settings.archives.Archive.{Archive}
 
--- The job is that of the archive at a place in the settings, for some original: its first URL is the archive's text with
--- the original behind it. Rounds look after originals of their list, and wishes are for any.
+-- The job is that of the archive at a place in the settings, for some original: its first URL is the archive's text
+-- with the original behind it. Rounds look after originals of their list, and wishes are for any.
 pub record IsJobOf (settings : Settings) (place : ℕ) (job : Job) : Type 0 where
   pub archive : Archive
   pub listed : slice_get settings.archives.items place ≡ Some archive

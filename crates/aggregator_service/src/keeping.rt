@@ -1,10 +1,10 @@
 //! What is known is kept in a file: it is taken in before the gates answer, and written while rounds are made.
-ghost use Rattle.std.specs.Prelude.{◌≡◌, ◌×◌, ◌↔◌, ◌++◌, true, IsTrue, OnErr, OnOk, map as map_list};
+ghost use Rattle.std.specs.Prelude.{◌≡◌, ◌↔◌, ◌++◌, true, IsTrue, OnErr, OnOk, map as map_list};
 ghost use Rattle.memento_index.specs.declared.merge.Merge.TheVariants.{State as StateMerge};
 ghost use Rattle.published_index.specs.Cursors.{with_publish};
 ghost use Rattle.published_index.specs.Events.{RunsAsEvents};
 ghost use Rattle.aggregator_service.specs.Dues.{IsDue};
-ghost use Rattle.aggregator_service.specs.Keeping.{noted, with_states, TakesSome};
+ghost use Rattle.aggregator_service.specs.Keeping.{noted, with_states, Starts, TakesSome};
 
 use crate::dues::Due;
 use crate::lines::{Line, SnapshotEnd};
@@ -90,29 +90,35 @@ impl Keeping {
     where
         R: SocketRuntime,
         L: Write + Copy,
+        ensures { Starts merger.old merger.new }
     {
-        let fault = match take_snapshot(rt, path) {
-            Ok(None) => return false,
-            Ok(Some(states)) => match publish_states(rt, merger, states) {
-                Ok(()) => {
-                    log.tell(rt.alloc(), Line::Snapshot(SnapshotEnd::TakenIn));
-                    return !merger.published_state().is_empty();
-                }
-                Err(_) => {
-                    self.is_pending = true;
-                    ReadFault::NoMemory
-                }
-            },
-            Err(fault) => fault,
-        };
+        match take_states(rt, path, merger) {
+            Ok(true) => {
+                log.tell(rt.alloc(), Line::Snapshot(SnapshotEnd::TakenIn));
+                !merger.published_state().is_empty()
+            }
+            Ok(false) => false,
+            Err(fault) => {
+                // The first few states may be pending.
+                self.is_pending = fault == ReadFault::NoMemory;
+                let end = self.leave(rt, path, fault);
+                log.tell(rt.alloc(), Line::Snapshot(end));
+                false
+            }
+        }
+    }
+
+    /// Sets the file at PATH aside, which has this fault.
+    fn leave<R>(&mut self, rt: &R, path: &str, fault: ReadFault) -> SnapshotEnd
+    where
+        R: SocketRuntime,
+    {
         self.is_unread = set_aside(rt, path).is_err();
-        let end = if self.is_unread {
+        if self.is_unread {
             SnapshotEnd::Unread(fault)
         } else {
             SnapshotEnd::Aside(fault)
-        };
-        log.tell(rt.alloc(), Line::Snapshot(end));
-        false
+        }
     }
 
     /// Writes what is published to the snapshot at PATH. Where that isn't possible, PATH stays as it is, and the log is
@@ -166,9 +172,24 @@ fn publish_states<R: Wait>(rt: &R, merger: &mut Merger, states: Vec<State>) -> R
     ensures err { OnErr result (TakesSome merger.old states.items merger.new) }
 {
     append_states(merger, states)?;
-    if merger.publish(rt).is_err() {
+    let Ok(_) = merger.publish(rt) else {
         return Err(NoMemory);
-    }
+    };
     merger.settle(rt);
     Ok(())
+}
+
+/// Takes in what the snapshot at PATH has, and publishes it. Returns whether there is one.
+fn take_states<R>(rt: &R, path: &str, merger: &mut Merger) -> Result<bool, ReadFault>
+where
+    R: SocketRuntime,
+    ensures { Starts merger.old merger.new }
+{
+    let Some(states) = take_snapshot(rt, path)? else {
+        return Ok(false);
+    };
+    match publish_states(rt, merger, states) {
+        Ok(()) => Ok(true),
+        Err(_) => Err(ReadFault::NoMemory),
+    }
 }

@@ -294,8 +294,8 @@ abbrev pub AreNoEnds : List Act → Type 0
 AreNoEnds [] = ⊤
 AreNoEnds (act ∷ acts) = IsNoEnd act × AreNoEnds acts
 
--- An archive that was put aside or dormant, until whatever time, is asked by one walk, and not again before a walk of it
--- has ended.
+-- An archive that was put aside or dormant, until whatever time, is asked by one walk, and not again before a walk of
+-- it has ended.
 abbrev pub AllTried : Type 0
 AllTried = (limits : Limits) (first asking : Act) (acts : List Act) (s t : Standing) (before now : ℕ)
     → WaitsUntil 0 s.mood → IsAsked before first → AreNoEnds acts → Leads limits (first ∷ acts) s t

@@ -10,7 +10,7 @@ pub loop-state-init : goal.loop-state-init
 loop-state-init c = record {
   can = tt;
   finite = tt;
-  rest = sym c.into_iter-state-iterator.ensures.items;
+  rest = sym c.into_iter-state-iterator.ensures.into_iter_gives.0;
   merger = no_state_more c.args.merger.now;
 }
 
