@@ -337,7 +337,10 @@ pub(crate) enum Line<'a> {
         end: GateEnd,
     },
     /// The status' address isn't answered any more.
-    Status { address: &'a str, end: GateEnd },
+    Status {
+        address: &'a str,
+        end: GateEnd,
+    },
 }
 
 impl<'a> fmt::Display for Line<'a> {

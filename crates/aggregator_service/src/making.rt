@@ -221,7 +221,8 @@ impl Standing {
 
     /// Begins the round with this number. What was pulled since the last one counts in it.
     fn begin(&mut self, alloc: Global, settings: &Settings, number: u64) {
-        let _ = self.schedule.begin(self.list(settings).len());
+        let originals = self.list(settings).len();
+        let _ = self.schedule.begin(originals);
         self.number = number;
         self.notes = Notes::new(alloc, settings);
         self.passed = 0;
@@ -359,9 +360,7 @@ where
         let settings = self.settings();
         let patience = Patience::of_seconds(settings.patience);
         for (number, peer) in (1..).zip(&settings.peers) {
-            let taken = standing
-                .round
-                .pull(self.rt, merger, number, peer, patience);
+            let taken = standing.round.pull(self.rt, merger, number, peer, patience);
             self.tell_pull(number, pull_end(&taken));
             if let Err(fault) = taken {
                 let line = Line::Peer {

@@ -243,8 +243,7 @@ impl Telling {
     pub(crate) fn tell_snapshot<R: SocketRuntime>(&self, rt: &R, merger: &Merger) {
         if self.board.is_open() {
             self.board.add_publish(rt, revision_now(rt));
-            self.board
-                .set_known(rt, known_in(merger.published_state()));
+            self.board.set_known(rt, known_in(merger.published_state()));
             self.board.set_shown(rt);
         }
     }
@@ -298,7 +297,12 @@ where
     }
 
     /// Tells the status what a publish came to. What is known is counted once a minute.
-    pub(crate) fn tell_publish(&self, standing: &mut Standing, merger: &Merger, is_published: bool) {
+    pub(crate) fn tell_publish(
+        &self,
+        standing: &mut Standing,
+        merger: &Merger,
+        is_published: bool,
+    ) {
         let board = &self.means.telling.board;
         if !board.is_open() {
             return;
