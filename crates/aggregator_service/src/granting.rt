@@ -19,6 +19,7 @@ use service_status::WishCounts;
 use std::alloc::Global;
 use std::hash::RandomState;
 use std::io::Write;
+use std::rt::Files;
 use wish_list::{Answer, Ask, Decision, MOST_WISHES};
 
 /// The set of these originals.
@@ -72,7 +73,7 @@ fn is_shown(settings: &Settings, merger: &Merger, original: &Original) -> bool {
 
 impl<R, P, L> Rounds<'_, R, P, L>
 where
-    R: SocketRuntime,
+    R: SocketRuntime + Files,
     P: WalkRules,
     L: Write + Copy,
 {

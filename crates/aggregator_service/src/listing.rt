@@ -63,7 +63,7 @@ fn list_of(
 
 impl<R, P, L> Rounds<'_, R, P, L>
 where
-    R: SocketRuntime,
+    R: SocketRuntime + Files,
     P: WalkRules,
     L: Write + Copy,
 {

@@ -31,6 +31,7 @@ use replica_exchange::{Cursor, Delta};
 use service_status::PullEnd;
 use std::alloc::{AllocError, AllocGlobal, Global};
 use std::io::Write;
+use std::rt::Files;
 use std::thread;
 use std::time::Duration;
 
@@ -76,6 +77,8 @@ pub(crate) struct Standing {
     pub(crate) listing: Listing,
     /// When all mementos were counted last, if the status is told of them.
     pub(crate) counted: Option<u64>,
+    /// When the memory that is held was looked at last, if the status is told of it.
+    pub(crate) measured: Option<u64>,
 }
 
 /// What came while the thread of the rounds waited.
@@ -153,7 +156,9 @@ fn has_learnt(settings: &Settings, round: Round, jobs: u64) -> bool {
 
 /// Whether there may be something to do between two rounds.
 fn is_tended_between(settings: &Settings) -> bool {
-    settings.timing.pull.is_some() || settings.storing.snapshot.is_some()
+    settings.timing.pull.is_some()
+        || settings.storing.snapshot.is_some()
+        || settings.status.is_some()
 }
 
 /// How many milliseconds to wait between two rounds.
@@ -206,6 +211,7 @@ impl Standing {
             desk: Desk::new(alloc, windows_of(settings))?,
             listing: Listing::NONE,
             counted: None,
+            measured: None,
         })
     }
 
@@ -244,7 +250,7 @@ impl Standing {
 
 impl<R, P, L> Rounds<'_, R, P, L>
 where
-    R: SocketRuntime,
+    R: SocketRuntime + Files,
     P: WalkRules,
     L: Write + Copy,
 {
@@ -323,6 +329,7 @@ where
         self.tend_peers(standing, merger);
         self.tend_wishes(standing, merger);
         self.tend_snapshot(standing, merger);
+        self.tell_memory(standing);
         let waited = if heard == Heard::Report { 0 } else { wait };
         self.now().saturating_sub(begun).max(waited)
     }
@@ -639,6 +646,7 @@ where
         self.tend_wishes(standing, merger);
         self.tend_snapshot(standing, merger);
         self.tell_progress(standing);
+        self.tell_memory(standing);
         let now = self.now();
         if standing.dues.progress.is_due(now) {
             standing.dues.progress.done(now);
@@ -801,6 +809,7 @@ where
             let _ = thread::sleep(self.rt, Duration::from_millis(left));
             self.tend_peers(standing, merger);
             self.tend_snapshot(standing, merger);
+            self.tell_memory(standing);
         }
     }
 

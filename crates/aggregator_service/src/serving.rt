@@ -150,7 +150,7 @@ fn serve_gates<R, W, L, P>(
     log: Log<L>,
 ) -> Result<(), ServeFault>
 where
-    R: SocketRuntime + Threads + Sync + Send + Clone + Drop + 'static,
+    R: SocketRuntime + Files + Threads + Sync + Send + Clone + Drop + 'static,
     W: Write,
     L: Write + Copy + Send + 'static,
     P: WalkRules + Send + Sync + 'static,
@@ -223,7 +223,7 @@ fn make_all<R, W, L, P>(
     out: &mut W,
 ) -> Result<(), ServeFault>
 where
-    R: SocketRuntime,
+    R: SocketRuntime + Files,
     W: Write,
     L: Write + Copy,
     P: WalkRules,

@@ -19,13 +19,17 @@ use replica_exchange::TakeFault;
 use service_status::{
     ArchiveStatus, GateStatus, KnownStatus, PeerStatus, PublishStatus, PullCounts, PullEnd,
     ReplyCounter, ReplyCounts, RoundStatus, Status, StatusBoard, StatusGate, WalkCounts, WalkEnd,
-    WishCounts,
+    WishCounts, resident_bytes,
 };
 use std::alloc::Global;
 use std::io::Write;
+use std::rt::Files;
 
 /// How many milliseconds lie at least between two counts of all mementos within a round.
 const COUNT: u64 = 60_000;
+
+/// How many milliseconds lie at least between two looks at the memory that is held.
+const MEASURE: u64 = 1_000;
 
 /// The archives of these settings, before any was walked.
 fn archives_of(alloc: Global, settings: &Settings) -> Result<Vec<ArchiveStatus>, NoMemory> {
@@ -256,7 +260,7 @@ impl Telling {
 
 impl<R, P, L> Rounds<'_, R, P, L>
 where
-    R: SocketRuntime,
+    R: SocketRuntime + Files,
     P: WalkRules,
     L: Write + Copy,
 {
@@ -294,6 +298,23 @@ where
             passed: progress.passed,
         };
         board.set_round(self.rt, round);
+    }
+
+    /// Tells the status each second how much memory is held.
+    pub(crate) fn tell_memory(&self, standing: &mut Standing) {
+        let board = &self.means.telling.board;
+        if !board.is_open() {
+            return;
+        }
+        let now = self.now();
+        let is_due = match standing.measured {
+            Some(last) => last.saturating_add(MEASURE) <= now,
+            None => true,
+        };
+        if is_due {
+            standing.measured = Some(now);
+            board.set_resident(self.rt, resident_bytes(self.rt));
+        }
     }
 
     /// Tells the status what a publish came to. What is known is counted once a minute.
@@ -335,6 +356,7 @@ where
             return;
         }
         self.tell_progress(standing);
+        self.tell_memory(standing);
         board.add_round(self.rt);
         self.count_known(standing, merger);
     }

@@ -102,6 +102,13 @@ impl StatusBoard {
         }
     }
 
+    /// Notes how many bytes of memory the process holds, if they are known.
+    pub fn set_resident<R: Wait>(&self, rt: &R, resident: Option<u64>) {
+        if let Some(shared) = &self.shared {
+            shared.lock(rt).resident = resident;
+        }
+    }
+
     /// Counts a pull from the peer with this number, counted from 1, which ended in this second.
     pub fn add_pull<R: Wait>(&self, rt: &R, number: u64, end: PullEnd, second: u64) {
         if let Some(shared) = &self.shared {

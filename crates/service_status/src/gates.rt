@@ -4,13 +4,11 @@ ghost use Rattle.service_status.specs.Replies.{IsStatusReply};
 
 use crate::board::StatusBoard;
 use crate::counters::ReplyCounter;
-use crate::memory::resident_bytes;
 use crate::replies::reply_to;
 use crate::status::Status;
 use hyper_edge::Answers;
 use published_index::GateFault;
 use std::alloc::AllocGlobal;
-use std::rt::Files;
 use std::sync::{Arc, Mutex, Wait};
 use std::time::{Clock, Duration, SystemTime, UNIX_EPOCH};
 use timegate::{Reply, Request};
@@ -34,7 +32,7 @@ fn second_now(rt: &impl Clock) -> u64 {
         .as_secs()
 }
 
-impl<R: Clock + Files + Wait + AllocGlobal + Drop> StatusGate<R> {
+impl<R: Clock + Wait + AllocGlobal + Drop> StatusGate<R> {
     /// A gate that answers by this board, if it is open, and by these counts of the gates' replies.
     pub fn new(rt: R, board: StatusBoard, counters: Vec<ReplyCounter>) -> Option<StatusGate<R>> {
         let status = board.shared?;
@@ -53,10 +51,8 @@ impl<R: Clock + Files + Wait + AllocGlobal + Drop> StatusGate<R> {
     {
         let alloc = self.rt.alloc();
         let clock = second_now(&self.rt);
-        let resident = resident_bytes(&self.rt);
         let mut status = self.status.lock(&self.rt);
         status.clock = clock;
-        status.resident = resident;
         for (gate, counter) in status.gates.iter_mut().zip(&self.counters) {
             gate.replies = counter.counts();
         }
@@ -67,7 +63,7 @@ impl<R: Clock + Files + Wait + AllocGlobal + Drop> StatusGate<R> {
     }
 }
 
-impl<R: Clock + Files + Wait + AllocGlobal + Drop> Answers for StatusGate<R> {
+impl<R: Clock + Wait + AllocGlobal + Drop> Answers for StatusGate<R> {
     ghost use Rattle.service_status.specs.Replies.{IsStatusReply};
 
     ghost replies = { IsStatusReply };

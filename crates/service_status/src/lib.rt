@@ -23,6 +23,7 @@ pub use counters::ReplyCounter;
 pub use counts::{PullCounts, PullEnd, ReplyCounts, WalkCounts, WalkEnd, WishCounts};
 pub use gates::{CountingGate, StatusGate};
 pub use laws::{samples_are_read_back, texts_by_example};
+pub use memory::resident_bytes;
 pub use metrics::Metric;
 pub use replies::reply_to;
 pub use status::{

@@ -27,7 +27,7 @@ fn resident_in(text: &[u8]) -> Option<u64>
 }
 
 /// The resident bytes of this process; `None` if the system doesn't tell.
-pub(crate) fn resident_bytes<R: Files>(rt: &R) -> Option<u64> {
+pub fn resident_bytes<R: Files>(rt: &R) -> Option<u64> {
     let mut file = std::fs::open(rt, "/proc/self/statm").ok()?;
     let mut buffer = [0u8; 256];
     let count = file.read(&mut buffer).ok()?;
