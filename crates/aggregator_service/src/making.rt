@@ -215,7 +215,8 @@ impl Standing {
 
     /// Begins the round with this number. What was pulled since the last one counts in it.
     fn begin(&mut self, alloc: Global, settings: &Settings, number: u64) {
-        let _ = self.schedule.begin(self.list(settings).len());
+        let originals = self.list(settings).len();
+        let _ = self.schedule.begin(originals);
         self.number = number;
         self.notes = Notes::new(alloc, settings);
         self.passed = 0;
@@ -511,7 +512,8 @@ where
         self.take_opened(standing, merger, report.open());
     }
 
-    /// For how many seconds an archive is left alone that asked for it: an archive is only where it may be dormant, too.
+    /// For how many seconds an archive is left alone that asked for it: an archive is only where it may be dormant,
+    /// too.
     pub(crate) fn heeded(&self, asked: Option<u64>) -> Option<u64> {
         match self.settings().asking.tolerance {
             Some(_) => asked,
