@@ -167,7 +167,8 @@ class Listener:
 
     def __init__(self, stack, talk, address="127.0.0.1", port=0, in_turn=False):
         self.talk, self.in_turn, self.count = talk, in_turn, 0
-        self.socket = socket.create_server((address, port), backlog=256)
+        family = socket.AF_INET6 if ":" in address else socket.AF_INET
+        self.socket = socket.create_server((address, port), family=family, backlog=256)
         self.port = self.socket.getsockname()[1]
         self.address = f"http://{address}:{self.port}"
         stack.callback(self.socket.close)
@@ -368,7 +369,7 @@ class Service:
         return get(self.ports[gate], target, **headers)
 
     def shows(self, original=ORIGINAL, gate=0):
-        """The memento that the TimeGate leads to; None where it has none, and its status where it says something else."""
+        """The memento that the TimeGate leads to; None if it has none, and its status if it says something else."""
         status, where, _ = self.get("/timegate/" + original, gate)
         return {302: where, 404: None}.get(status, status)
 

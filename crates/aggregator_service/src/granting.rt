@@ -133,8 +133,8 @@ where
         Ok(())
     }
 
-    /// Wishes for the other spellings of an original of which nothing is shown. What is wished for so leads to no further
-    /// wishes.
+    /// Wishes for the other spellings of an original of which nothing is shown. What is wished for so leads to no
+    /// further wishes.
     fn wish_spellings(
         &self,
         standing: &mut Standing,
@@ -214,7 +214,8 @@ where
         }
     }
 
-    /// Lets no wish wait for archives that aren't asked before a later time, or that couldn't be asked for one patience.
+    /// Lets no wish wait for archives that aren't asked before a later time, or that couldn't be asked for one
+    /// patience.
     fn skip_archives(&self, standing: &mut Standing) {
         let now = self.now();
         let patience = self.settings().patience.saturating_mul(1_000);

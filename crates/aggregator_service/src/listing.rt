@@ -67,8 +67,8 @@ where
     P: WalkRules,
     L: Write + Copy,
 {
-    /// Reads the file of originals, if the settings name one, for the round with this number. Where it can't be read, the
-    /// originals of before stay.
+    /// Reads the file of originals, if the settings name one, for the round with this number. Where it can't be read,
+    /// the originals of before stay.
     pub(crate) fn read_list(&self, standing: &mut Standing, number: u64) {
         let (Some(path), Some(keys)) = (&self.settings().wishing.originals_file, self.means.keys)
         else {

@@ -543,7 +543,8 @@ where
         self.take_opened(standing, merger, report.open());
     }
 
-    /// For how many seconds an archive is left alone that asked for it: an archive is only where it may be dormant, too.
+    /// For how many seconds an archive is left alone that asked for it: an archive is only where it may be dormant,
+    /// too.
     pub(crate) fn heeded(&self, asked: Option<u64>) -> Option<u64> {
         match self.settings().asking.tolerance {
             Some(_) => asked,
