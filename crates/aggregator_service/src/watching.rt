@@ -162,8 +162,8 @@ pub(crate) fn pull_end(taken: &Result<(), PeerFault>) -> PullEnd
     }
 }
 
-/// In which second an archive of this mood is asked again, if that is in this millisecond and this second; 0 if it isn't
-/// dormant, and `None` if one walk finds out whether it is.
+/// In which second an archive of this mood is asked again, if that is in this millisecond and this second; 0 if it
+/// isn't dormant, and `None` if one walk finds out whether it is.
 fn dormant_until(mood: Option<Mood>, now: u64, second: u64) -> Option<u64> {
     match mood {
         Some(Mood::Dormant { until, .. }) => {
