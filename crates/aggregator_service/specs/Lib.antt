@@ -9,3 +9,5 @@ pub mod Logs
 pub mod Notes
 pub mod Pulls
 pub mod Reasons
+pub mod Watching
+pub mod Wishes

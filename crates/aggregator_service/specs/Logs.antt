@@ -26,8 +26,11 @@ use Rattle.aggregator_service.specs.declared.lines.SnapshotEnd.TheVariants.{Take
 use Rattle.aggregator_service.specs.declared.lines.GateEnd.{GateEnd}
 use Rattle.aggregator_service.specs.declared.lines.GateEnd.TheVariants as end
 use Rattle.aggregator_service.specs.declared.lines.Line.{Line}
-use Rattle.aggregator_service.specs.declared.lines.Line.TheVariants.{Archive, Wanting, Peer, Unpublished, Output, Gate, Start, Snapshot}
-use Rattle.aggregator_service.specs.declared.lines.Line.TheVariants.{Progress as Goes}
+use Rattle.aggregator_service.specs.declared.lines.Line.TheVariants.{Archive, Wanting, Peer, Unpublished, Output, Gate, Status, Start, Snapshot}
+use Rattle.aggregator_service.specs.declared.lines.Line.TheVariants.{Progress as Goes, Wishes, List as Of_list}
+use Rattle.aggregator_service.specs.declared.lines.ListMatter.{ListMatter}
+use Rattle.aggregator_service.specs.declared.lines.ListMatter.TheVariants.{Bad, More, Unread, NoMemory}
+use Rattle.aggregator_service.specs.declared.desks.WishCounts.{WishCounts}
 
 -- why a peer brought nothing
 abbrev pub peer_words : PeerFault → List ℕ
@@ -76,10 +79,22 @@ matter_words (Awake left) = codes "answers again, jobs left: " ++ decimal left
 matter_words (Left left) = decimal left ++ codes " walks not begun: it isn't asked"
 matter_words (Emptied count) = decimal count ++ codes " originals lost all their copies"
 
--- what memory was refused for
+-- what there was no memory or no room for
 abbrev pub want_words : Want → List ℕ
 want_words want.Walks = codes "walks not begun: no memory"
 want_words want.Harvests = codes "harvests not kept: no memory"
+want_words want.Room = codes "wishes turned away: no room"
+
+-- how many wishes are over, and of how many something is shown
+abbrev pub wish_words : WishCounts → List ℕ
+wish_words counts = decimal counts.found ++ codes " of " ++ decimal counts.ended ++ codes " found"
+
+-- what is told of the file of originals
+abbrev pub list_words : ListMatter → List ℕ
+list_words (Bad number) = codes "line " ++ decimal number ++ codes " is no original"
+list_words (More count) = decimal count ++ codes " more lines are no originals"
+list_words Unread = codes "not read: the originals of before stay"
+list_words NoMemory = codes "no memory: the originals of before stay"
 
 -- what became of a snapshot
 abbrev pub snapshot_words : SnapshotEnd → List ℕ
@@ -106,10 +121,13 @@ line_words (Peer round base fault) =
 line_words (Unpublished round fault) = codes "round " ++ decimal round ++ codes ": " ++ refused_words
 line_words (Goes round progress) = codes "round " ++ decimal round ++ codes ": " ++ progress_words progress
 line_words (Start greeting) = codes "start: " ++ greeting_words greeting
+line_words (Wishes counts) = codes "wishes: " ++ wish_words counts
+line_words (Of_list round matter) = codes "round " ++ decimal round ++ codes ": list: " ++ list_words matter
 line_words (Snapshot end) = codes "snapshot: " ++ snapshot_words end
 line_words Output = codes "standard output fails: no further round is made"
 line_words (Gate number address end) =
     codes "gate " ++ decimal number ++ codes " (" ++ address.now ++ codes ") ended: " ++ end_words end
+line_words (Status address end) = codes "status (" ++ address.now ++ codes ") ended: " ++ end_words end
 
 -- a whole line of the log
 abbrev pub log_line : Line → List ℕ

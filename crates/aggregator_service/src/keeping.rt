@@ -17,6 +17,7 @@ use memento_time::NoMemory;
 use published_index::Merger;
 use snapshots::{ReadFault, WriteFault, keep_snapshot, set_aside, take_snapshot};
 use std::io::Write;
+use std::rt::Files;
 use std::sync::Wait;
 
 /// Whether a snapshot is to be written, and when.
@@ -88,7 +89,7 @@ impl Keeping {
         log: Log<L>,
     ) -> bool
     where
-        R: SocketRuntime,
+        R: SocketRuntime + Files,
         L: Write + Copy,
         ensures { Starts merger.old merger.new }
     {
@@ -111,7 +112,7 @@ impl Keeping {
     /// Sets the file at PATH aside, which has this fault.
     fn leave<R>(&mut self, rt: &R, path: &str, fault: ReadFault) -> SnapshotEnd
     where
-        R: SocketRuntime,
+        R: SocketRuntime + Files,
     {
         self.is_unread = set_aside(rt, path).is_err();
         if self.is_unread {
@@ -125,7 +126,7 @@ impl Keeping {
     /// told.
     pub(crate) fn keep<R, L>(&mut self, rt: &R, path: &str, merger: &Merger, log: Log<L>)
     where
-        R: SocketRuntime,
+        R: SocketRuntime + Files,
         L: Write + Copy,
     {
         match self.write(rt, path, merger) {
@@ -139,7 +140,7 @@ impl Keeping {
     /// Writes what is published to the snapshot at PATH, unless a file is there that has to be set aside and can't be.
     fn write<R>(&mut self, rt: &R, path: &str, merger: &Merger) -> Result<(), WriteFault>
     where
-        R: SocketRuntime,
+        R: SocketRuntime + Files,
     {
         if self.is_unread {
             if set_aside(rt, path).is_err() {
@@ -182,7 +183,7 @@ fn publish_states<R: Wait>(rt: &R, merger: &mut Merger, states: Vec<State>) -> R
 /// Takes in what the snapshot at PATH has, and publishes it. Returns whether there is one.
 fn take_states<R>(rt: &R, path: &str, merger: &mut Merger) -> Result<bool, ReadFault>
 where
-    R: SocketRuntime,
+    R: SocketRuntime + Files,
     ensures { Starts merger.old merger.new }
 {
     let Some(states) = take_snapshot(rt, path)? else {
