@@ -1,0 +1,215 @@
+-- What is held of a script and what its reader still has are what is left of it.
+use Rattle.std.proofs.Common.{◌≡◌, ◌≢◌, ℕ, zero, suc, ◌+◌, ◌-◌, ◌*◌, ◌<◌, ◌≤◌, ◌⊎◌, inl, inr, Bool, true, false, ◌==◌, if◌then◌else◌, List, [], ◌∷◌, ◌++◌, length, take, drop}
+use Rattle.std.proofs.Common.{Option, Some, None, Result, Ok, Err, refl, sym, ap, subst, ◌∙◌, append_assoc, append-nil, length-append, arith}
+use Rattle.std.specs.Prelude.{IfSome, count_by}
+use Rattle.std.specs.Io.KnownBytes.{Appends, Consumes, IsAtEnd, Keeps}
+use Rattle.std.proofs.KnownBytes.{Appends-kept, Appends-nil}
+use Rattle.std.proofs.lemmas.Option.{same_Some}
+use Rattle.std.proofs.Math.Seq.{take-append_seam}
+use Rattle.replica_world.specs.declared.replaying.fault.ReplayFault.{ReplayFault}
+use Rattle.replica_world.specs.declared.replaying.fault.ReplayFault.TheVariants.{BadLine, Read, Write, NoMemory}
+use Rattle.replica_world.specs.Watching.{grown, Counted}
+use Rattle.replica_world.specs.Fields.{after_empty_lines}
+use Rattle.replica_world.specs.Script.{number_of_line}
+use Rattle.replica_world.specs.Reading.{Held, Told, Drops, IsLeft, IsLeftOf, IsReadTo, BlamesReader, SameText, Fills, ReadsOn, ends_of_lines, room, turns}
+use Rattle.replica_world.proofs.Written.{one_more_counted, none_counted}
+use Rattle.replica_world.proofs.Ends.{EndsWith, one_end, empty_lines_twice, end_within}
+
+-- ---- ends of lines
+
+pub ends_append : (a b : List ℕ) → ends_of_lines (a ++ b) ≡ ends_of_lines a + ends_of_lines b
+ends_append [] b = refl
+ends_append (c ∷ a) b = let more : ends_of_lines (a ++ b) ≡ ends_of_lines a + ends_of_lines b = ends_append a b in on (c == 10) where
+  on : (is : Bool) → (if is then 1 else 0) + ends_of_lines (a ++ b) ≡ ((if is then 1 else 0) + ends_of_lines a) + ends_of_lines b
+  on is = omega (arith, ends_append a b)
+
+-- ---- bytes that are used
+
+left_dropped : (script : List ℕ) (old new : Held) (rest : List ℕ) → IsLeft script old rest → Drops old new → IsLeft script new rest
+left_dropped script old new rest left drops = record {
+  used = left.used ++ drops.front;
+  whole = left.whole ∙ ap (λ (t : List ℕ). left.used ++ (t ++ rest)) drops.whole
+      ∙ ap (λ (t : List ℕ). left.used ++ t) (append_assoc drops.front new.bytes rest) ∙ sym (append_assoc left.used drops.front (new.bytes ++ rest));
+  lines = drops.lines ∙ ap (λ (n : ℕ). n + ends_of_lines drops.front) left.lines ∙ sym (ends_append left.used drops.front);
+  pieces = omega (arith, left.pieces, drops.pieces, length-append left.used drops.front, ap length drops.whole, length-append drops.front new.bytes);
+  ended = λ is. left.ended (sym drops.ended ∙ is);
+}
+
+leftof_dropped : (script : Option (List ℕ)) (old new : Held) (rest : Option (List ℕ)) → IsLeftOf script old rest → Drops old new → IsLeftOf script new rest
+leftof_dropped None old new rest left drops = tt
+leftof_dropped (Some script) old new None left drops = absurd left
+leftof_dropped (Some script) old new (Some rest) left drops = left_dropped script old new rest left drops
+
+-- what was read stays read
+pub reads_dropped : (begun : Told) (old new : Held) (now : Told) → IsReadTo begun old now → Drops old new → IsReadTo begun new now
+reads_dropped begun old new now reads drops = record {
+  left = leftof_dropped begun.bytes old new now.bytes reads.left drops;
+  pieces = subst (λ (n : ℕ). Counted n begun.pieces now.pieces) (sym drops.pieces) reads.pieces;
+  failures = reads.failures;
+}
+
+-- all but so many bytes were used, which are as many as the text ends with
+pub dropped_to : (old new : Held) (rest : List ℕ) → Drops old new → EndsWith old.bytes rest → length new.bytes ≡ length rest → new.bytes ≡ rest
+dropped_to old new rest drops ends same = one_end drops.front ends.front new.bytes rest (sym drops.whole ∙ ends.whole) same
+
+pub drops_room : (old new : Held) → Drops old new → room new ≤ room old
+drops_room old new drops =
+    let long : length old.bytes ≡ length drops.front + length new.bytes = ap length drops.whole ∙ length-append drops.front new.bytes in
+    let same : 1000000000 - new.pieces ≡ 1000000000 - old.pieces = ap (λ (n : ℕ). 1000000000 - n) drops.pieces in
+    omega (arith, long, same)
+
+pub drops_turns : (old new : Held) → Drops old new → turns new ≡ turns old
+drops_turns old new drops = λ i. (1000000000 - drops.pieces i) + (if drops.ended i then 0 else 1)
+
+-- ---- a piece more
+
+left_filled : (script : List ℕ) (old new : Held) (rest left : List ℕ) (piece : List ℕ) → IsLeft script old rest → new.bytes ≡ old.bytes ++ piece → new.lines ≡ old.lines
+    → rest ≡ piece ++ left → new.pieces ≤ old.pieces + length piece → (new.ended ≡ true → left ≡ []) → IsLeft script new left
+left_filled script old new rest left piece before bytes lines consumed pieces ended = record {
+  used = before.used;
+  whole = before.whole ∙ ap (λ (t : List ℕ). before.used ++ t)
+      (ap (λ (t : List ℕ). old.bytes ++ t) consumed ∙ sym (append_assoc old.bytes piece left) ∙ ap (λ (t : List ℕ). t ++ left) (sym bytes));
+  lines = lines ∙ before.lines;
+  pieces = omega (arith, before.pieces, pieces, ap length bytes, length-append old.bytes piece);
+  ended = ended;
+}
+
+leftof_filled : (script : Option (List ℕ)) (old new : Held) (rest left : Option (List ℕ)) (piece : List ℕ) → IsLeftOf script old rest → new.bytes ≡ old.bytes ++ piece → new.lines ≡ old.lines
+    → Consumes rest left piece → new.pieces ≤ old.pieces + length piece → (new.ended ≡ true → IsAtEnd left) → IsLeftOf script new left
+leftof_filled None old new rest left piece before bytes lines consumed pieces ended = tt
+leftof_filled (Some script) old new None left piece before bytes lines consumed pieces ended = absurd before
+leftof_filled (Some script) old new (Some rest) None piece before bytes lines consumed pieces ended = absurd consumed
+leftof_filled (Some script) old new (Some rest) (Some left) piece before bytes lines consumed pieces ended =
+    left_filled script old new rest left piece before bytes lines consumed pieces ended
+
+text_filled : (old new piece : List ℕ) (rest left : Option (List ℕ)) → new ≡ old ++ piece → Consumes rest left piece → SameText old rest new left
+text_filled old new piece None left bytes consumed = tt
+text_filled old new piece (Some rest) None bytes consumed = absurd consumed
+text_filled old new piece (Some rest) (Some left) bytes consumed =
+    ap after_empty_lines (ap (λ (t : List ℕ). t ++ left) bytes ∙ append_assoc old piece left ∙ ap (λ (t : List ℕ). old ++ t) (sym consumed))
+
+reads_filled : (begun : Told) (old : Held) (before : Told) (new : Held) (after : Told) → Fills old before new after → IsReadTo begun old before → IsReadTo begun new after
+reads_filled begun old before new after fills reads = on fills.counted where
+  on : ((new.ended ≡ true) × (fills.piece ≡ []) × IsAtEnd after.bytes × (new.pieces ≡ old.pieces) × (after.pieces ≡ before.pieces))
+      ⊎ ((new.ended ≡ false) × (0 < length fills.piece) × (new.pieces ≡ old.pieces + 1) × (old.pieces < 1000000000) × (after.pieces ≡ grown 1 before.pieces))
+      → IsReadTo begun new after
+  on (inl (ended, none, end, pieces, counted)) = record {
+    left = leftof_filled begun.bytes old new before.bytes after.bytes fills.piece reads.left fills.bytes fills.lines fills.consumed (omega (arith, pieces)) (λ is. end);
+    pieces = subst (λ (n : ℕ). Counted n begun.pieces after.pieces) (sym pieces) (subst (Counted old.pieces begun.pieces) (sym counted) reads.pieces);
+    failures = fills.failures ∙ reads.failures;
+  }
+  on (inr (ended, some, pieces, most, counted)) = record {
+    left = leftof_filled begun.bytes old new before.bytes after.bytes fills.piece reads.left fills.bytes fills.lines fills.consumed (omega (arith, pieces, some))
+        (λ is. absurd (let both : true ≡ false = sym is ∙ ended in cc));
+    pieces = subst (λ (n : ℕ). Counted n begun.pieces after.pieces) (sym pieces) (one_more_counted old.pieces begun.pieces before.pieces after.pieces reads.pieces counted);
+    failures = fills.failures ∙ reads.failures;
+  }
+
+room_filled : (old : Held) (before : Told) (new : Held) (after : Told) → Fills old before new after → room new ≤ room old
+room_filled old before new after fills = on fills.counted where
+  on : ((new.ended ≡ true) × (fills.piece ≡ []) × IsAtEnd after.bytes × (new.pieces ≡ old.pieces) × (after.pieces ≡ before.pieces))
+      ⊎ ((new.ended ≡ false) × (0 < length fills.piece) × (new.pieces ≡ old.pieces + 1) × (old.pieces < 1000000000) × (after.pieces ≡ grown 1 before.pieces))
+      → room new ≤ room old
+  on (inl (ended, none, end, pieces, counted)) =
+      omega (arith, pieces, ap length fills.bytes, length-append old.bytes fills.piece, ap length none)
+  on (inr (ended, some, pieces, most, counted)) = omega (arith, pieces, most, fills.short, ap length fills.bytes, length-append old.bytes fills.piece)
+
+pub fills_turns : (old : Held) (before : Told) (new : Held) (after : Told) → Fills old before new after → old.ended ≡ false → turns new < turns old
+fills_turns old before new after fills more = on fills.counted where
+  before_is : turns old ≡ (1000000000 - old.pieces) + 1
+  before_is = ap (λ (e : Bool). (1000000000 - old.pieces) + (if e then 0 else 1)) more
+
+  on : ((new.ended ≡ true) × (fills.piece ≡ []) × IsAtEnd after.bytes × (new.pieces ≡ old.pieces) × (after.pieces ≡ before.pieces))
+      ⊎ ((new.ended ≡ false) × (0 < length fills.piece) × (new.pieces ≡ old.pieces + 1) × (old.pieces < 1000000000) × (after.pieces ≡ grown 1 before.pieces))
+      → turns new < turns old
+  on (inl (ended, none, end, pieces, counted)) =
+      let after_is : turns new ≡ (1000000000 - old.pieces) + 0 = (λ i. (1000000000 - pieces i) + (if ended i then 0 else 1)) in
+      omega (arith, before_is, after_is)
+  on (inr (ended, some, pieces, most, counted)) =
+      let after_is : turns new ≡ (1000000000 - (old.pieces + 1)) + 1 = (λ i. (1000000000 - pieces i) + (if ended i then 0 else 1)) in
+      omega (arith, before_is, after_is, most)
+
+-- ---- one step after the other
+
+text_on : (a b c : List ℕ) (x y z : Option (List ℕ)) → SameText a x b y → SameText b y c z → SameText a x c z
+text_on a b c None y z first next = tt
+text_on a b c (Some x) None z first next = absurd first
+text_on a b c (Some x) (Some y) None first next = absurd next
+text_on a b c (Some x) (Some y) (Some z) first next = next ∙ first
+
+text_skipped : (old new : List ℕ) (rest : Option (List ℕ)) → new ≡ after_empty_lines old → SameText old rest new rest
+text_skipped old new None is = tt
+text_skipped old new (Some rest) is = ap (λ (t : List ℕ). after_empty_lines (t ++ rest)) is ∙ empty_lines_twice old rest
+
+-- empty lines are passed over
+pub skips_on : (old new : Held) (now : Told) → Drops old new → new.bytes ≡ after_empty_lines old.bytes → ReadsOn old now new now
+skips_on old new now drops is = record {
+  reads = λ begun reads. reads_dropped begun old new now reads drops;
+  text = text_skipped old.bytes new.bytes now.bytes is;
+  room = drops_room old new drops;
+}
+
+pub fills_on : (old : Held) (before : Told) (new : Held) (after : Told) → Fills old before new after → ReadsOn old before new after
+fills_on old before new after fills = record {
+  reads = λ begun reads. reads_filled begun old before new after fills reads;
+  text = text_filled old.bytes new.bytes fills.piece before.bytes after.bytes fills.bytes fills.consumed;
+  room = room_filled old before new after fills;
+}
+
+pub reads_on_on : (old : Held) (before : Told) (mid : Held) (between : Told) (new : Held) (after : Told) → ReadsOn old before mid between → ReadsOn mid between new after → ReadsOn old before new after
+reads_on_on old before mid between new after first next = record {
+  reads = λ begun reads. next.reads begun (first.reads begun reads);
+  text = text_on old.bytes mid.bytes new.bytes before.bytes between.bytes after.bytes first.text next.text;
+  room = omega (arith, first.room, next.room);
+}
+
+-- ---- whose fault a failure is
+
+-- a read failed
+pub read_blamed : {T : Type 0} (begun : Told) (old : Held) (before after : Told) (result : Result T ReplayFault) → IsReadTo begun old before → after.failures ≡ grown 1 before.failures → result ≡ Err Read
+    → BlamesReader result begun after
+read_blamed {T} begun old before after result reads failed is =
+    subst (λ (r : Result T ReplayFault). BlamesReader r begun after) (sym is) (inl (failed ∙ ap (grown 1) reads.failures))
+
+long_script : (script : Option (List ℕ)) (held : Held) (rest : Option (List ℕ)) → IsLeftOf script held rest → held.pieces ≡ 1000000000 → IfSome script (λ script. 1000000000 ≤ length script)
+long_script None held rest left all = tt
+long_script (Some script) held None left all = absurd left
+long_script (Some script) held (Some rest) left all =
+    omega (arith, left.pieces, all, ap length left.whole, length-append left.used (held.bytes ++ rest), length-append held.bytes rest)
+
+-- there were too many pieces
+pub pieces_blamed : {T : Type 0} (begun : Told) (old : Held) (now : Told) (result : Result T ReplayFault) → IsReadTo begun old now → old.pieces ≡ 1000000000 → result ≡ Err Read
+    → BlamesReader result begun now
+pieces_blamed {T} begun old now result reads all is =
+    let some : 0 < old.pieces = omega (arith, all) in
+    subst (λ (r : Result T ReplayFault). BlamesReader r begun now) (sym is)
+    (inr (reads.pieces.some some ∙ ap (λ (n : ℕ). grown n begun.pieces) all, long_script begun.bytes old now.bytes reads.left all))
+
+-- no reader is
+pub reader_not_blamed : {T : Type 0} (begun now : Told) (result : Result T ReplayFault) → result ≢ Err Read → now.failures ≡ begun.failures → BlamesReader result begun now
+reader_not_blamed begun now (Ok u) other same = same
+reader_not_blamed begun now (Err Read) other same = absurd (other refl)
+reader_not_blamed begun now (Err Write) other same = same
+reader_not_blamed begun now (Err NoMemory) other same = same
+reader_not_blamed begun now (Err (BadLine number)) other same = same
+
+-- what a part of a replay answers is what the whole answers
+pub blames_on : {T U : Type 0} (begun now : Told) (result : Result T ReplayFault) (whole : Result U ReplayFault) (fault : ReplayFault) → result ≡ Err fault → whole ≡ Err fault
+    → BlamesReader result begun now → BlamesReader whole begun now
+blames_on {T} {U} begun now result whole fault is same blames =
+    subst (λ (r : Result U ReplayFault). BlamesReader r begun now) (sym same) (on fault (subst (λ (r : Result T ReplayFault). BlamesReader r begun now) is blames)) where
+      on : (fault : ReplayFault) → (let r : Result T ReplayFault = Err fault in BlamesReader r begun now) → (let r : Result U ReplayFault = Err fault in BlamesReader r begun now)
+      on Read blames = blames
+      on Write blames = blames
+      on NoMemory blames = blames
+      on (BadLine number) blames = blames
+
+-- ---- where what is left begins
+
+line_of_left : (script : List ℕ) (held : Held) (rest : List ℕ) (n : ℕ) → IsLeft script held rest → n ≡ 1 + held.lines → n ≡ number_of_line script (held.bytes ++ rest)
+line_of_left script held rest n left is =
+    let text = held.bytes ++ rest in
+    let long : length script - length text ≡ length left.used = omega (arith, ap length left.whole, length-append left.used text) in
+    let front : take (length script - length text) script ≡ left.used =
+    ap (λ (k : ℕ). take k script) long ∙ ap (take (length left.used)) left.whole ∙ take-append_seam left.used text in
+    is ∙ ap (λ (k : ℕ). 1 + k) left.lines ∙ ap (λ (t : List ℕ). 1 + ends_of_lines t) (sym front)
