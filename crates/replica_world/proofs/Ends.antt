@@ -1,8 +1,7 @@
 -- What is left behind a part of a script is the end of the text.
-use Rattle.std.proofs.Common.{◌≡◌, ℕ, zero, suc, ◌+◌, ◌-◌, ◌<◌, ◌≤◌, inl, inr, Bool, true, false, ◌==◌, if◌then◌else◌, List, [], ◌∷◌, ◌++◌, length, drop, replicate}
+use Rattle.std.proofs.Common.{◌≡◌, ℕ, zero, suc, ◌+◌, ◌-◌, ◌<◌, ◌≤◌, inl, inr, Bool, true, false, ◌==◌, if◌then◌else◌, List, [], ◌∷◌, ◌++◌, length, replicate}
 use Rattle.std.proofs.Common.{Option, Some, None, refl, sym, ap, subst, ◌∙◌, append_assoc, append-nil, arith}
 use Rattle.std.specs.Prelude.{IfSome}
-use Rattle.std.proofs.Math.Seq.{drop-append_seam}
 use Rattle.std.proofs.lemmas.List.{length-append}
 use Rattle.replica_world.specs.Fields.{◌>>=◌, after_empty_lines, block_of, line_of, lines_of}
 use Rattle.replica_world.specs.Form as form
@@ -38,7 +37,7 @@ line_end text parts is = ended_end text parts ((line_is text parts).0 is).3
 block_end : (len : ℕ) (text : List ℕ) (parts : List ℕ × List ℕ) → block_of len text ≡ Some parts → EndsWith text parts.1
 block_end len text parts is = ended_end text parts ((block_is len text parts).0 is).2
 
-empty_lines_end : (text : List ℕ) → EndsWith text (after_empty_lines text)
+pub empty_lines_end : (text : List ℕ) → EndsWith text (after_empty_lines text)
 empty_lines_end text = let is = after_empty_lines_is text in record { front = replicate is.lines 10; whole = is.whole }
 
 lines_end : (count : ℕ) (text : List ℕ) → IfSome (lines_of count text) (λ found. EndsWith text found.1)
@@ -106,12 +105,16 @@ empty_lines_twice (b ∷ text) more = on (b == 10) refl (empty_lines_twice text 
   on true is same = same
   on false is same = ap (λ (e : Bool). if e then after_empty_lines (text ++ more) else b ∷ (text ++ more)) is
 
+pub none_behind : (text rest : List ℕ) → rest ≡ after_empty_lines text → after_empty_lines rest ≡ rest
+none_behind text rest is =
+    ap after_empty_lines (is ∙ sym (append-nil (after_empty_lines text))) ∙ empty_lines_twice text [] ∙ ap after_empty_lines (append-nil text) ∙ sym is
+
 -- a text that begins with no empty line
 pub none_empty : (text more : List ℕ) → after_empty_lines text ≡ text → 0 < length text → after_empty_lines (text ++ more) ≡ text ++ more
+unfolding after_empty_lines
 none_empty [] more clean some = absurd (omega (arith, some))
 none_empty (b ∷ text) more clean some = on (b == 10) refl where
   on : (empty : Bool) → (b == 10) ≡ empty → after_empty_lines ((b ∷ text) ++ more) ≡ (b ∷ text) ++ more
-  unfolding after_empty_lines
   on false is = ap (λ (e : Bool). if e then after_empty_lines (text ++ more) else b ∷ (text ++ more)) is
   on true is =
       let shorter : after_empty_lines text ≡ b ∷ text = sym (ap (λ (e : Bool). if e then after_empty_lines text else b ∷ text) is) ∙ clean in

@@ -58,10 +58,34 @@ first_whole script held rest kept next_kept said next left whole first = record 
 
 -- ---- the loop
 
+-- where the reader tells its bytes
+pub left_told : (begun : Told) (script : List ℕ) (held : Held) (now : Told) → begun.bytes ≡ Some script → IsReadTo begun held now → IsLeftOf (Some script) held now.bytes
+left_told begun script held now is read = subst (λ (o : Option (List ℕ)). IsLeftOf o held now.bytes) is read.left
+
+pub if_told : (o : Option (List ℕ)) (P : List ℕ → Type 0) → ((script : List ℕ) → o ≡ Some script → P script) → IfSome o P
+if_told None P each = tt
+if_told (Some script) P each = each script refl
+
 -- as `Progress`, where the reader tells its bytes
 abbrev pub ProgressLeft : List ℕ → World → List ℕ → Kept → List ℕ → Option (List ℕ) → Option (List ℕ) → Option (List ℕ) → Type 0
 ProgressLeft base w text kept held None old new = ⊥
 ProgressLeft base w text kept held (Some rest) old new = Progress base w text kept (after_empty_lines (held ++ rest)) old new
+
+-- what was written was flushed
+progress_flushed : (base : List ℕ) (w : World) (text : List ℕ) (kept : Kept) (rest : List ℕ) (old mid new : Option (List ℕ)) → Progress base w text kept rest old mid → Keeps mid new
+    → Progress base w text kept rest old new
+progress_flushed base w text kept rest old mid new p keeps = record {
+  bytes = p.bytes;
+  enough = p.enough;
+  before = p.before;
+  said = p.said;
+  mid = p.mid;
+  says = p.says;
+  stands = p.stands;
+  base_is = p.base_is;
+  commands_are = p.commands_are;
+  written = Appends-kept old mid new p.said p.written keeps;
+}
 
 -- before the first command
 pub left_start : (w : World) (kept : Kept) (held rest : List ℕ) (left old : Option (List ℕ)) → Stands kept w → left ≡ Some rest → ProgressLeft kept.base w (held ++ rest) kept held left old old
@@ -76,7 +100,7 @@ left_read base w text kept held new None left old mid last p same keeps = absurd
 left_read base w text kept held new (Some rest) None old mid last p same keeps = absurd same
 left_read base w text kept held new (Some rest) (Some left) old mid last p same keeps =
     let there : Progress base w text kept (after_empty_lines (new ++ left)) old mid = subst (λ (t : List ℕ). Progress base w text kept t old mid) (sym same) p in
-    record there { written = Appends-kept old mid last there.said there.written keeps }
+    progress_flushed base w text kept (after_empty_lines (new ++ left)) old mid last there keeps
 
 -- one command more
 pub left_next : (script base : List ℕ) (w : World) (text : List ℕ) (kept next_kept : Kept) (held : Held) (rest old mid new : Option (List ℕ)) (said next bytes : List ℕ)
@@ -132,7 +156,7 @@ pub left_broken : OnePage → (script base : List ℕ) (w : World) (text : List 
     (result : Result (Unit {0}) ReplayFault) → ProgressLeft base w text kept held rest old mid → Keeps mid new → IsBreak fault → result ≡ Err fault → ReplaysFrom base w script text old new result
 left_broken one script base w text kept held None old mid new fault result p keeps is same = absurd p
 left_broken one script base w text kept held (Some rest) old mid new fault result p keeps is same =
-    let there : Progress base w text kept (after_empty_lines (held ++ rest)) old new = record p { written = Appends-kept old mid new p.said p.written keeps } in
+    let there : Progress base w text kept (after_empty_lines (held ++ rest)) old new = progress_flushed base w text kept (after_empty_lines (held ++ rest)) old mid new p keeps in
     subst (λ (r : Result (Unit {0}) ReplayFault). ReplaysFrom base w script text old new r) (sym same)
     (broken fault is _ _ old new (progress_broken one base w text kept (after_empty_lines (held ++ rest)) old new there))
 

@@ -1,27 +1,25 @@
 -- What is held of a script and what its reader still has are what is left of it.
 use Rattle.std.proofs.Common.{◌≡◌, ◌≢◌, ℕ, zero, suc, ◌+◌, ◌-◌, ◌*◌, ◌<◌, ◌≤◌, ◌⊎◌, inl, inr, Bool, true, false, ◌==◌, if◌then◌else◌, List, [], ◌∷◌, ◌++◌, length, take, drop}
 use Rattle.std.proofs.Common.{Option, Some, None, Result, Ok, Err, refl, sym, ap, subst, ◌∙◌, append_assoc, append-nil, length-append, arith}
-use Rattle.std.specs.Prelude.{IfSome, count_by}
+use Rattle.std.specs.Prelude.{IfSome, cond}
+use Rattle.std.proofs.lemmas.List.Sums.{sum_by-append}
 use Rattle.std.specs.Io.KnownBytes.{Appends, Consumes, IsAtEnd, Keeps}
 use Rattle.std.proofs.KnownBytes.{Appends-kept, Appends-nil}
-use Rattle.std.proofs.lemmas.Option.{same_Some}
+use Rattle.std.proofs.lemmas.List.{drop-drop, take-append-drop}
 use Rattle.std.proofs.Math.Seq.{take-append_seam}
 use Rattle.replica_world.specs.declared.replaying.fault.ReplayFault.{ReplayFault}
 use Rattle.replica_world.specs.declared.replaying.fault.ReplayFault.TheVariants.{BadLine, Read, Write, NoMemory}
 use Rattle.replica_world.specs.Watching.{grown, Counted}
 use Rattle.replica_world.specs.Fields.{after_empty_lines}
 use Rattle.replica_world.specs.Script.{number_of_line}
-use Rattle.replica_world.specs.Reading.{Held, Told, Drops, IsLeft, IsLeftOf, IsReadTo, BlamesReader, SameText, Fills, ReadsOn, ends_of_lines, room, turns}
+use Rattle.replica_world.specs.Reading.{Held, Told, Drops, IsLeft, IsLeftOf, IsReadTo, BlamesReader, SameText, Fills, ReadsOn, ends_of_lines, nothing_held, room, turns}
 use Rattle.replica_world.proofs.Written.{one_more_counted, none_counted}
 use Rattle.replica_world.proofs.Ends.{EndsWith, one_end, empty_lines_twice, end_within}
 
 -- ---- ends of lines
 
 pub ends_append : (a b : List ℕ) → ends_of_lines (a ++ b) ≡ ends_of_lines a + ends_of_lines b
-ends_append [] b = refl
-ends_append (c ∷ a) b = let more : ends_of_lines (a ++ b) ≡ ends_of_lines a + ends_of_lines b = ends_append a b in on (c == 10) where
-  on : (is : Bool) → (if is then 1 else 0) + ends_of_lines (a ++ b) ≡ ((if is then 1 else 0) + ends_of_lines a) + ends_of_lines b
-  on is = omega (arith, ends_append a b)
+ends_append a b = sum_by-append (λ (x : ℕ). cond (x == 10) 1 0) a b
 
 -- ---- bytes that are used
 
@@ -61,7 +59,37 @@ drops_room old new drops =
 pub drops_turns : (old new : Held) → Drops old new → turns new ≡ turns old
 drops_turns old new drops = λ i. (1000000000 - drops.pieces i) + (if drops.ended i then 0 else 1)
 
+-- what stands before the new front was used
+pub front_used : (start next : ℕ) (items : List ℕ) (old new : Held) → start ≤ next → old.bytes ≡ drop start items → new.bytes ≡ drop next items
+    → new.lines ≡ old.lines + ends_of_lines (take (next - start) (drop start items)) → new.pieces ≡ old.pieces → new.ended ≡ old.ended → Drops old new
+front_used start next items old new low bytes rest lines pieces ended =
+    let step : start + (next - start) ≡ next = omega (arith, low) in
+    let back : drop (next - start) (drop start items) ≡ new.bytes = drop-drop (next - start) start items ∙ ap (λ (n : ℕ). drop n items) step ∙ sym rest in
+    record {
+      front = take (next - start) (drop start items);
+      whole = bytes ∙ sym (take-append-drop (next - start) (drop start items)) ∙ ap (λ (t : List ℕ). take (next - start) (drop start items) ++ t) back;
+      lines = lines;
+      pieces = pieces;
+      ended = ended;
+    }
+
 -- ---- a piece more
+
+-- a piece came
+pub filled : (old mid new : Held) (before after : Told) (piece : List ℕ) → mid ≡ old → new ≡ record mid { bytes = mid.bytes ++ piece; pieces = mid.pieces + 1 } → old.ended ≡ false
+    → length piece ≤ 65536 → 0 < length piece → Consumes before.bytes after.bytes piece → after.failures ≡ before.failures → old.pieces < 1000000000 → after.pieces ≡ grown 1 before.pieces
+    → Fills old before new after
+filled old mid new before after piece mid_is new_is more short some consumed failures most counted =
+    let is : new ≡ record old { bytes = old.bytes ++ piece; pieces = old.pieces + 1 } = new_is ∙ ap (λ (h : Held). record h { bytes = h.bytes ++ piece; pieces = h.pieces + 1 }) mid_is in
+    record {
+      piece = piece;
+      short = short;
+      bytes = ap (λ (h : Held). h.bytes) is;
+      lines = ap (λ (h : Held). h.lines) is;
+      consumed = consumed;
+      failures = failures;
+      counted = inr (ap (λ (h : Held). h.ended) is ∙ more, some, ap (λ (h : Held). h.pieces) is, most, counted);
+    }
 
 left_filled : (script : List ℕ) (old new : Held) (rest left : List ℕ) (piece : List ℕ) → IsLeft script old rest → new.bytes ≡ old.bytes ++ piece → new.lines ≡ old.lines
     → rest ≡ piece ++ left → new.pieces ≤ old.pieces + length piece → (new.ended ≡ true → left ≡ []) → IsLeft script new left
@@ -163,6 +191,25 @@ reads_on_on old before mid between new after first next = record {
   room = omega (arith, first.room, next.room);
 }
 
+-- the text that is left is that of the script
+pub text_told : (held : Held) (bytes : Option (List ℕ)) (new : List ℕ) (rest : Option (List ℕ)) (script : List ℕ) → held ≡ nothing_held → bytes ≡ Some script → SameText held.bytes bytes new rest
+    → SameText [] (Some script) new rest
+text_told held bytes new rest script is told same =
+    subst (λ (o : Option (List ℕ)). SameText [] o new rest) told (subst (λ (h : Held). SameText h.bytes bytes new rest) is same)
+
+-- before the first read
+pub nothing_read : (held : Held) (now : Told) → held ≡ nothing_held → IsReadTo now held now
+nothing_read held now is = subst (λ (h : Held). IsReadTo now h now) (sym is) (record { left = all_left now.bytes; pieces = none_counted now.pieces; failures = refl }) where
+  all_left : (script : Option (List ℕ)) → IsLeftOf script nothing_held script
+  all_left None = tt
+  all_left (Some script) = record { used = []; whole = refl; lines = refl; pieces = omega arith; ended = λ is. absurd (let both : false ≡ true = is in cc) }
+
+-- less is left to come
+pub room_used : (old new : Held) → Drops old new → length new.bytes < length old.bytes → room new < room old
+room_used old new drops shorter =
+    let same : 1000000000 - new.pieces ≡ 1000000000 - old.pieces = ap (λ (n : ℕ). 1000000000 - n) drops.pieces in
+    omega (arith, shorter, same)
+
 -- ---- whose fault a failure is
 
 -- a read failed
@@ -194,19 +241,45 @@ reader_not_blamed begun now (Err NoMemory) other same = same
 reader_not_blamed begun now (Err (BadLine number)) other same = same
 
 -- what a part of a replay answers is what the whole answers
-pub blames_on : {T U : Type 0} (begun now : Told) (result : Result T ReplayFault) (whole : Result U ReplayFault) (fault : ReplayFault) → result ≡ Err fault → whole ≡ Err fault
-    → BlamesReader result begun now → BlamesReader whole begun now
-blames_on {T} {U} begun now result whole fault is same blames =
-    subst (λ (r : Result U ReplayFault). BlamesReader r begun now) (sym same) (on fault (subst (λ (r : Result T ReplayFault). BlamesReader r begun now) is blames)) where
-      on : (fault : ReplayFault) → (let r : Result T ReplayFault = Err fault in BlamesReader r begun now) → (let r : Result U ReplayFault = Err fault in BlamesReader r begun now)
-      on Read blames = blames
-      on Write blames = blames
-      on NoMemory blames = blames
-      on (BadLine number) blames = blames
+pub reader_blamed_on : (begun now : Told) (result : Result (Unit {0}) ReplayFault) (fault : ReplayFault) → result ≡ Err fault → (let part : Result (Unit {0}) ReplayFault = Err fault in BlamesReader part begun now)
+    → BlamesReader result begun now
+reader_blamed_on begun now result fault is blames = subst (λ (r : Result (Unit {0}) ReplayFault). BlamesReader r begun now) (sym is) blames
+
+-- what follows for a whole replay
+pub read_failed : (begun now : Told) (result : Result (Unit {0}) ReplayFault) → BlamesReader result begun now → result ≡ Err Read
+    → (now.failures ≡ grown 1 begun.failures) ⊎ (now.pieces ≡ grown 1000000000 begun.pieces)
+read_failed begun now result blames is = on (subst (λ (r : Result (Unit {0}) ReplayFault). BlamesReader r begun now) is blames) where
+  on : (now.failures ≡ grown 1 begun.failures) ⊎ ((now.pieces ≡ grown 1000000000 begun.pieces) × IfSome begun.bytes (λ script. 1000000000 ≤ length script))
+      → (now.failures ≡ grown 1 begun.failures) ⊎ (now.pieces ≡ grown 1000000000 begun.pieces)
+  on (inl failed) = inl failed
+  on (inr many) = inr many.0
+
+pub read_of_few_failed : (begun now : Told) (result : Result (Unit {0}) ReplayFault) → BlamesReader result begun now → result ≡ Err Read
+    → IfSome begun.bytes (λ script. length script < 1000000000 → now.failures ≡ grown 1 begun.failures)
+read_of_few_failed begun now result blames is = on (subst (λ (r : Result (Unit {0}) ReplayFault). BlamesReader r begun now) is blames) where
+  few : (o : Option (List ℕ)) → IfSome o (λ script. 1000000000 ≤ length script) → IfSome o (λ script. length script < 1000000000 → now.failures ≡ grown 1 begun.failures)
+  few None many = tt
+  few (Some script) many = λ short. absurd (omega (arith, short, many))
+
+  any : (o : Option (List ℕ)) → now.failures ≡ grown 1 begun.failures → IfSome o (λ script. length script < 1000000000 → now.failures ≡ grown 1 begun.failures)
+  any None failed = tt
+  any (Some script) failed = λ short. failed
+
+  on : (now.failures ≡ grown 1 begun.failures) ⊎ ((now.pieces ≡ grown 1000000000 begun.pieces) × IfSome begun.bytes (λ script. 1000000000 ≤ length script))
+      → IfSome begun.bytes (λ script. length script < 1000000000 → now.failures ≡ grown 1 begun.failures)
+  on (inl failed) = any begun.bytes failed
+  on (inr many) = few begun.bytes many.1
+
+pub no_read_failed : (begun now : Told) (result : Result (Unit {0}) ReplayFault) → BlamesReader result begun now → result ≢ Err Read → now.failures ≡ begun.failures
+no_read_failed begun now (Ok u) blames other = blames
+no_read_failed begun now (Err Read) blames other = absurd (other refl)
+no_read_failed begun now (Err Write) blames other = blames
+no_read_failed begun now (Err NoMemory) blames other = blames
+no_read_failed begun now (Err (BadLine number)) blames other = blames
 
 -- ---- where what is left begins
 
-line_of_left : (script : List ℕ) (held : Held) (rest : List ℕ) (n : ℕ) → IsLeft script held rest → n ≡ 1 + held.lines → n ≡ number_of_line script (held.bytes ++ rest)
+pub line_of_left : (script : List ℕ) (held : Held) (rest : List ℕ) (n : ℕ) → IsLeft script held rest → n ≡ 1 + held.lines → n ≡ number_of_line script (held.bytes ++ rest)
 line_of_left script held rest n left is =
     let text = held.bytes ++ rest in
     let long : length script - length text ≡ length left.used = omega (arith, ap length left.whole, length-append left.used text) in

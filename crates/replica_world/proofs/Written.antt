@@ -1,14 +1,13 @@
 -- Reads and writes one after another, and whose fault a failure is.
 use Rattle.std.proofs.Common.{◌≡◌, ◌≢◌, ℕ, zero, suc, ◌+◌, ◌<◌, ◌≤◌, min, arith, refl, length-append, List, [], ◌++◌, length, take, drop, Option}
 use Rattle.std.proofs.Common.{Some, None, Result, Ok, Err, sym, ap, subst, ◌∙◌, append-nil, append_assoc}
-use Rattle.std.specs.Prelude.{IfSome}
-use Rattle.std.specs.Io.KnownBytes.{Appends, Consumes, IsAtEnd}
-use Rattle.std.proofs.KnownBytes.{Appends-trans, Consumes-trans}
+use Rattle.std.specs.Io.KnownBytes.{Appends}
+use Rattle.std.proofs.KnownBytes.{Appends-trans}
 use Rattle.std.proofs.lemmas.List.{take-append-drop}
-use Rattle.replica_world.specs.Watching.{grown}
+use Rattle.replica_world.specs.Watching.{grown, Counted}
 use Rattle.replica_world.specs.declared.replaying.fault.ReplayFault.{ReplayFault}
 use Rattle.replica_world.specs.declared.replaying.fault.ReplayFault.TheVariants.{BadLine, Read, Write, NoMemory}
-use Rattle.replica_world.specs.Devices.{BlamesWriter, StopsReading}
+use Rattle.replica_world.specs.Devices.{BlamesWriter}
 
 -- bytes are what was done and what is left; after n more of what was left
 pub write_more : (old mid new : Option (List ℕ)) (bytes rest after : List ℕ) (n : ℕ)

@@ -36,6 +36,10 @@ pub record Held : Type 0 where
   pub pieces : ℕ
   pub ended : Bool
 
+-- before the first read
+abbrev pub nothing_held : Held
+nothing_held = record { bytes = []; lines = 0; pieces = 0; ended = false }
+
 -- a piece has at most 65,536 bytes, and there are at most 1,000,000,000
 pub record IsHeld (start : ℕ) (bytes : List ℕ) (lines pieces : ℕ) : Type 0 where
   pub within : start ≤ length bytes

@@ -7,7 +7,7 @@ ghost use Rattle.replica_world.specs.Watching.{grown};
 ghost use Rattle.replica_world.specs.Devices.{BlamesWriter};
 ghost use Rattle.replica_world.specs.Output.{Replays, ReplaysFrom};
 ghost use Rattle.replica_world.specs.Performing.{IsFirstPerformed};
-ghost use Rattle.replica_world.specs.Reading.{Told, IsReadTo, BlamesReader, told};
+ghost use Rattle.replica_world.specs.Reading.{Told, IsReadTo, BlamesReader, told, nothing_held};
 
 use crate::replaying::command::command_at;
 use crate::replaying::fault::ReplayFault;
@@ -75,6 +75,34 @@ fn replay_commands<R: Read, W: Write>(
     }
 }
 
+/// Performs a script from its first line on.
+fn replay_script<R: Read, W: Write>(
+    alloc: Global,
+    window: &mut Window,
+    reader: &mut Watched<R>,
+    writer: &mut Watched<W>,
+) -> Result<(), ReplayFault>
+    requires { window.old ≡ nothing_held }
+    ensures replays { IfSome (R.remaining reader.old.device) (λ script.
+        Replays script (W.contents writer.old.device) (W.contents writer.new.device) result) }
+    ensures reader { BlamesReader result (told R.remaining reader.old) (told R.remaining reader.new) }
+    ensures writer { BlamesWriter result writer.old.failures writer.new.failures }
+{
+    await_part(Part::Start, window, reader, writer)?;
+    if window.bytes().is_empty() {
+        return Ok(());
+    }
+    let Some((start, rest)) = start_at(alloc, window.bytes())? else {
+        return Err(ReplayFault::BadLine {
+            number: window.line_number(),
+        });
+    };
+    let left = rest.len();
+    window.keep(left);
+    let mut world = World::new(alloc, start.replicas, start.service)?;
+    replay_commands(alloc, &mut world, window, reader, writer)
+}
+
 /// Performs the commands of a script in order, each as soon as it is read whole, and writes what each says before it
 /// performs the next. What was written is flushed before the reader is asked for more, so whoever writes the script
 /// through a pipe gets each answer before asking the next question. Of the script only what isn't performed yet is held.
@@ -132,17 +160,5 @@ pub fn replay<R: Read, W: Write>(
     ensures no_write_failed { result ≢ Err ReplayFault.Write → writer.new.failures ≡ writer.old.failures }
 {
     let mut window = Window::new(alloc);
-    await_part(Part::Start, &mut window, reader, writer)?;
-    if window.bytes().is_empty() {
-        return Ok(());
-    }
-    let Some((start, rest)) = start_at(alloc, window.bytes())? else {
-        return Err(ReplayFault::BadLine {
-            number: window.line_number(),
-        });
-    };
-    let left = rest.len();
-    window.keep(left);
-    let mut world = World::new(alloc, start.replicas, start.service)?;
-    replay_commands(alloc, &mut world, &mut window, reader, writer)
+    replay_script(alloc, &mut window, reader, writer)
 }

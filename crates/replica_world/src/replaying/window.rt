@@ -4,6 +4,7 @@ ghost use Rattle.std.specs.Io.KnownBytes.{Keeps};
 ghost use Rattle.replica_world.specs.Devices.{BlamesWriter, IsBreak, StopsReading};
 ghost use Rattle.replica_world.specs.Fields.{after_empty_lines};
 ghost use Rattle.replica_world.specs.Reading.{Drops, Told, IsReadTo, BlamesReader, Fills, ReadsOn, IsWhole, told, ends_of_lines};
+ghost use Rattle.replica_world.specs.Reading.{nothing_held};
 
 use crate::replaying::fault::ReplayFault;
 use crate::replaying::fields::after_empty_lines;
@@ -49,6 +50,7 @@ pub struct Window {
 }
 
 impl Model for Window {
+    ghost use Rattle.std.specs.Prelude.{drop};
     ghost use Rattle.replica_world.specs.Reading.{Held, IsHeld};
 
     ghost Value = { Held };
@@ -66,7 +68,7 @@ impl Model for Window {
 impl Window {
     /// Nothing was read.
     pub fn new(alloc: Global) -> Window
-        ensures { result ≡ record { bytes = []; lines = 0; pieces = 0; ended = false } }
+        ensures { result ≡ nothing_held }
     {
         Window {
             buffer: Vec::new(alloc),
@@ -162,6 +164,7 @@ impl Window {
 
     /// Reads one piece more, or sees that there is none.
     fn fill<R: Read>(&mut self, reader: &mut Watched<R>) -> Result<(), ReplayFault>
+        requires { self.old.ended ≡ false }
         ensures ok { OnOk result (Fills self.old (told R.remaining reader.old) self.new (told R.remaining reader.new)) }
         ensures blame { (begun : Told) → IsReadTo begun self.old (told R.remaining reader.old) →
             BlamesReader result begun (told R.remaining reader.new) }
