@@ -52,7 +52,7 @@ returns-in_default-clause-replays g c = λ begun script rest told left read w st
     let left_is = left_told begun script _ _ told (on.reads begun (c.commands.invariant.reads begun read)) in
     let progress = left_read _ w _ _ _ _ _ _ _ _ _ (c.commands.invariant.progress begun script rest told left read w stands) on.text c.in_ok-await_part.ensures.kept in
     let some : 0 < length c.await_part.new.window.bytes = omega (arith, ap length c.bytes.ensures, some_left _ _ c.is_empty.ensures c.if-is_empty.false) in
-    let none : command_at c.await_part.new.window.bytes ≡ None = ap command_at (sym c.bytes-2.ensures) ∙ (rw c.in_default.is at c.in_ok-said.ensures) in
+    let none : command_at c.await_part.new.window.bytes ≡ None = ap command_at (sym c.bytes-in-commands.ensures) ∙ (rw c.in_default.is at c.in_ok-said.ensures) in
     left_bad script _ w _ _ _ _ _ _ _ left_is progress c.in_ok-await_part.ensures.front some c.in_ok-await_part.ensures.whole none c.line_number.ensures
 
 pub returns-in_err-write-clause-replays : goal.returns-in_err-write-clause-replays
@@ -62,7 +62,7 @@ returns-in_err-write-clause-replays g c = λ begun script rest told left read w 
     let progress = left_read _ w _ _ _ _ _ _ _ _ _ (c.commands.invariant.progress begun script rest told left read w stands) on.text c.in_ok-await_part.ensures.kept in
     let some : 0 < length c.await_part.new.window.bytes = omega (arith, ap length c.bytes.ensures, some_left _ _ c.is_empty.ensures c.if-is_empty.false) in
     let first : IsFirstPerformed c.commands.world c.await_part.new.window.bytes c.in-Some.said c.in-Some.rest.now c.perform_first.new.world =
-    subst (λ (t : List ℕ). IsFirstPerformed c.commands.world t c.in-Some.said c.in-Some.rest.now c.perform_first.new.world) c.bytes-2.ensures (rw c.in-Some.is at c.in_ok-said.ensures) in
+    subst (λ (t : List ℕ). IsFirstPerformed c.commands.world t c.in-Some.said c.in-Some.rest.now c.perform_first.new.world) c.bytes-in-commands.ensures (rw c.in-Some.is at c.in_ok-said.ensures) in
     let p = err_from_is_err_and c.from_residual-in_err-write.result c.from_residual-in_err-write.ensures.1 in
     left_cut c.one_page.ensures script _ w _ _ _ _ _ _ _ _ _ _ _ left_is progress c.in_ok-await_part.ensures.front some c.in_ok-await_part.ensures.whole first c.in_err-write.ensures.err
     (rw (p.1, p.2) c.in_err-write.ensures.write)
@@ -70,14 +70,14 @@ returns-in_err-write-clause-replays g c = λ begun script rest told left read w 
 pub keep-requires : goal.keep-requires
 keep-requires g c =
     let first : IsFirstPerformed c.commands.world c.await_part.new.window.bytes c.in-Some.said c.in-Some.rest.now c.perform_first.new.world =
-    subst (λ (t : List ℕ). IsFirstPerformed c.commands.world t c.in-Some.said c.in-Some.rest.now c.perform_first.new.world) c.bytes-2.ensures (rw c.in-Some.is at c.in_ok-said.ensures) in
+    subst (λ (t : List ℕ). IsFirstPerformed c.commands.world t c.in-Some.said c.in-Some.rest.now c.perform_first.new.world) c.bytes-in-commands.ensures (rw c.in-Some.is at c.in_ok-said.ensures) in
     end_within _ _ (first_end _ _ _ _ _ first)
 
 pub commands-preserved : goal.commands-preserved
 commands-preserved g c =
     let some : 0 < length c.await_part.new.window.bytes = omega (arith, ap length c.bytes.ensures, some_left _ _ c.is_empty.ensures c.if-is_empty.false) in
     let first : IsFirstPerformed c.commands.world c.await_part.new.window.bytes c.in-Some.said c.in-Some.rest.now c.perform_first.new.world =
-    subst (λ (t : List ℕ). IsFirstPerformed c.commands.world t c.in-Some.said c.in-Some.rest.now c.perform_first.new.world) c.bytes-2.ensures (rw c.in-Some.is at c.in_ok-said.ensures) in
+    subst (λ (t : List ℕ). IsFirstPerformed c.commands.world t c.in-Some.said c.in-Some.rest.now c.perform_first.new.world) c.bytes-in-commands.ensures (rw c.in-Some.is at c.in_ok-said.ensures) in
     let kept : c.keep.new.self.bytes ≡ c.in-Some.rest.now = dropped_to _ _ _ c.keep.ensures.drops (first_end _ _ _ _ _ first) c.keep.ensures.left in
     record {
       reads = λ begun read. reads_dropped begun _ _ _ (c.in_ok-await_part.ensures.on.reads begun (c.commands.invariant.reads begun read)) c.keep.ensures.drops;
@@ -92,7 +92,7 @@ commands-preserved g c =
 pub commands-smaller : goal.commands-smaller
 commands-smaller g c =
     let first : IsFirstPerformed c.commands.world c.await_part.new.window.bytes c.in-Some.said c.in-Some.rest.now c.perform_first.new.world =
-    subst (λ (t : List ℕ). IsFirstPerformed c.commands.world t c.in-Some.said c.in-Some.rest.now c.perform_first.new.world) c.bytes-2.ensures (rw c.in-Some.is at c.in_ok-said.ensures) in
+    subst (λ (t : List ℕ). IsFirstPerformed c.commands.world t c.in-Some.said c.in-Some.rest.now c.perform_first.new.world) c.bytes-in-commands.ensures (rw c.in-Some.is at c.in_ok-said.ensures) in
     let shorter : length c.keep.new.self.bytes < length c.await_part.new.window.bytes = omega (arith, c.keep.ensures.left, first_shorter _ _ _ _ _ first) in
     let less = room_used _ _ c.keep.ensures.drops shorter in
     omega (arith, less, c.in_ok-await_part.ensures.on.room)
