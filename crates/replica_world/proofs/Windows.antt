@@ -2,7 +2,10 @@
 use Rattle.std.proofs.Common.{◌≡◌, ◌≢◌, ℕ, zero, suc, ◌+◌, ◌-◌, ◌*◌, ◌<◌, ◌≤◌, ◌⊎◌, inl, inr, Bool, true, false, ◌==◌, if◌then◌else◌, List, [], ◌∷◌, ◌++◌, length, take, drop}
 use Rattle.std.proofs.Common.{Option, Some, None, Result, Ok, Err, refl, sym, ap, subst, ◌∙◌, append_assoc, append-nil, length-append, arith}
 use Rattle.std.specs.Prelude.{IfSome, cond}
+use Rattle.std.proofs.lemmas.Grind.{common_steps}
 use Rattle.std.proofs.lemmas.List.Sums.{sum_by-append}
+use Rattle.std.proofs.lemmas.List.Elements.{All-head, All-tail}
+use Rattle.text_fields.specs.Parts.{Lacks}
 use Rattle.std.specs.Io.KnownBytes.{Appends, Consumes, IsAtEnd, Keeps}
 use Rattle.std.proofs.KnownBytes.{Appends-kept, Appends-nil}
 use Rattle.std.proofs.lemmas.List.{drop-drop, take-append-drop}
@@ -20,6 +23,23 @@ use Rattle.replica_world.proofs.Ends.{EndsWith, one_end, empty_lines_twice, end_
 
 pub ends_append : (a b : List ℕ) → ends_of_lines (a ++ b) ≡ ends_of_lines a + ends_of_lines b
 ends_append a b = sum_by-append (λ (x : ℕ). cond (x == 10) 1 0) a b
+
+-- a text without LF
+pub ends_lacking : (text : List ℕ) → Lacks 10 text → ends_of_lines text ≡ 0
+ends_lacking [] lacks = refl
+ends_lacking (b ∷ text) lacks =
+    let other : b ≢ 10 = All-head (λ d. d ≢ 10) b text lacks in
+    let is : (b == 10) ≡ false = grind (arith, common_steps) in
+    let rest : ends_of_lines text ≡ 0 = ends_lacking text (All-tail (λ d. d ≢ 10) b text lacks) in
+    ends_append (b ∷ []) text ∙ (λ i. (0 + cond (is i) 1 0) + rest i)
+
+-- a line that ends
+pub ends_next : (text line after : List ℕ) → text ≡ line ++ 10 ∷ after → Lacks 10 line → ends_of_lines text ≡ 1 + ends_of_lines after
+ends_next text line after whole lacks =
+    let split : ends_of_lines text ≡ ends_of_lines line + ends_of_lines (10 ∷ after) = ap ends_of_lines whole ∙ ends_append line (10 ∷ after) in
+    let none : ends_of_lines line ≡ 0 = ends_lacking line lacks in
+    let one : ends_of_lines (10 ∷ after) ≡ 1 + ends_of_lines after = ends_append (10 ∷ []) after in
+    omega (arith, split, none, one)
 
 -- ---- bytes that are used
 

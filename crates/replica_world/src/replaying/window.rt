@@ -14,6 +14,7 @@ use memento_time::NoMemory;
 use std::alloc::Global;
 use std::io::{Read, Write};
 use std::marker::Model;
+use text_fields::next_line;
 
 /// The most bytes of a piece.
 const LONGEST_PIECE: usize = 65_536;
@@ -26,7 +27,13 @@ fn ends_of_lines(text: &[u8]) -> u64
     ensures count { result ≡ ends_of_lines text.now }
     ensures bound { result ≤ length text.now }
 {
-    text.iter().filter(|byte| **byte == b'\n').count() as u64
+    let mut count = 0;
+    let mut rest = text;
+    'lines: while let Some((_, after)) = next_line(rest) {
+        count += 1;
+        rest = after;
+    }
+    count
 }
 
 /// Removes bytes at the front.
