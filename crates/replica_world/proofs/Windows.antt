@@ -1,7 +1,7 @@
 -- What is held of a script and what its reader still has are what is left of it.
 use Rattle.std.proofs.Common.{◌≡◌, ◌≢◌, ℕ, zero, suc, ◌+◌, ◌-◌, ◌*◌, ◌<◌, ◌≤◌, ◌⊎◌, inl, inr, Bool, true, false, ◌==◌, if◌then◌else◌, List, [], ◌∷◌, ◌++◌, length, take, drop}
 use Rattle.std.proofs.Common.{Option, Some, None, Result, Ok, Err, refl, sym, ap, subst, ◌∙◌, append_assoc, append-nil, length-append, arith}
-use Rattle.std.specs.Prelude.{IfSome, cond}
+use Rattle.std.specs.Prelude.{IfSome, OnOk, cond}
 use Rattle.std.proofs.lemmas.Grind.{common_steps}
 use Rattle.std.proofs.lemmas.List.Sums.{sum_by-append}
 use Rattle.std.proofs.lemmas.List.Elements.{All-head, All-tail}
@@ -197,6 +197,14 @@ skips_on old new now drops is = record {
   room = drops_room old new drops;
 }
 
+text_same : (held : List ℕ) (rest : Option (List ℕ)) → SameText held rest held rest
+text_same held None = tt
+text_same held (Some rest) = refl
+
+-- nothing happens
+pub same_on : (held : Held) (now : Told) → ReadsOn held now held now
+same_on held now = record { reads = λ begun reads. reads; text = text_same held.bytes now.bytes; room = omega arith }
+
 pub fills_on : (old : Held) (before : Told) (new : Held) (after : Told) → Fills old before new after → ReadsOn old before new after
 fills_on old before new after fills = record {
   reads = λ begun reads. reads_filled begun old before new after fills reads;
@@ -229,6 +237,11 @@ pub room_used : (old new : Held) → Drops old new → length new.bytes < length
 room_used old new drops shorter =
     let same : 1000000000 - new.pieces ≡ 1000000000 - old.pieces = ap (λ (n : ℕ). 1000000000 - n) drops.pieces in
     omega (arith, shorter, same)
+
+-- what follows from a success
+pub on_ok : {T E : Type 0} {P Q : Type 0} (result : Result T E) → (P → Q) → OnOk result P → OnOk result Q
+on_ok (Ok u) follows p = follows p
+on_ok (Err e) follows p = tt
 
 -- ---- whose fault a failure is
 

@@ -169,9 +169,14 @@ impl Window {
         self.ended || is_settled(part, self.bytes())
     }
 
-    /// Reads one piece more, or sees that there is none.
-    fn fill<R: Read>(&mut self, reader: &mut Watched<R>) -> Result<(), ReplayFault>
-        requires { self.old.ended ≡ false }
+    /// Reads one piece more into this buffer, or sees that there is none.
+    fn fill<R: Read>(
+        &mut self,
+        reader: &mut Watched<R>,
+        piece: &mut [u8],
+    ) -> Result<(), ReplayFault>
+        requires more { self.old.ended ≡ false }
+        requires long { length piece.old ≡ 65536 }
         ensures ok { OnOk result (Fills self.old (told R.remaining reader.old) self.new (told R.remaining reader.new)) }
         ensures blame { (begun : Told) → IsReadTo begun self.old (told R.remaining reader.old) →
             BlamesReader result begun (told R.remaining reader.new) }
@@ -180,8 +185,7 @@ impl Window {
         if self.pieces() == MOST_PIECES {
             return Err(ReplayFault::Read);
         }
-        let mut piece = [0u8; LONGEST_PIECE];
-        let Ok(count) = reader.read(&mut piece) else {
+        let Ok(count) = reader.read(piece) else {
             return Err(ReplayFault::Read);
         };
         if count == 0 {
@@ -194,8 +198,37 @@ impl Window {
     }
 }
 
-/// Reads until the part at the front is whole, or the end was seen. What was written is flushed before each read, which
-/// may wait.
+/// Reads pieces until the part at the front is whole, or the end was seen. What was written is flushed before each read,
+/// which may wait.
+fn read_part<R: Read, W: Write>(
+    part: Part,
+    window: &mut Window,
+    reader: &mut Watched<R>,
+    writer: &mut Watched<W>,
+) -> Result<(), ReplayFault>
+    requires { after_empty_lines window.old.bytes ≡ window.old.bytes }
+    ensures on { OnOk result
+        (ReadsOn window.old (told R.remaining reader.old) window.new (told R.remaining reader.new)) }
+    ensures whole { OnOk result (IsWhole part window.new) }
+    ensures front { OnOk result (after_empty_lines window.new.bytes ≡ window.new.bytes) }
+    ensures reader { (begun : Told) → IsReadTo begun window.old (told R.remaining reader.old) →
+        BlamesReader result begun (told R.remaining reader.new) }
+    ensures fault { IfErr result IsBreak }
+    ensures kept { Keeps (W.contents writer.old.device) (W.contents writer.new.device) }
+    ensures writer { BlamesWriter result writer.old.failures writer.new.failures }
+{
+    let mut piece = [0u8; LONGEST_PIECE];
+    'pieces: while !window.has_whole(part) {
+        if writer.flush().is_err() {
+            return Err(ReplayFault::Write);
+        }
+        window.fill(reader, &mut piece)?;
+        window.skip_empty_lines();
+    }
+    Ok(())
+}
+
+/// Has the part at the front whole, or the end seen. A buffer for pieces is set up only where one has to be read.
 pub fn await_part<R: Read, W: Write>(
     part: Part,
     window: &mut Window,
@@ -213,12 +246,8 @@ pub fn await_part<R: Read, W: Write>(
     ensures writer { BlamesWriter result writer.old.failures writer.new.failures }
 {
     window.skip_empty_lines();
-    'pieces: while !window.has_whole(part) {
-        if writer.flush().is_err() {
-            return Err(ReplayFault::Write);
-        }
-        window.fill(reader)?;
-        window.skip_empty_lines();
+    if window.has_whole(part) {
+        return Ok(());
     }
-    Ok(())
+    read_part(part, window, reader, writer)
 }

@@ -2,7 +2,7 @@ use Rattle.std.proofs.Common.{◌≡◌}
 use Rattle.std.specs.Io.KnownBytes.{Keeps}
 use Rattle.replica_world.specs.Fields.{after_empty_lines}
 use Rattle.replica_world.specs.Reading.{ReadsOn, told, turns}
-use Rattle.replica_world.proofs.replaying.window.await_part.Given as goal
+use Rattle.replica_world.proofs.replaying.window.read_part.Given as goal
 
 abbrev pub invariant-pieces : goal.invariant-pieces
 invariant-pieces g l = record {
