@@ -199,8 +199,8 @@ fn many_reads(rt: HostRuntime) -> Result<()> {
     Ok(())
 }
 
-/// How much of `SAYS` is said once so many bytes of `SCRIPT` are read: where a command's last byte stands, how much is said
-/// from there on.
+/// How much of `SAYS` is said once so many bytes of `SCRIPT` are read: where a command's last byte stands, how much is
+/// said from there on.
 fn said_after(reads: usize) -> usize {
     let said = [
         (39, 7),

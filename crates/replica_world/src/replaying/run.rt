@@ -105,7 +105,8 @@ fn replay_script<R: Read, W: Write>(
 
 /// Performs the commands of a script in order, each as soon as it is read whole, and writes what each says before it
 /// performs the next. What was written is flushed before the reader is asked for more, so whoever writes the script
-/// through a pipe gets each answer before asking the next question. Of the script only what isn't performed yet is held.
+/// through a pipe gets each answer before asking the next question. Of the script only what isn't performed yet is
+/// held.
 ///
 /// A script consists of lines that end with LF, which the last one may lack. A line has at most 65,536 bytes, and empty
 /// lines are skipped. The first line is `replicas N BASE`: 1 to 16 replicas, numbered from 1, of the service with this

@@ -198,8 +198,8 @@ impl Window {
     }
 }
 
-/// Reads pieces until the part at the front is whole, or the end was seen. What was written is flushed before each read,
-/// which may wait.
+/// Reads pieces until the part at the front is whole, or the end was seen. What was written is flushed before each
+/// read, which may wait.
 fn read_part<R: Read, W: Write>(
     part: Part,
     window: &mut Window,
