@@ -1,15 +1,15 @@
 -- What is left behind a part of a script is the end of the text.
-use Rattle.std.proofs.Common.{◌≡◌, ℕ, zero, suc, ◌+◌, ◌-◌, ◌<◌, ◌≤◌, inl, inr, Bool, true, false, ◌==◌, if◌then◌else◌, List, [], ◌∷◌, ◌++◌, length, replicate}
-use Rattle.std.proofs.Common.{Option, Some, None, refl, sym, ap, subst, ◌∙◌, append_assoc, append-nil, arith}
+use Rattle.std.proofs.Common.{◌≡◌, ℕ, zero, suc, ◌<◌, ◌≤◌, inl, inr, Bool, true, false, ◌==◌, if◌then◌else◌, List, [], ◌∷◌, ◌++◌, length, replicate}
+use Rattle.std.proofs.Common.{Some, None, refl, sym, ap, subst, ◌∙◌, append_assoc, append-nil, arith}
 use Rattle.std.specs.Prelude.{IfSome}
 use Rattle.std.proofs.lemmas.List.{length-append}
-use Rattle.replica_world.specs.Fields.{◌>>=◌, after_empty_lines, block_of, line_of, lines_of}
+use Rattle.replica_world.specs.Fields.{after_empty_lines, block_of, line_of, lines_of}
 use Rattle.replica_world.specs.Form as form
 use Rattle.replica_world.specs.Form.{Form, form_of}
 use Rattle.replica_world.specs.Script.{Found, Start, command_of, command_at, start_of, start_at}
 use Rattle.replica_world.specs.Stands.{Kept}
 use Rattle.replica_world.specs.Performing.{IsFirstPerformed}
-use Rattle.replica_world.specs.Layout.{IsEnded, IsLine}
+use Rattle.replica_world.specs.Layout.{IsEnded}
 use Rattle.replica_world.proofs.LaidOut.{line_is, block_is, after_empty_lines_is}
 use Rattle.replica_world.proofs.WholeScript.{if_bound, if_some}
 
@@ -79,10 +79,6 @@ pub first_end : (old : Kept) (text said rest : List ℕ) (new : Kept) → IsFirs
 first_end old text said rest new first =
     let behind : EndsWith text first.after = if_some (command_at text) (λ c. EndsWith text c.1) (first.command, first.after) (command_end text) first.found in
     subst (EndsWith text) (sym first.rest_is) (ends_on text first.after (after_empty_lines first.after) behind (empty_lines_end first.after))
-
--- what follows empty lines
-pub skipped_end : (text rest : List ℕ) → rest ≡ after_empty_lines text → EndsWith text rest
-skipped_end text rest is = subst (EndsWith text) (sym is) (empty_lines_end text)
 
 pub end_within : (text rest : List ℕ) → EndsWith text rest → length rest ≤ length text
 end_within text rest ends = omega (arith, ap length ends.whole, length-append ends.front rest)

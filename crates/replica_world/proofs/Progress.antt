@@ -6,7 +6,7 @@ use Rattle.std.proofs.lemmas.Grind.{common_steps}
 use Rattle.std.specs.Io.KnownBytes.{Appends}
 use Rattle.std.proofs.KnownBytes.{Appends-nil, Appends-trans}
 use Rattle.replica_world.specs.declared.replaying.fault.ReplayFault.{ReplayFault}
-use Rattle.replica_world.specs.declared.replaying.fault.ReplayFault.TheVariants.{BadLine, Write, NoMemory}
+use Rattle.replica_world.specs.declared.replaying.fault.ReplayFault.TheVariants.{BadLine, Write}
 use Rattle.replica_events.specs.World.{World, start}
 use Rattle.replica_world.specs.Stands.{Kept, Stands}
 use Rattle.replica_world.specs.Devices.{AppendsBeginning}

@@ -1,6 +1,6 @@
 -- A replay's loop over what was read and what its reader still has.
-use Rattle.std.proofs.Common.{◌≡◌, ◌≢◌, ℕ, ◌+◌, ◌<◌, ◌≤◌, ◌⊎◌, inl, inr, Bool, true, false, List, [], ◌∷◌, ◌++◌, length}
-use Rattle.std.proofs.Common.{Option, Some, None, Result, Ok, Err, refl, sym, ap, subst, ◌∙◌, append-nil, append_assoc, length-append, arith}
+use Rattle.std.proofs.Common.{◌≡◌, ℕ, ◌+◌, ◌<◌, ◌≤◌, ◌⊎◌, inl, inr, List, [], ◌∷◌, ◌++◌, length}
+use Rattle.std.proofs.Common.{Option, Some, None, Result, Ok, Err, refl, sym, ap, subst, ◌∙◌, append-nil, length-append, arith}
 use Rattle.std.specs.Prelude.{IfSome}
 use Rattle.std.specs.Io.KnownBytes.{Appends, Keeps}
 use Rattle.std.proofs.KnownBytes.{Appends-kept, Appends-nil, Appends-trans}
@@ -12,8 +12,8 @@ use Rattle.replica_events.specs.World.{World, start}
 use Rattle.replica_world.specs.Stands.{Kept, Stands}
 use Rattle.replica_world.specs.Devices.{AppendsBeginning, IsBreak}
 use Rattle.replica_world.specs.Fields.{after_empty_lines}
-use Rattle.replica_world.specs.Script.{Start, command_at, start_at, commands_of, number_of_line}
-use Rattle.replica_world.specs.Output.{Says, Replayed, Replays, ReplaysFrom}
+use Rattle.replica_world.specs.Script.{Start, command_at, start_at}
+use Rattle.replica_world.specs.Output.{Replayed, Replays, ReplaysFrom}
 use Rattle.replica_world.specs.Performing.{IsFirstPerformed}
 use Rattle.replica_world.specs.Reading.{Held, Told, IsLeft, IsLeftOf, IsReadTo, IsSettledBy, IsWhole, SameText, before_more}
 use Rattle.replica_world.proofs.Once.{OnePage}
@@ -200,7 +200,8 @@ stream_bad script held (Some rest) old new n left same whole front some none num
     (start_whole script held rest left whole ∙ ap (before_more rest) none) (line_of_left script held rest n left number) (nothing_written old new keeps)
 
 -- what a replay from here on writes, it writes behind nothing
-replayed_kept : (P : List ℕ → Type 0) (bad : Option ℕ) (old mid new : Option (List ℕ)) (result : Result (Unit {0}) ReplayFault) → Keeps old mid → Replayed P bad mid new result → Replayed P bad old new result
+replayed_kept : (P : List ℕ → Type 0) (bad : Option ℕ) (old mid new : Option (List ℕ)) (result : Result (Unit {0}) ReplayFault) → Keeps old mid → Replayed P bad mid new result
+    → Replayed P bad old new result
 replayed_kept P bad old mid new result keeps = on result where
   written : (output : List ℕ) → Appends mid new output → Appends old new output
   written output wrote = Appends-trans old mid new [] output (nothing_written old mid keeps) wrote

@@ -1,13 +1,12 @@
 -- What is held of a script and what its reader still has are what is left of it.
-use Rattle.std.proofs.Common.{◌≡◌, ◌≢◌, ℕ, zero, suc, ◌+◌, ◌-◌, ◌*◌, ◌<◌, ◌≤◌, ◌⊎◌, inl, inr, Bool, true, false, ◌==◌, if◌then◌else◌, List, [], ◌∷◌, ◌++◌, length, take, drop}
-use Rattle.std.proofs.Common.{Option, Some, None, Result, Ok, Err, refl, sym, ap, subst, ◌∙◌, append_assoc, append-nil, length-append, arith}
+use Rattle.std.proofs.Common.{◌≡◌, ◌≢◌, ℕ, ◌+◌, ◌-◌, ◌<◌, ◌≤◌, ◌⊎◌, inl, inr, true, false, ◌==◌, List, [], ◌∷◌, ◌++◌, length, take, drop}
+use Rattle.std.proofs.Common.{Option, Some, None, Result, Ok, Err, refl, sym, ap, subst, ◌∙◌, append_assoc, length-append, arith}
 use Rattle.std.specs.Prelude.{IfSome, OnOk, cond}
 use Rattle.std.proofs.lemmas.Grind.{common_steps}
 use Rattle.std.proofs.lemmas.List.Sums.{sum_by-append}
 use Rattle.std.proofs.lemmas.List.Elements.{All-head, All-tail}
 use Rattle.text_fields.specs.Parts.{Lacks}
-use Rattle.std.specs.Io.KnownBytes.{Appends, Consumes, IsAtEnd, Keeps}
-use Rattle.std.proofs.KnownBytes.{Appends-kept, Appends-nil}
+use Rattle.std.specs.Io.KnownBytes.{Consumes, IsAtEnd}
 use Rattle.std.proofs.lemmas.List.{drop-drop, take-append-drop}
 use Rattle.std.proofs.Math.Seq.{take-append_seam}
 use Rattle.replica_world.specs.declared.replaying.fault.ReplayFault.{ReplayFault}
@@ -15,9 +14,9 @@ use Rattle.replica_world.specs.declared.replaying.fault.ReplayFault.TheVariants.
 use Rattle.replica_world.specs.Watching.{grown, Counted}
 use Rattle.replica_world.specs.Fields.{after_empty_lines}
 use Rattle.replica_world.specs.Script.{number_of_line}
-use Rattle.replica_world.specs.Reading.{Held, Told, Drops, IsLeft, IsLeftOf, IsReadTo, BlamesReader, SameText, Fills, ReadsOn, ends_of_lines, nothing_held, room, turns}
+use Rattle.replica_world.specs.Reading.{Held, Told, Drops, IsLeft, IsLeftOf, IsReadTo, BlamesReader, SameText, Fills, ReadsOn, ends_of_lines, nothing_held, room}
 use Rattle.replica_world.proofs.Written.{one_more_counted, none_counted}
-use Rattle.replica_world.proofs.Ends.{EndsWith, one_end, empty_lines_twice, end_within}
+use Rattle.replica_world.proofs.Ends.{EndsWith, one_end, empty_lines_twice}
 
 -- ---- ends of lines
 
@@ -75,9 +74,6 @@ drops_room old new drops =
     let long : length old.bytes ≡ length drops.front + length new.bytes = ap length drops.whole ∙ length-append drops.front new.bytes in
     let same : 1000000000 - new.pieces ≡ 1000000000 - old.pieces = ap (λ (n : ℕ). 1000000000 - n) drops.pieces in
     omega (arith, long, same)
-
-pub drops_turns : (old new : Held) → Drops old new → turns new ≡ turns old
-drops_turns old new drops = λ i. (1000000000 - drops.pieces i) + (if drops.ended i then 0 else 1)
 
 -- what stands before the new front was used
 pub front_used : (start next : ℕ) (items : List ℕ) (old new : Held) → start ≤ next → old.bytes ≡ drop start items → new.bytes ≡ drop next items
@@ -162,21 +158,6 @@ room_filled old before new after fills = on fills.counted where
       omega (arith, pieces, ap length fills.bytes, length-append old.bytes fills.piece, ap length none)
   on (inr (ended, some, pieces, most, counted)) = omega (arith, pieces, most, fills.short, ap length fills.bytes, length-append old.bytes fills.piece)
 
-pub fills_turns : (old : Held) (before : Told) (new : Held) (after : Told) → Fills old before new after → old.ended ≡ false → turns new < turns old
-fills_turns old before new after fills more = on fills.counted where
-  before_is : turns old ≡ (1000000000 - old.pieces) + 1
-  before_is = ap (λ (e : Bool). (1000000000 - old.pieces) + (if e then 0 else 1)) more
-
-  on : ((new.ended ≡ true) × (fills.piece ≡ []) × IsAtEnd after.bytes × (new.pieces ≡ old.pieces) × (after.pieces ≡ before.pieces))
-      ⊎ ((new.ended ≡ false) × (0 < length fills.piece) × (new.pieces ≡ old.pieces + 1) × (old.pieces < 1000000000) × (after.pieces ≡ grown 1 before.pieces))
-      → turns new < turns old
-  on (inl (ended, none, end, pieces, counted)) =
-      let after_is : turns new ≡ (1000000000 - old.pieces) + 0 = (λ i. (1000000000 - pieces i) + (if ended i then 0 else 1)) in
-      omega (arith, before_is, after_is)
-  on (inr (ended, some, pieces, most, counted)) =
-      let after_is : turns new ≡ (1000000000 - (old.pieces + 1)) + 1 = (λ i. (1000000000 - pieces i) + (if ended i then 0 else 1)) in
-      omega (arith, before_is, after_is, most)
-
 -- ---- one step after the other
 
 text_on : (a b c : List ℕ) (x y z : Option (List ℕ)) → SameText a x b y → SameText b y c z → SameText a x c z
@@ -245,37 +226,9 @@ on_ok (Err e) follows p = tt
 
 -- ---- whose fault a failure is
 
--- a read failed
-pub read_blamed : {T : Type 0} (begun : Told) (old : Held) (before after : Told) (result : Result T ReplayFault) → IsReadTo begun old before → after.failures ≡ grown 1 before.failures → result ≡ Err Read
-    → BlamesReader result begun after
-read_blamed {T} begun old before after result reads failed is =
-    subst (λ (r : Result T ReplayFault). BlamesReader r begun after) (sym is) (inl (failed ∙ ap (grown 1) reads.failures))
-
-long_script : (script : Option (List ℕ)) (held : Held) (rest : Option (List ℕ)) → IsLeftOf script held rest → held.pieces ≡ 1000000000 → IfSome script (λ script. 1000000000 ≤ length script)
-long_script None held rest left all = tt
-long_script (Some script) held None left all = absurd left
-long_script (Some script) held (Some rest) left all =
-    omega (arith, left.pieces, all, ap length left.whole, length-append left.used (held.bytes ++ rest), length-append held.bytes rest)
-
--- there were too many pieces
-pub pieces_blamed : {T : Type 0} (begun : Told) (old : Held) (now : Told) (result : Result T ReplayFault) → IsReadTo begun old now → old.pieces ≡ 1000000000 → result ≡ Err Read
-    → BlamesReader result begun now
-pieces_blamed {T} begun old now result reads all is =
-    let some : 0 < old.pieces = omega (arith, all) in
-    subst (λ (r : Result T ReplayFault). BlamesReader r begun now) (sym is)
-    (inr (reads.pieces.some some ∙ ap (λ (n : ℕ). grown n begun.pieces) all, long_script begun.bytes old now.bytes reads.left all))
-
--- no reader is
-pub reader_not_blamed : {T : Type 0} (begun now : Told) (result : Result T ReplayFault) → result ≢ Err Read → now.failures ≡ begun.failures → BlamesReader result begun now
-reader_not_blamed begun now (Ok u) other same = same
-reader_not_blamed begun now (Err Read) other same = absurd (other refl)
-reader_not_blamed begun now (Err Write) other same = same
-reader_not_blamed begun now (Err NoMemory) other same = same
-reader_not_blamed begun now (Err (BadLine number)) other same = same
-
 -- what a part of a replay answers is what the whole answers
-pub reader_blamed_on : (begun now : Told) (result : Result (Unit {0}) ReplayFault) (fault : ReplayFault) → result ≡ Err fault → (let part : Result (Unit {0}) ReplayFault = Err fault in BlamesReader part begun now)
-    → BlamesReader result begun now
+pub reader_blamed_on : (begun now : Told) (result : Result (Unit {0}) ReplayFault) (fault : ReplayFault) → result ≡ Err fault
+    → (let part : Result (Unit {0}) ReplayFault = Err fault in BlamesReader part begun now) → BlamesReader result begun now
 reader_blamed_on begun now result fault is blames = subst (λ (r : Result (Unit {0}) ReplayFault). BlamesReader r begun now) (sym is) blames
 
 -- what follows for a whole replay

@@ -1,6 +1,6 @@
 -- Reads and writes one after another, and whose fault a failure is.
-use Rattle.std.proofs.Common.{◌≡◌, ◌≢◌, ℕ, zero, suc, ◌+◌, ◌<◌, ◌≤◌, min, arith, refl, length-append, List, [], ◌++◌, length, take, drop, Option}
-use Rattle.std.proofs.Common.{Some, None, Result, Ok, Err, sym, ap, subst, ◌∙◌, append-nil, append_assoc}
+use Rattle.std.proofs.Common.{◌≡◌, ◌≢◌, ℕ, zero, suc, ◌+◌, min, arith, refl, List, ◌++◌, take, drop, Option}
+use Rattle.std.proofs.Common.{Result, Ok, Err, sym, ap, subst, ◌∙◌, append_assoc}
 use Rattle.std.specs.Io.KnownBytes.{Appends}
 use Rattle.std.proofs.KnownBytes.{Appends-trans}
 use Rattle.std.proofs.lemmas.List.{take-append-drop}
@@ -35,18 +35,6 @@ one_more_counted (suc more) old mid new counted is = record {
 }
 
 -- ---- whose fault a failure is
-
--- a write that failed is the writer's doing
-pub blamed : {T : Type 0} (result : Result T ReplayFault) (old new : ℕ) → result ≡ Err Write → new ≡ grown 1 old → BlamesWriter result old new
-blamed {T} result old new is failed = subst (λ (r : Result T ReplayFault). BlamesWriter r old new) (sym is) failed
-
--- any other failure isn't
-pub not_blamed : {T : Type 0} (result : Result T ReplayFault) (old new : ℕ) → result ≢ Err Write → new ≡ old → BlamesWriter result old new
-not_blamed (Ok u) old new other same = same
-not_blamed (Err Read) old new other same = same
-not_blamed (Err Write) old new other same = absurd (other refl)
-not_blamed (Err NoMemory) old new other same = same
-not_blamed (Err (BadLine number)) old new other same = same
 
 -- it answers `Write` just where a write failed
 pub write_failed : (result : Result (Unit {0}) ReplayFault) (old new : ℕ) → BlamesWriter result old new → result ≡ Err Write → new ≡ grown 1 old

@@ -195,7 +195,10 @@ fn replay_by_bytes(
 #[test]
 fn many_reads(rt: HostRuntime) -> Result<()> {
     let lines = vec![in rt.alloc(); b'\n'; 1_000_001]?;
-    assert_eq!(rt; replay_by_bytes(rt.alloc(), &lines, 1_000_002, ENOUGH), (Ok(()), 0, 0));
+    assert_eq!(rt;
+        replay_by_bytes(rt.alloc(), &lines, 1_000_002, ENOUGH),
+        (Ok(()), 0, 0)
+    );
     Ok(())
 }
 
@@ -245,7 +248,11 @@ fn failing_flushes(rt: HostRuntime) {
         let (result, said, shown) = replay_by_bytes(rt.alloc(), SCRIPT, ENOUGH, flushes);
         assert_eq!(rt; result, Err(ReplayFault::Write), "after {flushes} flushes");
         assert_eq!(rt; said, said_after(flushes), "after {flushes} flushes");
-        assert_eq!(rt; shown, said_after(flushes.saturating_sub(1)), "after {flushes} flushes");
+        assert_eq!(rt;
+            shown,
+            said_after(flushes.saturating_sub(1)),
+            "after {flushes} flushes"
+        );
     }
 }
 

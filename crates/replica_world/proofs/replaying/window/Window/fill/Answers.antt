@@ -1,4 +1,4 @@
-use Rattle.std.proofs.Common.{◌≡◌, ◌<◌, ◌≤◌, length, take, rules, arith, length-take}
+use Rattle.std.proofs.Common.{◌≡◌, ◌≤◌, length, take, rules, arith, length-take}
 use Rattle.replica_world.proofs.Windows.{filled}
 use Rattle.replica_world.proofs.replaying.window.Window.fill.Goals as goal
 

@@ -1,4 +1,4 @@
-use Rattle.std.proofs.Common.{◌≡◌, length, ap, sym, ◌∙◌, rules}
+use Rattle.std.proofs.Common.{◌≡◌, length, ap, ◌∙◌}
 use Rattle.replica_world.specs.Fields.{after_empty_lines}
 use Rattle.replica_world.proofs.Ends.{empty_lines_end}
 use Rattle.replica_world.proofs.Windows.{dropped_to}
