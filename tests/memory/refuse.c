@@ -25,21 +25,23 @@ static void tell(void) {
         if (name)
             file = open(name, O_WRONLY | O_CREAT | O_TRUNC, 0644);
     }
-    if (file >= 0 && pwrite(file, text, (size_t)sprintf(text, "%ld\n", asked), 0) < 0)
+    if (file >= 0 && pwrite(file, text, (size_t)sprintf(text, "%ld\n", __atomic_load_n(&asked, __ATOMIC_SEQ_CST)), 0) < 0)
         abort();
 }
 
 static int is_refused(void) {
     static long wanted = -1;
     static const char *sign;
+    long number;
     if (wanted < 0) {
         const char *word = getenv("REFUSE");
         wanted = word ? atol(word) : 0;
         sign = getenv("REFUSE_WHILE");
     }
-    asked++;
+    /* Threads ask at the same time: each request has a number of its own, so that one at most is refused by it. */
+    number = __atomic_add_fetch(&asked, 1, __ATOMIC_SEQ_CST);
     tell();
-    if (asked != wanted && !(sign && access(sign, F_OK) == 0))
+    if (number != wanted && !(sign && access(sign, F_OK) == 0))
         return 0;
     errno = ENOMEM;
     return 1;
