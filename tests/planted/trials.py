@@ -1,4 +1,4 @@
-"""Where the tests of a crate stand: in a crate of trials, or else in the crate itself. And which planted bugs were tried.
+"""Where the tests of a crate stand: in crates of trials, or else in the crate itself. And which planted bugs were tried.
 
 `aggregator_service` has no tests in Rattle: `tests/rounds` and `tests/settings` try it as it runs."""
 import hashlib
@@ -15,6 +15,7 @@ TRIALS = {
     "knowledge_trials": ("memento_sets", "harvest_lattice", "memento_index", "replica_exchange", "timegate"),
     "world_trials": ("replica_world",),
     "service_trials": ("published_index", "harvester", "hyper_edge"),
+    "walk_trials": ("harvester",),
 }
 
 # Tests that take longer without a proof than `rt try` waits: they say nothing of a bug.
@@ -43,8 +44,8 @@ def failed_test(said):
     return None
 
 
-def crate_of_tests(crate):
-    return next((trials for trials, tested in TRIALS.items() if crate in tested), crate)
+def crates_of_tests(crate):
+    return [trials for trials, tested in TRIALS.items() if crate in tested] or [crate]
 
 
 def copy_repository(top, room):

@@ -6,6 +6,7 @@ use harvest_lattice::State;
 use memento_index::Merge;
 use replica_exchange::{
     Cursor, Cursors, Stamped, StateFault, TakeFault, read_delta, read_state, write_delta,
+    write_state,
 };
 use std::alloc::Global;
 use std::test::*;
@@ -20,6 +21,15 @@ const OLD_THIRD_MERGE: &[u8] =
     b"memento-delta 1\nfrom 1 2 3\nentries 1\nentry a1 3 0 http://a.example/\nend\n";
 
 const TWO_MERGES: &[u8] = b"memento-delta 2\nfrom 1 0 2\nentries 0\nend\n";
+
+/// What follows on one merge.
+const SECOND_MERGE: &[u8] = b"memento-delta 2\nfrom 1 1 2\nentries 0\nend\n";
+
+/// What follows on three merges.
+const FOURTH_MERGE: &[u8] = b"memento-delta 2\nfrom 1 3 4\nentries 0\nend\n";
+
+/// What follows on two merges of another incarnation.
+const OF_ANOTHER_INCARNATION: &[u8] = b"memento-delta 2\nfrom 2 2 3\nentries 0\nend\n";
 
 fn at(number: u64) -> Option<Cursor> {
     Some(Cursor {
@@ -44,12 +54,36 @@ fn deltas_follow_on_cursors(rt: HostRuntime) -> Result<()> {
     let alloc = rt.alloc();
     let mut cursors = Cursors::new(alloc);
     assert!(rt; !takes(alloc, &mut cursors, 7, THIRD_MERGE)?);
+    assert!(rt; !takes(alloc, &mut cursors, 7, SECOND_MERGE)?);
     assert!(rt; takes(alloc, &mut cursors, 7, TWO_MERGES)?);
+    assert!(rt; !takes(alloc, &mut cursors, 7, FOURTH_MERGE)?);
+    assert!(rt; !takes(alloc, &mut cursors, 7, OF_ANOTHER_INCARNATION)?);
     assert_eq!(rt; (cursors.held(7), cursors.held(8)), (at(2), None));
     let mut copy = cursors.try_clone()?;
     assert!(rt; takes(alloc, &mut copy, 7, OLD_THIRD_MERGE)?);
     assert!(rt; takes(alloc, &mut copy, 7, TWO_MERGES)?);
     assert_eq!(rt; (copy.held(7), cursors.held(7)), (at(3), at(2)));
+    Ok(())
+}
+
+/// What an archive had at a revision, and a part of what another had.
+const STATE: &[u8] = b"memento-state 2
+entries 2
+entry a1 3 1 http://a.example/
+at 3 1
+946684800 http://m.example/1
+entry b1 - 2 http://a.example/
+at 4 0
+at 7 1
+946684800 http://m.example/1
+end
+";
+
+#[test]
+fn a_state_is_written_as_it_was_read(rt: HostRuntime) -> Result<()> {
+    let alloc = rt.alloc();
+    let state = read_state(alloc, STATE)?;
+    assert!(rt; write_state(alloc, &state)?.as_slice() == STATE);
     Ok(())
 }
 
@@ -130,6 +164,29 @@ fn follows_on_all(alloc: Global, stamped: &Stamped) -> Result<bool> {
         }
     }
     has_what_followed(alloc, stamped, stamped.number())
+}
+
+/// Whether the delta from a cursor begins with the first merge, and has what all of them made.
+fn begins_anew(alloc: Global, stamped: &Stamped, cursor: Option<Cursor>) -> Result<bool> {
+    let delta = read_delta(alloc, &write_delta(alloc, stamped, cursor)?)?;
+    Ok(delta.start == 0 && stamped.index().state().le(&delta.state))
+}
+
+/// From no cursor, one beyond the last merge, and one of another incarnation.
+#[test]
+fn other_cursors_begin_anew(rt: HostRuntime) -> Result<()> {
+    let alloc = rt.alloc();
+    let mut stamped = Stamped::new(alloc, 1);
+    stamped.absorb(&merge_of(alloc, 1)?)?;
+    stamped.absorb(&merge_of(alloc, 2)?)?;
+    let other = Cursor {
+        incarnation: 2,
+        number: 1,
+    };
+    assert!(rt; begins_anew(alloc, &stamped, None)?);
+    assert!(rt; begins_anew(alloc, &stamped, at(3))?);
+    assert!(rt; begins_anew(alloc, &stamped, Some(other))?);
+    Ok(())
 }
 
 /// Of six keys, the order of stamps is made anew after every seventeen merges.
