@@ -1,8 +1,5 @@
-use Rattle.std.proofs.Common.{◌≡◌, List, [], ◌∷◌, ◌++◌, sym, ap, ◌∙◌, append_assoc}
-use Rattle.std.specs.Vec.Iter.{into_iter_items}
+use Rattle.std.proofs.Common.{List, [], ◌∷◌, ◌++◌, sym, ap, ◌∙◌, append_assoc}
 use Rattle.harvest_lattice.specs.Lattice.{Entries}
-use Rattle.published_index.specs.Views.{MergerView}
-use Rattle.aggregator_service.specs.Keeping.{with_states}
 use Rattle.aggregator_service.proofs.KeepingLemmas.{no_state_more, one_state_more}
 use Rattle.aggregator_service.proofs.keeping.append_states.Goals as goal
 
