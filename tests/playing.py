@@ -1,13 +1,18 @@
-"""What the scripts of several tests share: archives and peers that a script plays, and services that it starts.
+"""What the tests share: archives and peers that a script plays, services that it starts, and ways to ask, wait and say.
 
 Everything listens on 127.0.0.1, at ports that were free, and ends with the script. The program is
-crates/aggregator/out/aggregator, or what $PROGRAM names.
+crates/aggregator/out/aggregator, or what $PROGRAM names. A test prints a line for each thing that holds, and ends with status 1
+at the first that doesn't.
 """
 import contextlib
 import http.client
+import importlib.machinery
+import importlib.util
 import os
 import pathlib
+import random
 import re
+import shutil
 import signal
 import socket
 import subprocess
@@ -24,9 +29,13 @@ PROGRAM = os.environ.get("PROGRAM", str(TOP / "crates/aggregator/out/aggregator"
 ORIGINAL = "http://a.example/"
 BASE = "/timemap/link/"    # what stands before an original in the address of its TimeMap, on the archives here
 PATIENCE = 60    # seconds for what should come at once
+os.environ["PATH"] += ":/usr/sbin:/sbin"    # where Debian has nginx
 # A program that is instrumented to find faults of memory is to tell of memory that is refused, and to give it back at once.
 ENVIRONMENT = {**os.environ, "ASAN_OPTIONS": "allocator_may_return_null=1:quarantine_size_mb=1"}
 LACKS = 77    # the status of a test that needs what this machine hasn't
+PACKAGES = {"nginx": "nginx-light", "cc": "gcc libc6-dev"}    # Debian's, if they have another name than the command
+
+# ---- saying ----
 
 
 def holds(what, truth):
@@ -44,6 +53,76 @@ def same(what, came, wanted):
 def lacks(what):
     print(what)
     sys.exit(LACKS)
+
+
+def needs(*commands):
+    """Skips the test if the machine lacks one of these commands."""
+    missing = [command for command in commands if shutil.which(command) is None]
+    if missing:
+        packages = " ".join(PACKAGES.get(command, command) for command in missing)
+        lacks(f"needs {' and '.join(missing)}: apt-get install {packages}")
+
+
+# ---- waiting ----
+
+
+def comes_true(condition, seconds=PATIENCE):
+    """Whether this condition comes to hold within so many seconds."""
+    until = time.monotonic() + seconds
+    while not condition():
+        if time.monotonic() > until:
+            return False
+        time.sleep(0.02)
+    return True
+
+
+def is_listening(port):
+    with contextlib.suppress(OSError), socket.create_connection(("127.0.0.1", port), 1):
+        return True
+    return False
+
+
+def wait_for(port):
+    """Waits until somebody listens there."""
+    if not comes_true(lambda: is_listening(port)):
+        raise SystemExit(f"nobody listens on port {port}")
+
+
+# ---- ports and asking ----
+
+
+def free_ports(count, in_a_row=False):
+    """So many ports that were free, perhaps one after the other. They lie below those that connections go out from, so that
+    none of these takes one before it is listened at."""
+    while True:
+        first = random.randrange(10_000, 32_000 - count)
+        tried = range(first, first + count) if in_a_row else random.sample(range(10_000, 32_000), count)
+        with contextlib.suppress(OSError), contextlib.ExitStack() as stack:
+            for port in tried:
+                stack.enter_context(socket.socket()).bind(("127.0.0.1", port))
+            return list(tried)
+
+
+def ask(port, target, method="GET", source="127.0.0.1", patience=PATIENCE, **headers):
+    """The status of the reply to this target, word for word; its fields by their names in lower case, with a comma between the
+    values of one that comes twice; and its body."""
+    connection = http.client.HTTPConnection("127.0.0.1", port, timeout=patience, source_address=(source, 0))
+    with contextlib.closing(connection):
+        connection.putrequest(method, target, skip_host="Host" in headers)
+        for name, value in {"Connection": "close", **headers}.items():
+            connection.putheader(name.replace("_", "-"), value)
+        connection.endheaders()
+        came = connection.getresponse()
+        return came.status, {name.lower(): came.getheader(name) for name in came.headers}, came.read().decode()
+
+
+def get(port, target, source="127.0.0.1", patience=PATIENCE, **headers):
+    """The status of the reply, where it leads, and its body."""
+    status, fields, body = ask(port, target, source=source, patience=patience, **headers)
+    return status, fields.get("location"), body
+
+
+# ---- what archives and peers say ----
 
 
 def link(uri, datetime="Sat, 01 Jan 2000 00:00:00 GMT"):
@@ -75,15 +154,23 @@ def entry(original, uri, archive="p.example", revision=5):
     return f"entry {archive} {revision} 1 {original}\nat {revision} 1\n946684800 {uri}\n"
 
 
-class Played:
-    """A server that answers each connection once, with what `answer` gives for the target that was asked for: bytes, or
-    an iterator over pieces that are sent as they come."""
+def told(number, jobs, harvests, pulls=0, end="published"):
+    """What the program writes of a round."""
+    return f"round {number} jobs {jobs} harvests {harvests} pulls {pulls} {end}\n"
 
-    def __init__(self, stack, answer):
-        self.answer, self.heads, self.sent = answer, [], []
-        self.socket = socket.create_server(("127.0.0.1", 0), backlog=256)
+
+# ---- archives and peers ----
+
+
+class Listener:
+    """Gives each connection to `talk`, in a thread of its own, or with `in_turn` one after the other; and counts them."""
+
+    def __init__(self, stack, talk, address="127.0.0.1", port=0, in_turn=False):
+        self.talk, self.in_turn, self.count = talk, in_turn, 0
+        family = socket.AF_INET6 if ":" in address else socket.AF_INET
+        self.socket = socket.create_server((address, port), family=family, backlog=256)
         self.port = self.socket.getsockname()[1]
-        self.address = f"http://127.0.0.1:{self.port}"
+        self.address = f"http://{address}:{self.port}"
         stack.callback(self.socket.close)
         threading.Thread(target=self.serve, daemon=True).start()
 
@@ -91,101 +178,187 @@ class Played:
         with contextlib.suppress(OSError):
             while True:
                 client, _ = self.socket.accept()
-                threading.Thread(target=self.talk, args=(client,), daemon=True).start()
+                self.count += 1
+                if self.in_turn:
+                    self.serve_one(client)
+                else:
+                    threading.Thread(target=self.serve_one, args=(client,), daemon=True).start()
 
-    def talk(self, client):
-        with contextlib.suppress(OSError), client, client.makefile("rb") as stream:
+    def serve_one(self, client):
+        with contextlib.suppress(OSError), client:
+            self.talk(client)
+
+
+class Played(Listener):
+    """A server that answers each connection once, with what `answer` gives for the target that was asked for: bytes, or
+    an iterator over pieces that are sent as they come."""
+
+    def __init__(self, stack, answer, **more):
+        self.answer, self.heads, self.sent = answer, [], []
+        super().__init__(stack, self.tell, **more)
+
+    def tell(self, client):
+        with client.makefile("rb") as stream:
             head = []
             while line := stream.readline().rstrip(b"\r\n").decode():
                 head.append(line)
-            if head:
-                number = len(self.heads)
-                self.heads.append(head)
-                self.sent.append(0)
-                answer = self.answer(head[0].split()[1]) or b""
-                for piece in [answer] if isinstance(answer, bytes) else answer:
-                    client.sendall(piece)
-                    self.sent[number] += len(piece)
+        if head:
+            number = len(self.heads)
+            self.heads.append(head)
+            self.sent.append(0)
+            answer = self.answer(head[0].split()[1]) or b""
+            for piece in [answer] if isinstance(answer, bytes) else answer:
+                client.sendall(piece)
+                self.sent[number] += len(piece)
 
     def targets(self):
         """What was asked for, in the order in which it came."""
         return [head[0].split()[1] for head in self.heads]
 
 
+class Relay(Played):
+    """Passes requests on to a gate, and notes what was asked and how the body of the answer begins."""
+
+    def __init__(self, stack, gate):
+        self.gate, self.seen = gate, []
+        super().__init__(stack, self.pass_on)
+
+    def fetch(self, target):
+        """The gate's whole answer; nothing if it gives none."""
+        with contextlib.suppress(OSError), socket.create_connection(("127.0.0.1", self.gate), PATIENCE) as gate:
+            gate.sendall(f"GET {target} HTTP/1.1\r\nHost: gate\r\nConnection: close\r\n\r\n".encode())
+            with gate.makefile("rb") as stream:
+                whole = stream.read()
+            self.seen.append((target, whole.partition(b"\r\n\r\n")[2].decode().splitlines()[:3]))
+            return whole
+        self.seen.append((target, []))
+        return b""
+
+    def pass_on(self, target):
+        return self.fetch(target)
+
+
+# ---- programs ----
+
+
+def start(stack, *words, **more):
+    """A program that ends with the script."""
+    process = subprocess.Popen([str(word) for word in words], **more)
+    stack.callback(lambda: (process.terminate(), process.wait(10)))
+    return process
+
+
+def start_archive(stack, *words):
+    """The port of the archive that is shipped to try the service against."""
+    process = start(stack, TOP / "deploy/archive", 0, *words, stdout=subprocess.PIPE, text=True)
+    return int(process.stdout.readline().strip().rpartition(":")[2])
+
+
+def script(path):
+    """A script without an ending, as a module."""
+    loader = importlib.machinery.SourceFileLoader(path.name, str(path))
+    module = importlib.util.module_from_spec(importlib.util.spec_from_loader(path.name, loader))
+    loader.exec_module(module)
+    return module
+
+
+def compiled(folder, source):
+    """A file in C as a library that takes the place of the machine's own in a program; None without a compiler."""
+    if shutil.which("cc") is None:
+        return None
+    library = pathlib.Path(folder) / f"{source.stem}.so"
+    subprocess.run(["cc", "-O2", "-shared", "-fPIC", "-o", library, source, "-ldl"], check=True)
+    return library
+
+
 def toml_of(value):
     """How a value is written in settings."""
-    return f'"{value}"' if isinstance(value, str) else str(value).lower()
+    match value:
+        case str():
+            return f'"{value}"'
+        case dict():
+            return "{ " + ", ".join(f"{key} = {toml_of(each)}" for key, each in value.items()) + " }"
+        case bool() | int():
+            return str(value).lower()
+        case _:
+            return "[" + ", ".join(map(toml_of, value)) + "]"
 
 
-def free_ports(count):
-    with contextlib.ExitStack() as stack:
-        sockets = [stack.enter_context(socket.socket()) for _ in range(count)]
-        for one in sockets:
-            one.bind(("127.0.0.1", 0))
-        return [one.getsockname()[1] for one in sockets]
+def settings_text(*, archives=(), originals=(), base="http://agg.example", connections=1_000_000_000, rounds=1, pause=0, workers=1,
+                  peers=(), **keys):
+    """Settings with these keys, but for those that are None. An archive is its name, its address and perhaps a dictionary of keys
+    of its own."""
+    def archive_of(name, address, own=None):
+        return {"name": name, "timemap": address + BASE, **(own or {})}
+
+    written = {"base": base, "connections": connections, "rounds": rounds, "pause": pause, "workers": workers, "originals": list(originals),
+               "peers": peers, "archives": [archive_of(*archive) for archive in archives], **keys}
+    return "".join(f"{key} = {toml_of(value)}\n" for key, value in written.items() if value is not None)
 
 
-def quoted(texts):
-    return ", ".join(f'"{text}"' for text in texts)
-
-
-def told(number, jobs, harvests, pulls=0, end="published"):
-    """What the program writes of a round."""
-    return f"round {number} jobs {jobs} harvests {harvests} pulls {pulls} {end}\n"
+class NoGate(Exception):
+    """A service ended before its gates listened."""
 
 
 class Service:
-    """A service by these settings, what it writes, and what its gates answer. Its gates listen at `ports`, or at free ones. An
-    archive is its name, its address and perhaps a dictionary of keys of its own; `keys` are further keys of the settings. With
-    `logged` its log can be read."""
+    """A service by these settings, what it writes, and what its gates answer. Its gates listen at `ports`, or at free ones; `keys`
+    are further keys of the settings. With `logged` its log can be read. What `Popen` takes may be given too."""
 
-    def __init__(self, stack, *, archives=(), originals=(), peers=(), ports=(0,), base="http://agg.example", rounds=1, pause=0,
-                 workers=1, patience=None, hosts=None, words=(), keys=None, logged=False, **more):
-        def archive_of(name, address, own=None):
-            pairs = {"name": name, "timemap": address + BASE, **(own or {})}
-            return "{ " + ", ".join(f"{key} = {toml_of(value)}" for key, value in pairs.items()) + " }"
-
-        named = ", ".join(archive_of(*archive) for archive in archives)
-        if logged:
-            keys, more = {**(keys or {}), "log": True}, {"stderr": subprocess.PIPE, **more}
+    def __init__(self, stack, *, archives=(), originals=(), peers=(), ports=(0,), base="http://agg.example", connections=1_000_000_000,
+                 rounds=1, pause=0, workers=1, patience=None, hosts=None, words=(), keys=None, logged=False, **more):
         folder = pathlib.Path(stack.enter_context(tempfile.TemporaryDirectory()))
-        (folder / "settings.toml").write_text(f'''
-base = "{base}"
-gates = [{quoted(f"127.0.0.1:{port}" for port in ports)}]
-connections = 1000000000
-rounds = {rounds}
-pause = {pause}
-workers = {workers}
-originals = [{quoted(originals)}]
-peers = [{quoted(peers)}]
-archives = [{named}]
-{"" if patience is None else f"patience = {patience}"}
-{"" if hosts is None else f"hosts = [{quoted(hosts)}]"}
-{"".join(f"{key} = {toml_of(value)}" + chr(10) for key, value in (keys or {}).items())}
-''')
+        if logged:
+            keys, more = {"log": True, **(keys or {})}, {"stderr": subprocess.PIPE, **more}
+        (folder / "settings.toml").write_text(settings_text(
+            gates=[f"127.0.0.1:{port}" for port in ports], archives=archives, originals=originals, peers=peers, base=base,
+            connections=connections, rounds=rounds, pause=pause, workers=workers, patience=patience, hosts=hosts, **(keys or {})))
         self.words = [*words, PROGRAM, "serve", str(folder / "settings.toml")]
-        self.more, self.count = {"env": ENVIRONMENT, **more}, len(ports)
-        self.start()
+        self.more, self.ports = {"env": ENVIRONMENT, "stdout": subprocess.PIPE, "text": True, **more}, list(ports)
+        self.process = None
         stack.callback(self.kill)
+        self.start()
 
     def start(self):
-        self.process = subprocess.Popen(self.words, stdout=subprocess.PIPE, text=True, **self.more)
-        self.ports = [int(re.fullmatch(r"gate 127\.0\.0\.1:(\d+)\n", self.line())[1]) for _ in range(self.count)]
+        """Starts it, and waits until its gates listen, if what it writes can be read."""
+        self.process = subprocess.Popen(self.words, **self.more)
+        if self.process.stdout:
+            lines = [self.line() for _ in self.ports]
+            if not all(lines):
+                raise NoGate
+            self.ports = [int(re.fullmatch(r"gate 127\.0\.0\.1:(\d+)\n", line)[1]) for line in lines]
         self.address = f"http://127.0.0.1:{self.ports[0]}"
 
     def kill(self):
         """Ends it as a machine that fails does."""
-        self.process.send_signal(signal.SIGKILL)
-        self.process.wait(PATIENCE)
+        if self.process:
+            self.process.kill()
+            self.process.wait(PATIENCE)
+
+    def ending(self):
+        """Its status, the rest of what it writes and what it complains of, once it has ended by itself."""
+        output, complaint = self.process.communicate(timeout=PATIENCE)
+        return self.process.returncode, output or "", complaint
 
     def line(self):
         """What it writes next."""
         return self.process.stdout.readline()
 
+    def complaint(self):
+        """The next line on standard error."""
+        return self.process.stderr.readline()
+
+    def rounds(self, count=1):
+        """Waits until it has told of so many rounds more."""
+        while count:
+            line = self.line()
+            if not line:
+                raise SystemExit("a service ended")
+            count -= line.startswith("round ")
+
     def logs_until(self, text):
         """The lines of the log up to the first that has this text."""
         lines = []
-        while line := self.process.stderr.readline():
+        while line := self.complaint():
             lines.append(line)
             if text in line:
                 break
@@ -196,7 +369,7 @@ archives = [{named}]
         return get(self.ports[gate], target, **headers)
 
     def shows(self, original=ORIGINAL, gate=0):
-        """The memento that the TimeGate leads to; None where it has none, and its status where it says something else."""
+        """The memento that the TimeGate leads to; None if it has none, and its status if it says something else."""
         status, where, _ = self.get("/timegate/" + original, gate)
         return {302: where, 404: None}.get(status, status)
 
@@ -211,31 +384,18 @@ archives = [{named}]
         return int(re.search(rf"^{kind}:\s+(\d+) kB$", text, re.M)[1])
 
 
-def has_key(key):
-    """Whether the program knows this key of settings, which is no table: then it refuses one."""
-    with tempfile.TemporaryDirectory() as folder:
-        path = pathlib.Path(folder) / "settings.toml"
-        path.write_text((TOP / "deploy/settings.toml").read_text().replace("[[archives]]", f"{key} = {{ }}\n[[archives]]", 1))
-        ran = subprocess.run([PROGRAM, "check", path], capture_output=True, text=True, check=False)
-    return f"bad settings: {key}" in ran.stderr
+# ---- nginx ----
+
+TEMPORARY = ("client_body", "proxy", "fastcgi", "uwsgi", "scgi")    # where nginx keeps bodies, each in a folder of its own
 
 
-def get(port, target, source="127.0.0.1", patience=PATIENCE, **headers):
-    connection = http.client.HTTPConnection("127.0.0.1", port, timeout=patience, source_address=(source, 0))
-    with contextlib.closing(connection):
-        fields = {name.replace("_", "-"): value for name, value in headers.items()}
-        connection.request("GET", target, headers={"Connection": "close", **fields})
-        came = connection.getresponse()
-        return came.status, came.getheader("location"), came.read().decode()
-
-
-def wait_for(port):
-    """Waits until somebody listens there."""
-    for _ in range(PATIENCE * 50):
-        with contextlib.suppress(OSError), socket.create_connection(("127.0.0.1", port), 1):
-            return
-        time.sleep(0.02)
-    raise SystemExit(f"nobody listens on port {port}")
+def start_nginx(stack, folder, port, text=None):
+    """nginx by the settings in this folder, or by this text, which is written there first, once it listens at the port."""
+    if text is not None:
+        (folder / "nginx.conf").write_text(text)
+    process = start(stack, "nginx", "-c", folder / "nginx.conf", "-p", folder, "-e", folder / "error.log", "-g", "daemon off;")
+    wait_for(port)
+    return process
 
 
 def nginx(stack, gates, *changes):
@@ -246,17 +406,34 @@ def nginx(stack, gates, *changes):
     text = re.sub(r"(?m)^ *ssl_.*\n", "", (TOP / "deploy/nginx.conf").read_text())
     servers = "\n".join(f"        server 127.0.0.1:{gate};" for gate in gates)
     text = re.sub(r"(?m)^        server 127\.0\.0\.1:8080;\n        server 127\.0\.0\.1:8081;$", servers, text)
-    kinds = ("client_body", "proxy", "fastcgi", "uwsgi", "scgi")
-    temporary = "".join(f"    {kind}_temp_path {folder}/{kind};\n" for kind in kinds)
+    temporary = "".join(f"    {kind}_temp_path {folder}/{kind};\n" for kind in TEMPORARY)
     for old, new in [("/var/log/nginx/error.log", f"{folder}/error.log"), ("/run/nginx.pid", f"{folder}/nginx.pid"),
                      ("listen 443 ssl", f"listen 127.0.0.1:{front}"), ("root /usr/share/maplewrench/web", f"root {TOP}/web"),
                      ("    access_log off;\n", temporary + "    access_log off;\n"), *changes]:
         if old not in text:
             raise SystemExit(f"deploy/nginx.conf has no {old}")
         text = text.replace(old, new)
-    (folder / "nginx.conf").write_text(text)
-    words = ["-c", folder / "nginx.conf", "-p", folder, "-e", folder / "error.log", "-g", "daemon off;"]
-    process = subprocess.Popen(["nginx", *words])
-    stack.callback(lambda: (process.terminate(), process.wait(10)))
-    wait_for(front)
+    start_nginx(stack, folder, front, text)
     return front
+
+
+def nginx_of_shards(stack, included, entry):
+    """nginx by a file that deploy/shards wrote, which listens at the port `entry`."""
+    folder = pathlib.Path(stack.enter_context(tempfile.TemporaryDirectory()))
+    temporary = "".join(f"{kind}_temp_path {folder}/{kind}; " for kind in TEMPORARY)
+    return start_nginx(stack, folder, entry, f"pid {folder}/nginx.pid; error_log {folder}/error.log; events {{}}\n"
+                       f"http {{ access_log off; merge_slashes off; {temporary}\ninclude {included}; }}\n")
+
+
+def children(process, name="nginx"):
+    """The numbers of a process's children of this name."""
+    ran = subprocess.run(["pgrep", "-P", str(process), "-x", name], capture_output=True, text=True, check=False)
+    return [int(line) for line in ran.stdout.split()]
+
+
+def reload_nginx(master):
+    """Has nginx take in its settings anew, and waits until all workers that had the old ones have ended."""
+    before = set(children(master))
+    os.kill(master, signal.SIGHUP)
+    if not comes_true(lambda: (now := set(children(master))) and not now & before):
+        raise SystemExit("nginx's workers don't end")

@@ -9,13 +9,12 @@ use Rattle.timemap_reader.specs.Answer.{IsShort}
 use Rattle.aggregator_service.specs.declared.settings.Settings.{Settings}
 use Rattle.aggregator_service.specs.declared.settings.archives.Archive.{Archive}
 
--- The job is that of an archive and an original, by their places in the settings: its first URL is the archive's text
--- with the original behind it.
-pub record IsJobOf (settings : Settings) (turn : Turn) (job : Job) : Type 0 where
+-- The job is that of the archive at a place in the settings, for some original: its first URL is the archive's text
+-- with the original behind it. Rounds look after originals of their list, and wishes are for any.
+pub record IsJobOf (settings : Settings) (place : ℕ) (job : Job) : Type 0 where
   pub archive : Archive
-  pub listed : slice_get settings.archives.items turn.archive ≡ Some archive
+  pub listed : slice_get settings.archives.items place ≡ Some archive
   pub name : job.archive ≡ archive.name
-  pub original : slice_get settings.originals.items turn.original ≡ Some job.original
   pub first : job.first ≡ archive.timemap ++ job.original
 
 -- by these settings a URL may be answered so: by a short body, and from a listed host where hosts are listed
@@ -26,6 +25,6 @@ MayAnswer settings url answer =
 -- rules that allow all jobs of these settings, and whatever may be fetched by them
 pub record Covers (settings : Settings) (jobs : Turn → Job → Type 0) (answers : List ℕ → Answer → Type 0)
     (faults : List ℕ → FetchFault → Type 0) : Type 0 where
-  pub job : (turn : Turn) (job : Job) → IsJobOf settings turn job → jobs turn job
+  pub job : (turn : Turn) (job : Job) → IsJobOf settings turn.archive job → jobs turn job
   pub answer : (url : List ℕ) (answer : Answer) → MayAnswer settings url answer → answers url answer
   pub fault : (url : List ℕ) (fault : FetchFault) → faults url fault

@@ -1,6 +1,7 @@
 pub mod Dues
 pub mod Freshness
 pub mod Jobs
+pub mod Keeping
 pub mod Keys
 pub mod Limits
 pub mod Lines
@@ -8,3 +9,5 @@ pub mod Logs
 pub mod Notes
 pub mod Pulls
 pub mod Reasons
+pub mod Watching
+pub mod Wishes

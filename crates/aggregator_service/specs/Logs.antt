@@ -5,6 +5,8 @@ use Rattle.harvester.specs.Faults.{walk_words}
 use Rattle.hyper_edge.specs.Faults.{edge_words, pull_words}
 use Rattle.published_index.specs.Faults.{refused_words}
 use Rattle.replica_exchange.specs.CursorRule as rule
+use Rattle.snapshots.specs.Faults.{words_of as unread_words}
+use Rattle.snapshots.specs.declared.faults.WriteFault.TheVariants as unwritten
 use Rattle.aggregator_service.specs.Notes.{counts_words}
 use Rattle.aggregator_service.specs.declared.lines.PeerFault.{PeerFault}
 use Rattle.aggregator_service.specs.declared.lines.PeerFault.TheVariants.{Pull, Take}
@@ -19,11 +21,16 @@ use Rattle.aggregator_service.specs.declared.lines.Progress.{Progress}
 use Rattle.aggregator_service.specs.declared.lines.Greeting.{Greeting}
 use Rattle.aggregator_service.specs.declared.lines.Want.{Want}
 use Rattle.aggregator_service.specs.declared.lines.Want.TheVariants as want
+use Rattle.aggregator_service.specs.declared.lines.SnapshotEnd.{SnapshotEnd}
+use Rattle.aggregator_service.specs.declared.lines.SnapshotEnd.TheVariants.{TakenIn, Aside, Unread, Unwritten}
 use Rattle.aggregator_service.specs.declared.lines.GateEnd.{GateEnd}
 use Rattle.aggregator_service.specs.declared.lines.GateEnd.TheVariants as end
 use Rattle.aggregator_service.specs.declared.lines.Line.{Line}
-use Rattle.aggregator_service.specs.declared.lines.Line.TheVariants.{Archive, Wanting, Peer, Unpublished, Output, Gate, Start}
-use Rattle.aggregator_service.specs.declared.lines.Line.TheVariants.{Progress as Goes}
+use Rattle.aggregator_service.specs.declared.lines.Line.TheVariants.{Archive, Wanting, Peer, Unpublished, Output, Gate, Status, Start, Snapshot}
+use Rattle.aggregator_service.specs.declared.lines.Line.TheVariants.{Progress as Goes, Wishes, List as Of_list}
+use Rattle.aggregator_service.specs.declared.lines.ListMatter.{ListMatter}
+use Rattle.aggregator_service.specs.declared.lines.ListMatter.TheVariants.{Bad, More, Unread, NoMemory}
+use Rattle.aggregator_service.specs.declared.desks.WishCounts.{WishCounts}
 
 -- why a peer brought nothing
 abbrev pub peer_words : PeerFault → List ℕ
@@ -72,10 +79,31 @@ matter_words (Awake left) = codes "answers again, jobs left: " ++ decimal left
 matter_words (Left left) = decimal left ++ codes " walks not begun: it isn't asked"
 matter_words (Emptied count) = decimal count ++ codes " originals lost all their copies"
 
--- what memory was refused for
+-- what there was no memory or no room for
 abbrev pub want_words : Want → List ℕ
 want_words want.Walks = codes "walks not begun: no memory"
 want_words want.Harvests = codes "harvests not kept: no memory"
+want_words want.Room = codes "wishes turned away: no room"
+
+-- how many wishes are over, and of how many something is shown
+abbrev pub wish_words : WishCounts → List ℕ
+wish_words counts = decimal counts.found ++ codes " of " ++ decimal counts.ended ++ codes " found"
+
+-- what is told of the file of originals
+abbrev pub list_words : ListMatter → List ℕ
+list_words (Bad number) = codes "line " ++ decimal number ++ codes " is no original"
+list_words (More count) = decimal count ++ codes " more lines are no originals"
+list_words Unread = codes "not read: the originals of before stay"
+list_words NoMemory = codes "no memory: the originals of before stay"
+
+-- what became of a snapshot
+abbrev pub snapshot_words : SnapshotEnd → List ℕ
+snapshot_words TakenIn = codes "taken in"
+snapshot_words (Aside fault) = unread_words fault ++ codes ", and set aside"
+snapshot_words (Unread fault) = unread_words fault ++ codes ", and not set aside"
+snapshot_words (Unwritten unwritten.NotWritten) = codes "not written"
+snapshot_words (Unwritten unwritten.TooLong) = codes "not written: too long"
+snapshot_words (Unwritten unwritten.NoMemory) = codes "not written: no memory"
 
 -- how a gate ended
 abbrev pub end_words : GateEnd → List ℕ
@@ -93,9 +121,13 @@ line_words (Peer round base fault) =
 line_words (Unpublished round fault) = codes "round " ++ decimal round ++ codes ": " ++ refused_words
 line_words (Goes round progress) = codes "round " ++ decimal round ++ codes ": " ++ progress_words progress
 line_words (Start greeting) = codes "start: " ++ greeting_words greeting
+line_words (Wishes counts) = codes "wishes: " ++ wish_words counts
+line_words (Of_list round matter) = codes "round " ++ decimal round ++ codes ": list: " ++ list_words matter
+line_words (Snapshot end) = codes "snapshot: " ++ snapshot_words end
 line_words Output = codes "standard output fails: no further round is made"
 line_words (Gate number address end) =
     codes "gate " ++ decimal number ++ codes " (" ++ address.now ++ codes ") ended: " ++ end_words end
+line_words (Status address end) = codes "status (" ++ address.now ++ codes ") ended: " ++ end_words end
 
 -- a whole line of the log
 abbrev pub log_line : Line → List ℕ

@@ -38,7 +38,7 @@ pub(crate) struct Due {
 
 impl Due {
     /// What is due each time that so many seconds have passed, from this millisecond on.
-    fn of_seconds(seconds: Option<u64>, now: u64) -> Due {
+    pub(crate) fn of_seconds(seconds: Option<u64>, now: u64) -> Due {
         Due {
             every: seconds.map(|seconds| seconds.saturating_mul(1_000)),
             last: now,

@@ -1,5 +1,5 @@
-//! The jobs of a round.
-ghost use Rattle.std.specs.Prelude.{◌≡◌, ◌++◌, IfSome};
+//! The jobs of rounds and wishes.
+ghost use Rattle.std.specs.Prelude.{◌≡◌, ◌++◌, IfSome, option_copied, slice_get};
 ghost use Rattle.aggregator_service.specs.Jobs.{IsJobOf};
 
 use crate::settings::{Archive, Settings};
@@ -8,14 +8,27 @@ use harvester::Job;
 use memento_time::{Clean, Original};
 use std::alloc::Global;
 
-/// The job of an archive for an original, by their places in the settings, if both are there. Also `None` if memory is
-/// refused, or if its URL is too long.
-pub(crate) fn job_at(alloc: Global, settings: &Settings, turn: Turn, revision: u64) -> Option<Job>
-    ensures own { IfSome result (IsJobOf settings.now turn) }
+/// The original of a turn, by its place in the list of a round, if it is there.
+pub(crate) fn original_of(list: &[Original], turn: Turn) -> Option<&Original>
+    ensures { option_copied result ≡ slice_get list.now turn.original }
+{
+    list.get(turn.original)
+}
+
+/// The job of the archive at this place for an original, if there is such an archive. Also `None` if memory is refused,
+/// or if its URL is too long.
+pub(crate) fn job_at(
+    alloc: Global,
+    settings: &Settings,
+    place: usize,
+    original: &Original,
+    revision: u64,
+) -> Option<Job>
+    ensures own { IfSome result (IsJobOf settings.now place) }
+    ensures original { IfSome result (λ job. job.original ≡ original.now) }
     ensures revision { IfSome result (λ job. job.revision ≡ revision) }
 {
-    let archive = settings.archives.get(turn.archive)?;
-    let original = settings.originals.get(turn.original)?;
+    let archive = settings.archives.get(place)?;
     let job = job_of(alloc, archive, original, revision)?;
     Some(job)
 }

@@ -6,12 +6,16 @@
 #![tactic(auto)]
 
 mod clocks;
+mod desks;
 mod dues;
 mod freshness;
 mod gates;
+mod granting;
 mod jobs;
+mod keeping;
 mod laws;
 mod lines;
+mod listing;
 mod logs;
 mod making;
 mod means;
@@ -25,6 +29,8 @@ mod runtimes;
 mod serving;
 mod settings;
 mod terms;
+mod watching;
+mod wished;
 
 pub use laws::limits_by_example;
 pub use serving::{ServeFault, serve_settings};

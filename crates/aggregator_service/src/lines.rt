@@ -1,14 +1,17 @@
 //! The lines of the log.
 ghost use Rattle.std.specs.Prelude.{◌≡◌, Some};
 ghost use Rattle.aggregator_service.specs.Logs.{cause_words, end_words, line_words, matter_words, peer_words, want_words};
-ghost use Rattle.aggregator_service.specs.Logs.{dormancy_words, greeting_words, progress_words, reason_words};
+ghost use Rattle.aggregator_service.specs.Logs.{dormancy_words, greeting_words, progress_words, reason_words, snapshot_words};
+ghost use Rattle.aggregator_service.specs.Logs.{list_words, wish_words};
 
+use crate::desks::WishCounts;
 use crate::notes::Counts;
 use harvester::WalkFault;
 use hyper_edge::{EdgeFault, PullFault};
 use memento_time::ArchiveName;
 use published_index::PublishRefused;
 use replica_exchange::TakeFault;
+use snapshots::{ReadFault, WriteFault};
 use std::fmt;
 
 /// Why a peer brought nothing in a round.
@@ -178,13 +181,15 @@ impl fmt::Display for Greeting {
     }
 }
 
-/// What memory was refused for.
+/// What there was no memory or no room for.
 #[derive(Clone, Copy, Debug, PartialEq, Eq)]
 pub(crate) enum Want {
     /// Walks weren't begun.
     Walks,
     /// Harvests weren't appended.
     Harvests,
+    /// There were as many wishes as may be.
+    Room,
 }
 
 impl fmt::Display for Want {
@@ -194,7 +199,42 @@ impl fmt::Display for Want {
         match self {
             Want::Walks => f.write_str("walks not begun: no memory"),
             Want::Harvests => f.write_str("harvests not kept: no memory"),
+            Want::Room => f.write_str("wishes turned away: no room"),
         }
+    }
+}
+
+/// What the log says about the file of originals.
+#[derive(Clone, Copy, Debug, PartialEq, Eq)]
+pub(crate) enum ListMatter {
+    /// The line with this number holds no original.
+    Bad(u64),
+    /// So many more don't.
+    More(u64),
+    /// It can't be read.
+    Unread,
+    /// There is no memory for it.
+    NoMemory,
+}
+
+impl fmt::Display for ListMatter {
+    ghost output = { λ matter. Some (list_words matter) };
+
+    fn fmt<W: fmt::Write>(&self, f: &mut fmt::Formatter<W>) -> fmt::Result {
+        match self {
+            ListMatter::Bad(number) => write!(f, "line {number} is no original"),
+            ListMatter::More(count) => write!(f, "{count} more lines are no originals"),
+            ListMatter::Unread => f.write_str("not read: the originals of before stay"),
+            ListMatter::NoMemory => f.write_str("no memory: the originals of before stay"),
+        }
+    }
+}
+
+impl fmt::Display for WishCounts {
+    ghost output = { λ counts. Some (wish_words counts) };
+
+    fn fmt<W: fmt::Write>(&self, f: &mut fmt::Formatter<W>) -> fmt::Result {
+        write!(f, "{} of {} found", self.found, self.ended)
     }
 }
 
@@ -218,6 +258,34 @@ impl fmt::Display for GateEnd {
     }
 }
 
+/// What became of a snapshot.
+#[derive(Clone, Copy, Debug, PartialEq, Eq)]
+pub(crate) enum SnapshotEnd {
+    /// It was taken in at the start.
+    TakenIn,
+    /// It couldn't be taken in, and was set aside.
+    Aside(ReadFault),
+    /// It couldn't be taken in, and not be set aside either.
+    Unread(ReadFault),
+    /// None was written.
+    Unwritten(WriteFault),
+}
+
+impl fmt::Display for SnapshotEnd {
+    ghost output = { λ end. Some (snapshot_words end) };
+
+    fn fmt<W: fmt::Write>(&self, f: &mut fmt::Formatter<W>) -> fmt::Result {
+        match *self {
+            SnapshotEnd::TakenIn => f.write_str("taken in"),
+            SnapshotEnd::Aside(fault) => write!(f, "{fault}, and set aside"),
+            SnapshotEnd::Unread(fault) => write!(f, "{fault}, and not set aside"),
+            SnapshotEnd::Unwritten(WriteFault::NotWritten) => f.write_str("not written"),
+            SnapshotEnd::Unwritten(WriteFault::TooLong) => f.write_str("not written: too long"),
+            SnapshotEnd::Unwritten(WriteFault::NoMemory) => f.write_str("not written: no memory"),
+        }
+    }
+}
+
 /// What went wrong, each as one line.
 #[derive(Clone, Copy)]
 pub(crate) enum Line<'a> {
@@ -227,7 +295,7 @@ pub(crate) enum Line<'a> {
         name: &'a str,
         matter: Matter<'a>,
     },
-    /// Memory was refused this many times.
+    /// There was no memory or no room this many times.
     Wanting {
         round: u64,
         count: u64,
@@ -251,11 +319,25 @@ pub(crate) enum Line<'a> {
     },
     /// The first round begins.
     Start(Greeting),
+    /// So many wishes are over.
+    Wishes(WishCounts),
+    /// Something about the file of originals.
+    List {
+        round: u64,
+        matter: ListMatter,
+    },
+    /// A snapshot was read, or none was written.
+    Snapshot(SnapshotEnd),
     /// Standard output can't be written.
     Output,
     /// The gate with this number ended.
     Gate {
         number: u64,
+        address: &'a str,
+        end: GateEnd,
+    },
+    /// The status' address isn't answered any more.
+    Status {
         address: &'a str,
         end: GateEnd,
     },
@@ -276,12 +358,16 @@ impl<'a> fmt::Display for Line<'a> {
             Line::Unpublished { round, fault } => write!(f, "round {round}: {fault}"),
             Line::Progress { round, progress } => write!(f, "round {round}: {progress}"),
             Line::Start(greeting) => write!(f, "start: {greeting}"),
+            Line::Wishes(counts) => write!(f, "wishes: {counts}"),
+            Line::List { round, matter } => write!(f, "round {round}: list: {matter}"),
+            Line::Snapshot(end) => write!(f, "snapshot: {end}"),
             Line::Output => f.write_str("standard output fails: no further round is made"),
             Line::Gate {
                 number,
                 address,
                 end,
             } => write!(f, "gate {number} ({address}) ended: {end}"),
+            Line::Status { address, end } => write!(f, "status ({address}) ended: {end}"),
         }
     }
 }

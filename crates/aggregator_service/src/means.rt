@@ -1,34 +1,68 @@
-//! The threads that rounds are made with, and the flag by which gates are ready.
+//! The threads that rounds are made with, and what these share with the gates.
 use crate::pool::Pool;
 use crate::pulls::Pullers;
 use crate::runtimes::SocketRuntime;
 use crate::settings::Settings;
 use crate::terms::Terms;
+use crate::watching::Telling;
+use crate::wished::DEFAULT_AGAIN;
 use harvest_workers::WalkRules;
 use hyper_edge::{Patience, Readiness};
 use std::alloc::{AllocError, Global};
+use std::hash::RandomState;
 use std::sync::Wait;
 use std::thread::Threads;
+use wish_list::Limits;
+use wishing_gates::WishBook;
 
-/// The threads that rounds are made with, and the flag by which gates are ready.
+/// The threads that rounds are made with, and what these share with the gates.
 #[derive(Drop)]
 pub(crate) struct Means<P: WalkRules> {
     pub(crate) pool: Pool<P>,
     pub(crate) pullers: Pullers,
+    /// By it gates are ready.
     pub(crate) readiness: Readiness,
+    /// What readers wish for.
+    pub(crate) book: WishBook,
+    /// What an operator is told.
+    pub(crate) telling: Telling,
+    /// The secret keys of hashes, where sets of originals are made.
+    pub(crate) keys: Option<RandomState>,
 }
 
 /// How many peers are pulled in threads of their own.
 fn peers_pulled(settings: &Settings) -> usize {
-    match settings.timing.pull {
-        Some(_) => settings.peers.len(),
-        None => 0,
+    if settings.timing.pull.is_some() || settings.wishing.wanted.is_some() {
+        settings.peers.len()
+    } else {
+        0
     }
 }
 
+/// The book of wishes that these settings ask for. Hashes have these keys.
+fn book_of(
+    alloc: Global,
+    settings: &Settings,
+    keys: Option<RandomState>,
+) -> Result<WishBook, AllocError> {
+    let (Some(remembered), Some(keys)) = (settings.wishing.wanted, keys) else {
+        return Ok(WishBook::closed());
+    };
+    let limits = Limits {
+        remembered,
+        again: settings.timing.again.unwrap_or(DEFAULT_AGAIN),
+        in_a_minute: settings.wishing.wishes,
+    };
+    WishBook::open(alloc, limits, keys).map_err(|_| AllocError)
+}
+
 impl<P: WalkRules> Means<P> {
-    /// Room for the threads that these settings ask for, of which none is started.
-    pub(crate) fn new(alloc: Global, settings: &Settings) -> Result<Means<P>, AllocError> {
+    /// Room for the threads that these settings ask for, of which none is started. Hashes have these keys.
+    pub(crate) fn new(
+        alloc: Global,
+        settings: &Settings,
+        keys: Option<RandomState>,
+    ) -> Result<Means<P>, AllocError> {
         let Ok(readiness) = Readiness::new(alloc) else {
             return Err(AllocError);
         };
@@ -39,6 +73,9 @@ impl<P: WalkRules> Means<P> {
             pool: Pool::new(alloc, settings.workers)?,
             pullers: Pullers::new(alloc, peers_pulled(settings))?,
             readiness,
+            book: book_of(alloc, settings, keys)?,
+            telling: Telling::new(alloc, settings).map_err(|_| AllocError)?,
+            keys,
         })
     }
 
@@ -48,6 +85,9 @@ impl<P: WalkRules> Means<P> {
             pool,
             pullers: _,
             readiness: _,
+            book: _,
+            telling: _,
+            keys: _,
         } = self;
         pool.close(rt);
     }

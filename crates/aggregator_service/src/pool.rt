@@ -150,6 +150,11 @@ impl<P: WalkRules> Pool<P> {
         }
     }
 
+    /// A report that waits to be taken in, if there is one.
+    pub(crate) fn waiting(&self, rt: &impl Wait) -> Option<WalkReport<P>> {
+        self.reports.try_recv(rt).ok()
+    }
+
     /// Ends the workers, once each has reported.
     pub(crate) fn close(self, rt: &(impl Threads + Wait)) {
         let Pool {

@@ -19,7 +19,7 @@ pub(crate) struct Reasons {
 }
 
 /// The reason that a fault is.
-fn reason_of(fault: WalkFault) -> Reason
+pub(crate) fn reason_of(fault: WalkFault) -> Reason
     ensures { result ≡ reason_of fault }
 {
     match fault {

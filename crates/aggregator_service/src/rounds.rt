@@ -93,31 +93,9 @@ impl Round {
         }
     }
 
-    /// Pulls from each peer in the round with this number, and tells the log of those that bring nothing.
-    pub(crate) fn pull_all<R, L>(
-        &mut self,
-        rt: &R,
-        round: u64,
-        settings: &Settings,
-        merger: &mut Merger,
-        log: Log<L>,
-    )
-    where
-        R: SocketRuntime,
-        L: Write + Copy,
-    {
-        let patience = Patience::of_seconds(settings.patience);
-        for (number, peer) in (1..).zip(&settings.peers) {
-            if let Err(fault) = self.pull(rt, merger, number, peer, patience) {
-                let base = peer.as_str();
-                log.tell(rt.alloc(), Line::Peer { round, base, fault });
-            }
-        }
-    }
-
     /// Appends what the peer with this number has learnt since the last pull, if it answers with a delta that follows
     /// on the held cursor. Otherwise the cursor stays, and the next round asks from it again.
-    fn pull<R>(
+    pub(crate) fn pull<R>(
         &mut self,
         rt: &R,
         merger: &mut Merger,

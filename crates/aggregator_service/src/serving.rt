@@ -21,10 +21,12 @@ use harvest_workers::WalkRules;
 use hyper_edge::EdgeFault;
 use published_index::{Gate, Merger, OpenFault, open};
 use std::alloc::{AllocError, AllocFailed, AllocGlobal, Global};
+use std::hash::RandomState;
 use std::io::{self, Write};
 use std::marker::Brand;
 use std::net::{Net, SocketAddr, TcpListener, TcpStream};
 use std::random::RandomSource;
+use std::rt::Files;
 use std::sync::{Arc, Wait};
 use std::thread::Threads;
 use std::time::Clock;
@@ -96,6 +98,7 @@ where
         + Clock
         + Net<Listener = TcpListener, Stream = TcpStream>
         + RandomSource
+        + Files
         + AllocGlobal
         + Sync
         + Send
@@ -125,6 +128,17 @@ where
     Ok(())
 }
 
+/// Secret keys for hashes, where sets of originals are made.
+fn secret_keys<R: RandomSource>(
+    rt: &R,
+    settings: &Settings,
+) -> Result<Option<RandomState>, ServeFault> {
+    if settings.wishing.wanted.is_none() && settings.wishing.originals_file.is_none() {
+        return Ok(None);
+    }
+    Ok(Some(RandomState::new(rt)?))
+}
+
 /// Opens the gates' doors, makes the rounds, and waits for the gates to end. What rounds take memory for is made before
 /// the first gate answers.
 fn serve_gates<R, W, L, P>(
@@ -136,17 +150,24 @@ fn serve_gates<R, W, L, P>(
     log: Log<L>,
 ) -> Result<(), ServeFault>
 where
-    R: SocketRuntime + Threads + Sync + Send + Clone + Drop + 'static,
+    R: SocketRuntime + Files + Threads + Sync + Send + Clone + Drop + 'static,
     W: Write,
     L: Write + Copy + Send + 'static,
     P: WalkRules + Send + Sync + 'static,
     requires { Covers (arc_value settings.now) P.jobs P.answers P.faults }
 {
     let terms: Terms<P> = Terms::new(Arc::try_clone(settings)?);
-    let mut means = Means::new(rt.alloc(), terms.settings())?;
+    let keys = secret_keys(rt, terms.settings())?;
+    let mut means = Means::new(rt.alloc(), terms.settings(), keys)?;
+    let mut standing = Standing::new(rt.alloc(), terms.settings(), 0)?;
+    if let Some(path) = &terms.settings().storing.snapshot {
+        if standing.keeping.take_in(rt, path.as_str(), merger, log) {
+            means.readiness.set();
+            means.telling.tell_snapshot(rt, merger);
+        }
+    }
     let watch = Stopwatch::start(rt);
-    let mut standing = Standing::new(rt.alloc(), terms.settings(), watch.now(rt))?;
-    let doors = open_doors(rt, terms.settings(), gates, &means.readiness, log)?;
+    let doors = open_doors(rt, terms.settings(), gates, &means, log)?;
     let said = say_ports(&doors, terms.settings(), out);
     let made = match said {
         Ok(()) => {
@@ -156,9 +177,13 @@ where
                 terms: &terms,
                 means: &means,
                 watch,
+                seed: incarnation_now(rt),
                 log,
             };
-            make_all(&rounds, &mut standing, merger, out)
+            let made = make_all(&rounds, &mut standing, merger, out);
+            // From now on nothing changes.
+            rounds.keep(&mut standing, merger);
+            made
         }
         Err(fault) => Err(fault),
     };
@@ -172,12 +197,18 @@ where
     ended
 }
 
-/// Writes a line for each gate, in the order of the settings.
+/// Writes a line for each gate, in the order of the settings, and one for the status, if the settings ask for it.
 fn say_ports<W: Write>(doors: &Doors, settings: &Settings, out: &mut W) -> Result<(), ServeFault> {
     for (address, port) in settings.gates.iter().zip(doors.ports()) {
         if let Ok(mut address) = address.parse::<SocketAddr>() {
             address.set_port(*port);
             writeln!(out, "gate {address}")?;
+        }
+    }
+    if let (Some(address), Some(port)) = (&settings.status, doors.status()) {
+        if let Ok(mut address) = address.parse::<SocketAddr>() {
+            address.set_port(port);
+            writeln!(out, "status {address}")?;
         }
     }
     out.flush()?;
@@ -192,7 +223,7 @@ fn make_all<R, W, L, P>(
     out: &mut W,
 ) -> Result<(), ServeFault>
 where
-    R: SocketRuntime,
+    R: SocketRuntime + Files,
     W: Write,
     L: Write + Copy,
     P: WalkRules,

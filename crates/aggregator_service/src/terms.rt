@@ -1,5 +1,5 @@
 //! What the jobs of a service are, and how they are walked.
-ghost use Rattle.std.specs.Prelude.{◌≡◌};
+ghost use Rattle.std.specs.Prelude.{◌≡◌, IfSome};
 ghost use Rattle.std.specs.Arc.{arc_value};
 ghost use Rattle.aggregator_service.specs.Jobs.{Covers};
 
@@ -10,6 +10,7 @@ use crate::settings::Settings;
 use harvest_schedule::Turn;
 use harvest_workers::{Assignment, RuledFetch, WalkReport, WalkRules, walk_assignment};
 use hyper_edge::{CarefulFetch, Limits, Patience};
+use memento_time::Original;
 use std::alloc::{AllocError, Global};
 use std::marker::PhantomData;
 use std::sync::Arc;
@@ -48,14 +49,19 @@ impl<P: WalkRules> Terms<P> {
         &*self.settings
     }
 
-    /// The job of a turn, to be handed out. `None` if memory is refused, or if its URL is too long.
+    /// The job of a turn's archive for an original, to be handed out. `None` if memory is refused, or if its URL is too
+    /// long.
     pub(crate) fn assignment(
         &self,
         alloc: Global,
         turn: Turn,
+        original: &Original,
         revision: u64,
-    ) -> Option<Assignment<P>> {
-        let job = job_at(alloc, self.settings(), turn, revision)?;
+    ) -> Option<Assignment<P>>
+        ensures turn { IfSome result (λ it. it.turn ≡ turn) }
+        ensures original { IfSome result (λ it. it.job.original ≡ original.now) }
+    {
+        let job = job_at(alloc, self.settings(), turn.archive, original, revision)?;
         if !job.has_first_url() {
             return None;
         }

@@ -2,7 +2,7 @@
 use Rattle.std.proofs.Common.{◌≡◌, ℕ, ◌<◌, ◌≤◌, Bool, true, false, nat_lt, Option, Some, None, IfSome, IsSome, if◌then◌else◌, max, option_map, refl, sym, subst, arith, rules}
 use Rattle.std.proofs.lemmas.Bool.Decides.{nat_tests}
 use Rattle.harvest_schedule.specs.declared.moods.Mood.{Mood}
-use Rattle.harvest_schedule.specs.declared.moods.Mood.TheVariants.{Awake, Aside, Dormant, Probed}
+use Rattle.harvest_schedule.specs.declared.moods.Mood.TheVariants.{Awake, Aside, Tried, Dormant, Probed}
 use Rattle.harvest_schedule.specs.Moods.{MayAsk, asked_from}
 use Rattle.harvest_schedule.specs.Standing.{Standing, walks}
 use Rattle.harvest_schedule.specs.Lanes.{IsReady, MayWalk, after, job_of, time_after, time_by, walk_from}
@@ -28,7 +28,8 @@ not_less_of a b e = grind (arith, nat_tests, e)
 mood_holds : (mood : Mood) → HoldsFrom (asked_from mood) (λ time. MayAsk time mood)
 mood_holds (Awake failed) = λ time. (λ may. omega arith, λ le. search rules)
 mood_holds (Aside until failed) = λ time. (λ may. may, λ le. le)
-mood_holds (Dormant until) = λ time. (λ may. may, λ le. le)
+mood_holds (Tried failed) = λ time may. may
+mood_holds (Dormant until named) = λ time. (λ may. may, λ le. le)
 mood_holds Probed = λ time may. may
 
 walk_by : (b : Bool) (o : Option ℕ) (s : Standing) → nat_lt (walks s) s.pace.at_once ≡ b → HoldsFrom o (λ time. MayAsk time s.mood)

@@ -1,17 +1,18 @@
 -- No archive is asked before its time.
-use Rattle.std.proofs.Common.{◌≡◌, ℕ, ◌<◌, ◌≤◌, ◌==◌, Bool, true, false, nat_le, List, [], ◌∷◌, Option, Some, None, IsSome, if◌then◌else◌, max, refl, sym, ap, subst, arith}
+use Rattle.std.proofs.Common.{◌≡◌, ℕ, ◌<◌, ◌≤◌, ◌==◌, Bool, true, false, nat_le, List, [], ◌∷◌, Option, Some, None, IsSome, if◌then◌else◌, max, refl, sym, ap, subst, arith, rules}
+use Rattle.std.specs.Prelude.{⊤}
 use Rattle.std.proofs.lemmas.Bool.Decides.{nat_tests}
 use Rattle.harvest_schedule.specs.declared.moods.Limits.{Limits}
 use Rattle.harvest_schedule.specs.declared.moods.Pace.{Pace}
 use Rattle.harvest_schedule.specs.declared.moods.Mood.{Mood}
-use Rattle.harvest_schedule.specs.declared.moods.Mood.TheVariants.{Awake, Aside, Dormant, Probed}
+use Rattle.harvest_schedule.specs.declared.moods.Mood.TheVariants.{Awake, Aside, Tried, Dormant, Probed}
 use Rattle.harvest_schedule.specs.declared.moods.Verdict.{Verdict}
 use Rattle.harvest_schedule.specs.declared.moods.Verdict.TheVariants.{Answered, Failed, Unknown, Busy}
 use Rattle.harvest_schedule.specs.Moods as moods
 use Rattle.harvest_schedule.specs.Standing.{Standing}
 use Rattle.harvest_schedule.specs.Lanes.{MayWalk, advanced}
 use Rattle.harvest_schedule.specs.Steps.{Act, Begun, Can, Ended, Handed, Passed, WalkBegun, WalkEnded, changed}
-use Rattle.harvest_schedule.specs.Runs.{AllHeeded, AllPaced, AllWait, AreQuiet, IsAsked, IsBusy, IsMet, IsQuiet, Leads, WaitsUntil}
+use Rattle.harvest_schedule.specs.Runs.{AllHeeded, AllPaced, AllTried, AllWait, AreLeft, AreNoEnds, AreQuiet, IsAsked, IsBusy, IsLeft, IsMet, IsNoEnd, IsQuiet, Leads, WaitsUntil}
 use Rattle.harvest_schedule.proofs.Acts.{Advances, advances}
 
 -- ---- the pace
@@ -102,15 +103,18 @@ waits_quiet : (limits : Limits) (verdict : Verdict) (now until : ℕ) (mood : Mo
 waits_quiet limits Answered now until mood quiet waits = absurd (quiet refl)
 waits_quiet limits Failed now until (Awake failed) quiet waits = absurd waits
 waits_quiet limits Failed now until (Aside time failed) quiet waits = waits
-waits_quiet limits Failed now until (Dormant time) quiet waits = waits
+waits_quiet limits Failed now until (Tried failed) quiet waits = absurd waits
+waits_quiet limits Failed now until (Dormant time named) quiet waits = waits
 waits_quiet limits Failed now until Probed quiet waits = absurd waits
 waits_quiet limits Unknown now until (Awake failed) quiet waits = absurd waits
 waits_quiet limits Unknown now until (Aside time failed) quiet waits = waits
-waits_quiet limits Unknown now until (Dormant time) quiet waits = waits
+waits_quiet limits Unknown now until (Tried failed) quiet waits = absurd waits
+waits_quiet limits Unknown now until (Dormant time named) quiet waits = waits
 waits_quiet limits Unknown now until Probed quiet waits = absurd waits
 waits_quiet limits (Busy asked) now until (Awake failed) quiet waits = absurd waits
 waits_quiet limits (Busy asked) now until (Aside time failed) quiet waits = omega (arith, waits)
-waits_quiet limits (Busy asked) now until (Dormant time) quiet waits = omega (arith, waits)
+waits_quiet limits (Busy asked) now until (Tried failed) quiet waits = absurd waits
+waits_quiet limits (Busy asked) now until (Dormant time named) quiet waits = omega (arith, waits)
 waits_quiet limits (Busy asked) now until Probed quiet waits = absurd waits
 
 failed_isnt : Failed ≡ Answered → ⊥
@@ -148,7 +152,8 @@ waits_on limits (act ∷ acts) s t until waits quiet leads =
 its_time : (now until : ℕ) (mood : Mood) → WaitsUntil until mood → moods.MayAsk now mood → until ≤ now
 its_time now until (Awake failed) waits may = absurd waits
 its_time now until (Aside time failed) waits may = omega (arith, waits, may)
-its_time now until (Dormant time) waits may = omega (arith, waits, may)
+its_time now until (Tried failed) waits may = absurd waits
+its_time now until (Dormant time named) waits may = omega (arith, waits, may)
 its_time now until Probed waits may = absurd waits
 
 pub all_wait : AllWait
@@ -158,33 +163,42 @@ all_wait limits asking acts s t until now waits quiet leads asked can =
 
 -- ---- archives that are busy
 
+-- the archive isn't asked before this time, which it named
+abbrev Heeds : ℕ → Mood → Type 0
+Heeds until (Awake failed) = ⊥
+Heeds until (Aside time failed) = until ≤ time
+Heeds until (Tried failed) = ⊥
+Heeds until (Dormant time named) = (until ≤ time) × (until ≤ named)
+Heeds until Probed = ⊥
+
 heeded_if : (b : Bool) (limits : Limits) (now until failed : ℕ)
-    → WaitsUntil until (if b then moods.dormant limits now until else Aside until failed)
-heeded_if true limits now until failed = omega arith
+    → Heeds until (if b then moods.dormant limits now until else Aside until failed)
+heeded_if true limits now until failed = (omega arith, omega arith)
 heeded_if false limits now until failed = omega arith
 
 false_isnt_true : false ≡ true → ⊥
 false_isnt_true e = cc
 
 heeded_tolerance : (tolerance : Option ℕ) (limits : Limits) (now until failed : ℕ) → IsSome tolerance
-    → WaitsUntil until (moods.failing_by tolerance limits now until failed (Aside until failed))
+    → Heeds until (moods.failing_by tolerance limits now until failed (Aside until failed))
 heeded_tolerance None limits now until failed some = absurd (false_isnt_true some)
 heeded_tolerance (Some tolerance) limits now until failed some = heeded_if (nat_le tolerance failed) limits now until failed
 
 heeded_mood : (limits : Limits) (now until : ℕ) (mood : Mood) → IsSome limits.tolerance
-    → WaitsUntil until (moods.mood_after limits (Busy until) now mood)
+    → Heeds until (moods.mood_after limits (Busy until) now mood)
 heeded_mood limits now until (Awake failed) some = heeded_tolerance limits.tolerance limits now until (moods.one_more failed) some
 heeded_mood limits now until (Aside time failed) some = omega arith
-heeded_mood limits now until (Dormant time) some = omega arith
-heeded_mood limits now until Probed some = omega arith
+heeded_mood limits now until (Tried failed) some = heeded_tolerance limits.tolerance limits now until (moods.one_more failed) some
+heeded_mood limits now until (Dormant time named) some = (omega arith, omega arith)
+heeded_mood limits now until Probed some = (omega arith, omega arith)
 
 heeded_at : (limits : Limits) (now until time : ℕ) (mood : Mood) → IsSome limits.tolerance → time ≡ until
-    → WaitsUntil until (moods.mood_after limits (Busy time) now mood)
+    → Heeds until (moods.mood_after limits (Busy time) now mood)
 heeded_at limits now until time mood some same =
-    subst (λ n. WaitsUntil n (moods.mood_after limits (Busy time) now mood)) same (heeded_mood limits now time mood some)
+    subst (λ n. Heeds n (moods.mood_after limits (Busy time) now mood)) same (heeded_mood limits now time mood some)
 
 heeded_by : (limits : Limits) (act : Act) (s : Standing) (until : ℕ) → IsSome limits.tolerance → IsBusy until act
-    → WaitsUntil until (changed limits act s).mood
+    → Heeds until (changed limits act s).mood
 heeded_by limits (Handed now original) s until some busy = absurd busy
 heeded_by limits (Passed original) s until some busy = absurd busy
 heeded_by limits (Ended now original Answered) s until some busy = absurd busy
@@ -198,6 +212,116 @@ heeded_by limits (WalkEnded now Unknown) s until some busy = absurd busy
 heeded_by limits (WalkEnded now (Busy time)) s until some busy = heeded_at limits now until time s.mood some busy
 heeded_by limits (Begun originals) s until some busy = absurd busy
 
+heeds_on : (limits : Limits) (verdict : Verdict) (now until : ℕ) (mood : Mood) → Heeds until mood
+    → Heeds until (moods.mood_after limits verdict now mood)
+heeds_on limits verdict now until (Awake failed) heeds = absurd heeds
+heeds_on limits Answered now until (Aside time failed) heeds = heeds
+heeds_on limits Failed now until (Aside time failed) heeds = heeds
+heeds_on limits Unknown now until (Aside time failed) heeds = heeds
+heeds_on limits (Busy asked) now until (Aside time failed) heeds = omega (arith, heeds)
+heeds_on limits verdict now until (Tried failed) heeds = absurd heeds
+heeds_on limits Answered now until (Dormant time named) heeds = heeds.1
+heeds_on limits Failed now until (Dormant time named) heeds = heeds
+heeds_on limits Unknown now until (Dormant time named) heeds = heeds
+heeds_on limits (Busy asked) now until (Dormant time named) heeds =
+    let a = heeds.0 in
+    let b = heeds.1 in
+    (omega (arith, a), omega (arith, b))
+heeds_on limits verdict now until Probed heeds = absurd heeds
+
+heeds_by : (limits : Limits) (act : Act) (s : Standing) (until : ℕ) → IsLeft act → Can act s → Heeds until s.mood
+    → Heeds until (changed limits act s).mood
+heeds_by limits (Handed now original) s until left can heeds = absurd left
+heeds_by limits (Passed original) s until left can heeds =
+    let a : Advances 0 original s (advanced s) = advances 0 original s can in
+    subst (Heeds until) (sym a.mood) heeds
+heeds_by limits (Ended now original verdict) s until left can heeds = heeds_on limits verdict now until s.mood heeds
+heeds_by limits (WalkBegun now) s until left can heeds = absurd left
+heeds_by limits (WalkEnded now verdict) s until left can heeds = heeds_on limits verdict now until s.mood heeds
+heeds_by limits (Begun originals) s until left can heeds = heeds
+
+heeds_all : (limits : Limits) (acts : List Act) (s t : Standing) (until : ℕ) → Heeds until s.mood → AreLeft acts → Leads limits acts s t
+    → Heeds until t.mood
+heeds_all limits [] s t until heeds left leads = subst (λ (t : Standing). Heeds until t.mood) (sym leads) heeds
+heeds_all limits (act ∷ acts) s t until heeds left leads =
+    heeds_all limits acts (changed limits act s) t until (heeds_by limits act s until left.0 leads.0 heeds) left.1 leads.1
+
+its_named_time : (now until : ℕ) (mood : Mood) → Heeds until mood → moods.MayAsk now mood → until ≤ now
+its_named_time now until (Awake failed) heeds may = absurd heeds
+its_named_time now until (Aside time failed) heeds may = omega (arith, heeds, may)
+its_named_time now until (Tried failed) heeds may = absurd heeds
+its_named_time now until (Dormant time named) heeds may = (let a = heeds.0 in omega (arith, a, may))
+its_named_time now until Probed heeds may = absurd heeds
+
 pub all_heeded : AllHeeded
-all_heeded limits busy asking acts s t until now some is_busy quiet leads asked can =
-    all_wait limits asking acts (changed limits busy s) t until now (heeded_by limits busy s until some is_busy) quiet leads.1 asked can
+all_heeded limits busy asking acts s t until now some is_busy left leads asked can =
+    let r : Asks now t = asks now asking t asked can in
+    let first = heeded_by limits busy s until some is_busy in
+    its_named_time now until t.mood (heeds_all limits acts (changed limits busy s) t until first left leads.1) r.may
+
+-- ---- archives that one walk finds out about
+
+-- a walk finds out about the archive
+abbrev IsFoundOut : Mood → Type 0
+IsFoundOut (Awake failed) = ⊥
+IsFoundOut (Aside until failed) = ⊥
+IsFoundOut (Tried failed) = ⊤
+IsFoundOut (Dormant until named) = ⊥
+IsFoundOut Probed = ⊤
+
+found_out_first : (until : ℕ) (mood : Mood) → WaitsUntil until mood → IsFoundOut (moods.asked mood)
+found_out_first until (Awake failed) waits = absurd waits
+found_out_first until (Aside time failed) waits = search rules
+found_out_first until (Tried failed) waits = absurd waits
+found_out_first until (Dormant time named) waits = search rules
+found_out_first until Probed waits = absurd waits
+
+found_out_on : (mood : Mood) → IsFoundOut mood → IsFoundOut (moods.asked mood)
+found_out_on (Awake failed) out = absurd out
+found_out_on (Aside time failed) out = absurd out
+found_out_on (Tried failed) out = out
+found_out_on (Dormant time named) out = absurd out
+found_out_on Probed out = out
+
+tried_first : (limits : Limits) (act : Act) (s : Standing) (before : ℕ) → IsAsked before act → Can act s → WaitsUntil 0 s.mood
+    → IsFoundOut (changed limits act s).mood
+tried_first limits (Handed now original) s before asked can waits =
+    let a : Advances 0 original s (advanced s) = advances 0 original s can.1 in
+    subst (λ (m : Mood). IsFoundOut (moods.asked m)) (sym a.mood) (found_out_first 0 s.mood waits)
+tried_first limits (Passed original) s before asked can waits = absurd asked
+tried_first limits (Ended now original verdict) s before asked can waits = absurd asked
+tried_first limits (WalkBegun now) s before asked can waits = found_out_first 0 s.mood waits
+tried_first limits (WalkEnded now verdict) s before asked can waits = absurd asked
+tried_first limits (Begun originals) s before asked can waits = absurd asked
+
+tried_by : (limits : Limits) (act : Act) (s : Standing) → IsNoEnd act → Can act s → IsFoundOut s.mood
+    → IsFoundOut (changed limits act s).mood
+tried_by limits (Handed now original) s end can out =
+    let a : Advances 0 original s (advanced s) = advances 0 original s can.1 in
+    subst (λ (m : Mood). IsFoundOut (moods.asked m)) (sym a.mood) (found_out_on s.mood out)
+tried_by limits (Passed original) s end can out =
+    let a : Advances 0 original s (advanced s) = advances 0 original s can in
+    subst IsFoundOut (sym a.mood) out
+tried_by limits (Ended now original verdict) s end can out = absurd end
+tried_by limits (WalkBegun now) s end can out = found_out_on s.mood out
+tried_by limits (WalkEnded now verdict) s end can out = absurd end
+tried_by limits (Begun originals) s end can out = out
+
+tried_all : (limits : Limits) (acts : List Act) (s t : Standing) → IsFoundOut s.mood → AreNoEnds acts → Leads limits acts s t
+    → IsFoundOut t.mood
+tried_all limits [] s t out ends leads = subst (λ (t : Standing). IsFoundOut t.mood) (sym leads) out
+tried_all limits (act ∷ acts) s t out ends leads =
+    tried_all limits acts (changed limits act s) t (tried_by limits act s ends.0 leads.0 out) ends.1 leads.1
+
+not_yet : (now : ℕ) (mood : Mood) → IsFoundOut mood → moods.MayAsk now mood → ⊥
+not_yet now (Awake failed) out may = absurd out
+not_yet now (Aside time failed) out may = absurd out
+not_yet now (Tried failed) out may = may
+not_yet now (Dormant time named) out may = absurd out
+not_yet now Probed out may = may
+
+pub all_tried : AllTried
+all_tried limits first asking acts s t before now waits is_first ends leads asked can =
+    let r : Asks now t = asks now asking t asked can in
+    let out = tried_first limits first s before is_first leads.0 waits in
+    not_yet now t.mood (tried_all limits acts (changed limits first s) t out ends leads.1) r.may

@@ -3,7 +3,7 @@ use Rattle.std.specs.Prelude.{ℕ, ◌+◌, ◌^◌, ◌-◌, ◌<◌, ◌≤◌
 use Rattle.harvest_schedule.specs.declared.moods.Limits.{Limits}
 use Rattle.harvest_schedule.specs.declared.moods.Pace.{Pace}
 use Rattle.harvest_schedule.specs.declared.moods.Mood.{Mood}
-use Rattle.harvest_schedule.specs.declared.moods.Mood.TheVariants.{Awake, Aside, Dormant, Probed}
+use Rattle.harvest_schedule.specs.declared.moods.Mood.TheVariants.{Awake, Aside, Tried, Dormant, Probed}
 use Rattle.harvest_schedule.specs.declared.moods.Verdict.{Verdict}
 use Rattle.harvest_schedule.specs.declared.moods.Verdict.TheVariants.{Answered, Failed, Unknown, Busy}
 
@@ -11,30 +11,33 @@ use Rattle.harvest_schedule.specs.declared.moods.Verdict.TheVariants.{Answered, 
 abbrev pub later : ℕ → ℕ → ℕ
 later now span = min (now + span) (2 ^ 64 - 1)
 
--- from when on the archive may be asked: a probe has to end first
+-- from when on the archive may be asked: a walk that finds it out has to end first
 abbrev pub asked_from : Mood → Option ℕ
 asked_from (Awake failed) = Some 0
 asked_from (Aside until failed) = Some until
-asked_from (Dormant until) = Some until
+asked_from (Tried failed) = None
+asked_from (Dormant until named) = Some until
 asked_from Probed = None
 
 -- at this time the archive may be asked: it is awake, or its time has come
 abbrev pub MayAsk : ℕ → Mood → Type 0
 MayAsk now (Awake failed) = ⊤
 MayAsk now (Aside until failed) = until ≤ now
-MayAsk now (Dormant until) = until ≤ now
+MayAsk now (Tried failed) = ⊥
+MayAsk now (Dormant until named) = until ≤ now
 MayAsk now Probed = ⊥
 
--- An archive that was put aside is awake again once it is asked. A dormant one is probed.
+-- Of an archive that was put aside one walk finds out whether it is still busy, and of a dormant one whether it works.
 abbrev pub asked : Mood → Mood
 asked (Awake failed) = Awake failed
-asked (Aside until failed) = Awake failed
-asked (Dormant until) = Probed
+asked (Aside until failed) = Tried failed
+asked (Tried failed) = Tried failed
+asked (Dormant until named) = Probed
 asked Probed = Probed
 
--- dormant from this time on, and at least until another
+-- dormant from this time on, and at least until another, which the archive named
 abbrev pub dormant : Limits → ℕ → ℕ → Mood
-dormant limits now until = Dormant (max until (later now limits.pause))
+dormant limits now until = Dormant (max until (later now limits.pause)) until
 
 -- After so many failures in a row, where so many are borne: dormant, or the mood that is given. Where any number is
 -- borne, nothing is waited for.
@@ -50,23 +53,36 @@ failing limits now until failed otherwise = failing_by limits.tolerance limits n
 abbrev pub one_more : ℕ → ℕ
 one_more n = later n 1
 
--- An answer wakes the archive. A failure of an archive that is awake counts, and so does that it is busy. What ends
--- while it is put aside or dormant doesn't count, but a later time that it names does. A probe that brings no answer
--- makes it dormant anew.
+-- An answer wakes the archive, but not before a time that it named: what answers while it is put aside or dormant was
+-- asked before.
+abbrev pub after_answer : Mood → Mood
+after_answer (Awake failed) = Awake 0
+after_answer (Aside until failed) = Aside until 0
+after_answer (Tried failed) = Awake 0
+after_answer (Dormant until named) = Aside named 0
+after_answer Probed = Awake 0
+
+-- A failure of an archive that is awake or tried counts, and so does that it is busy. What ends while it is put aside
+-- or dormant doesn't count, but a later time that it names does. One that is tried without an outcome is tried anew. A
+-- probe that brings no answer makes it dormant anew.
 abbrev pub mood_after : Limits → Verdict → ℕ → Mood → Mood
-mood_after limits Answered now mood = Awake 0
+mood_after limits Answered now mood = after_answer mood
 mood_after limits Failed now (Awake failed) = failing limits now 0 (one_more failed) (Awake (one_more failed))
 mood_after limits Failed now (Aside until failed) = Aside until failed
-mood_after limits Failed now (Dormant until) = Dormant until
+mood_after limits Failed now (Tried failed) = failing limits now 0 (one_more failed) (Awake (one_more failed))
+mood_after limits Failed now (Dormant until named) = Dormant until named
 mood_after limits Failed now Probed = dormant limits now 0
 mood_after limits Unknown now (Awake failed) = Awake failed
 mood_after limits Unknown now (Aside until failed) = Aside until failed
-mood_after limits Unknown now (Dormant until) = Dormant until
+mood_after limits Unknown now (Tried failed) = Aside 0 failed
+mood_after limits Unknown now (Dormant until named) = Dormant until named
 mood_after limits Unknown now Probed = dormant limits now 0
 mood_after limits (Busy asked_until) now (Awake failed) =
     failing limits now asked_until (one_more failed) (Aside asked_until (one_more failed))
 mood_after limits (Busy asked_until) now (Aside until failed) = Aside (max until asked_until) failed
-mood_after limits (Busy asked_until) now (Dormant until) = Dormant (max until asked_until)
+mood_after limits (Busy asked_until) now (Tried failed) =
+    failing limits now asked_until (one_more failed) (Aside asked_until (one_more failed))
+mood_after limits (Busy asked_until) now (Dormant until named) = Dormant (max until asked_until) (max named asked_until)
 mood_after limits (Busy asked_until) now Probed = dormant limits now asked_until
 
 -- the job of a walk that ended so is handed out again: the archive was busy, and may be waited for
@@ -84,12 +100,14 @@ rest_after pace now rest = if pace.every == 0 then rest else max rest (later now
 abbrev pub is_dormant : Mood → Type 0
 is_dormant (Awake failed) = ⊥
 is_dormant (Aside until failed) = ⊥
-is_dormant (Dormant until) = ⊤
+is_dormant (Tried failed) = ⊥
+is_dormant (Dormant until named) = ⊤
 is_dormant Probed = ⊥
 
 -- the archive is dormant, and its time hasn't come
 abbrev pub SleepsAt : ℕ → Mood → Type 0
 SleepsAt now (Awake failed) = ⊥
 SleepsAt now (Aside until failed) = ⊥
-SleepsAt now (Dormant until) = now < until
+SleepsAt now (Tried failed) = ⊥
+SleepsAt now (Dormant until named) = now < until
 SleepsAt now Probed = ⊥

@@ -3,7 +3,7 @@ use Rattle.std.specs.Prelude.{◌≡◌, ◌⊎◌, ⊤, ℕ, ◌+◌, ◌<◌, 
 use Rattle.harvest_schedule.specs.declared.moods.Limits.{Limits}
 use Rattle.harvest_schedule.specs.declared.moods.Pace.{Pace}
 use Rattle.harvest_schedule.specs.declared.moods.Mood.{Mood}
-use Rattle.harvest_schedule.specs.declared.moods.Mood.TheVariants.{Awake, Aside, Dormant, Probed}
+use Rattle.harvest_schedule.specs.declared.moods.Mood.TheVariants.{Awake, Aside, Tried, Dormant, Probed}
 use Rattle.harvest_schedule.specs.declared.moods.Verdict.TheVariants.{Answered, Failed, Unknown, Busy}
 use Rattle.harvest_schedule.specs.Moods.{SleepsAt, comes_again, later}
 use Rattle.harvest_schedule.specs.Standing.{Standing, walks}
@@ -237,7 +237,8 @@ AreQuiet (act ∷ acts) = IsQuiet act × AreQuiet acts
 abbrev pub WaitsUntil : ℕ → Mood → Type 0
 WaitsUntil until (Awake failed) = ⊥
 WaitsUntil until (Aside time failed) = until ≤ time
-WaitsUntil until (Dormant time) = until ≤ time
+WaitsUntil until (Tried failed) = ⊥
+WaitsUntil until (Dormant time named) = until ≤ time
 WaitsUntil until Probed = ⊥
 
 -- An archive that is put aside or dormant until a time isn't asked before it, unless an answer comes.
@@ -260,11 +261,45 @@ IsBusy until (WalkEnded now Unknown) = ⊥
 IsBusy until (WalkEnded now (Busy time)) = time ≡ until
 IsBusy until (Begun originals) = ⊥
 
--- An archive that asked not to be asked before a time isn't, unless an answer comes, where failures are counted at all.
+-- the archive isn't asked
+abbrev pub IsLeft : Act → Type 0
+IsLeft (Handed now original) = ⊥
+IsLeft (Passed original) = ⊤
+IsLeft (Ended now original verdict) = ⊤
+IsLeft (WalkBegun now) = ⊥
+IsLeft (WalkEnded now verdict) = ⊤
+IsLeft (Begun originals) = ⊤
+
+abbrev pub AreLeft : List Act → Type 0
+AreLeft [] = ⊤
+AreLeft (act ∷ acts) = IsLeft act × AreLeft acts
+
+-- An archive that asked not to be asked before a time isn't, whatever else comes of walks that were out, where failures
+-- are counted at all.
 abbrev pub AllHeeded : Type 0
 AllHeeded = (limits : Limits) (busy asking : Act) (acts : List Act) (s t : Standing) (until now : ℕ)
-    → IsSome limits.tolerance → IsBusy until busy → AreQuiet acts → Leads limits (busy ∷ acts) s t
+    → IsSome limits.tolerance → IsBusy until busy → AreLeft acts → Leads limits (busy ∷ acts) s t
     → IsAsked now asking → Can asking t → until ≤ now
+
+-- it is no end of a walk
+abbrev pub IsNoEnd : Act → Type 0
+IsNoEnd (Handed now original) = ⊤
+IsNoEnd (Passed original) = ⊤
+IsNoEnd (Ended now original verdict) = ⊥
+IsNoEnd (WalkBegun now) = ⊤
+IsNoEnd (WalkEnded now verdict) = ⊥
+IsNoEnd (Begun originals) = ⊤
+
+abbrev pub AreNoEnds : List Act → Type 0
+AreNoEnds [] = ⊤
+AreNoEnds (act ∷ acts) = IsNoEnd act × AreNoEnds acts
+
+-- An archive that was put aside or dormant, until whatever time, is asked by one walk, and not again before a walk of
+-- it has ended.
+abbrev pub AllTried : Type 0
+AllTried = (limits : Limits) (first asking : Act) (acts : List Act) (s t : Standing) (before now : ℕ)
+    → WaitsUntil 0 s.mood → IsAsked before first → AreNoEnds acts → Leads limits (first ∷ acts) s t
+    → IsAsked now asking → Can asking t → ⊥
 
 -- ---- when a job may be handed out if nothing else happens
 

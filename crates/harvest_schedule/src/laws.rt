@@ -1,5 +1,5 @@
 //! Laws for readers. These functions do nothing when they run.
-ghost use Rattle.harvest_schedule.specs.Runs.{AllCounted, AllFair, AllFew, AllHeeded, AllPaced, AllRest, AllTimed, AllWait, EachIsLed};
+ghost use Rattle.harvest_schedule.specs.Runs.{AllCounted, AllFair, AllFew, AllHeeded, AllPaced, AllRest, AllTimed, AllTried, AllWait, EachIsLed};
 
 /// By all calls of a schedule each archive stands where its own calls lead. So the laws below speak of one archive, and
 /// hold of each.
@@ -38,9 +38,14 @@ pub fn archives_wait()
     ensures { AllWait }
 {}
 
-/// An archive that was busy isn't asked before the time that it named, unless an answer comes.
+/// An archive that was busy isn't asked before the time that it named.
 pub fn busy_archives_are_heeded()
     ensures { AllHeeded }
+{}
+
+/// An archive that was put aside or dormant is asked by one walk, and not again before a walk of it has ended.
+pub fn one_walk_goes_first()
+    ensures { AllTried }
 {}
 
 /// The time that is waited for is the first at which a job of the archive may be handed out if nothing else happens.

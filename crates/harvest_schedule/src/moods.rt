@@ -1,6 +1,6 @@
 //! What a schedule keeps to, and whether an archive may be asked.
 ghost use Rattle.std.specs.Prelude.{◌≡◌, ◌↔◌, IsTrue};
-ghost use Rattle.harvest_schedule.specs.Moods.{MayAsk, SleepsAt, asked, asked_from, comes_again, dormant, failing, is_dormant};
+ghost use Rattle.harvest_schedule.specs.Moods.{MayAsk, SleepsAt, after_answer, asked, asked_from, comes_again, dormant, failing, is_dormant};
 ghost use Rattle.harvest_schedule.specs.Moods.{mood_after, one_more, rest_after};
 ghost use Rattle.harvest_schedule.specs.declared.moods.Verdict.TheVariants.{Answered, Failed, Unknown, Busy as IsBusy};
 
@@ -42,8 +42,10 @@ pub enum Mood {
     Awake { failed: u64 },
     /// It was busy, and isn't asked before this time. It failed this many times in a row.
     Aside { until: u64, failed: u64 },
-    /// It failed too often, and isn't asked before this time.
-    Dormant { until: u64 },
+    /// One walk finds out whether it is still busy. It failed this many times in a row.
+    Tried { failed: u64 },
+    /// It failed too often, and isn't asked before this time, nor before a time that it named, if an answer comes.
+    Dormant { until: u64, named: u64 },
     /// One walk finds out whether it works again.
     Probed,
 }
@@ -55,6 +57,7 @@ impl Limits {
     {
         Mood::Dormant {
             until: until.max(now.saturating_add(self.pause)),
+            named: until,
         }
     }
 
@@ -100,19 +103,19 @@ impl Mood {
     {
         match self {
             Mood::Awake { failed: _ } => true,
-            Mood::Aside { until, failed: _ } | Mood::Dormant { until } => until <= now,
-            Mood::Probed => false,
+            Mood::Aside { until, failed: _ } | Mood::Dormant { until, named: _ } => until <= now,
+            Mood::Tried { failed: _ } | Mood::Probed => false,
         }
     }
 
-    /// From when on the archive may be asked. `None` while it is probed.
+    /// From when on the archive may be asked. `None` while one walk finds that out.
     pub fn asked_from(self) -> Option<u64>
         ensures { result ≡ asked_from self }
     {
         match self {
             Mood::Awake { failed: _ } => Some(0),
-            Mood::Aside { until, failed: _ } | Mood::Dormant { until } => Some(until),
-            Mood::Probed => None,
+            Mood::Aside { until, failed: _ } | Mood::Dormant { until, named: _ } => Some(until),
+            Mood::Tried { failed: _ } | Mood::Probed => None,
         }
     }
 
@@ -121,8 +124,9 @@ impl Mood {
         ensures { result ≡ asked self }
     {
         match self {
-            Mood::Awake { failed } | Mood::Aside { until: _, failed } => Mood::Awake { failed },
-            Mood::Dormant { until: _ } | Mood::Probed => Mood::Probed,
+            Mood::Awake { failed } => Mood::Awake { failed },
+            Mood::Aside { until: _, failed } | Mood::Tried { failed } => Mood::Tried { failed },
+            Mood::Dormant { until: _, named: _ } | Mood::Probed => Mood::Probed,
         }
     }
 
@@ -131,10 +135,26 @@ impl Mood {
         ensures { result ≡ mood_after limits verdict now self }
     {
         match verdict {
-            Verdict::Answered => Mood::Awake { failed: 0 },
+            Verdict::Answered => self.after_answer(),
             Verdict::Failed => self.after_failure(limits, now),
             Verdict::Unknown => self.after_nothing(limits, now),
             Verdict::Busy { until } => self.after_busy(limits, until, now),
+        }
+    }
+
+    /// No walk begins while an archive is put aside or dormant, so what answers then was asked before.
+    fn after_answer(self) -> Mood
+        ensures { result ≡ after_answer self }
+    {
+        match self {
+            Mood::Awake { failed: _ } | Mood::Tried { failed: _ } | Mood::Probed => {
+                Mood::Awake { failed: 0 }
+            }
+            Mood::Aside { until, failed: _ } => Mood::Aside { until, failed: 0 },
+            Mood::Dormant { until: _, named } => Mood::Aside {
+                until: named,
+                failed: 0,
+            },
         }
     }
 
@@ -142,12 +162,12 @@ impl Mood {
         ensures { result ≡ mood_after limits Failed now self }
     {
         match self {
-            Mood::Awake { failed } => {
+            Mood::Awake { failed } | Mood::Tried { failed } => {
                 let failed = failed.saturating_add(1);
                 limits.failing(now, 0, failed, Mood::Awake { failed })
             }
             Mood::Aside { until, failed } => Mood::Aside { until, failed },
-            Mood::Dormant { until } => Mood::Dormant { until },
+            Mood::Dormant { until, named } => Mood::Dormant { until, named },
             Mood::Probed => limits.dormant(now, 0),
         }
     }
@@ -158,7 +178,8 @@ impl Mood {
         match self {
             Mood::Awake { failed } => Mood::Awake { failed },
             Mood::Aside { until, failed } => Mood::Aside { until, failed },
-            Mood::Dormant { until } => Mood::Dormant { until },
+            Mood::Tried { failed } => Mood::Aside { until: 0, failed },
+            Mood::Dormant { until, named } => Mood::Dormant { until, named },
             Mood::Probed => limits.dormant(now, 0),
         }
     }
@@ -167,7 +188,7 @@ impl Mood {
         ensures { result ≡ mood_after limits (IsBusy asked_until) now self }
     {
         match self {
-            Mood::Awake { failed } => {
+            Mood::Awake { failed } | Mood::Tried { failed } => {
                 let failed = failed.saturating_add(1);
                 let until = asked_until;
                 limits.failing(now, until, failed, Mood::Aside { until, failed })
@@ -176,8 +197,9 @@ impl Mood {
                 until: until.max(asked_until),
                 failed,
             },
-            Mood::Dormant { until } => Mood::Dormant {
+            Mood::Dormant { until, named } => Mood::Dormant {
                 until: until.max(asked_until),
+                named: named.max(asked_until),
             },
             Mood::Probed => limits.dormant(now, asked_until),
         }
@@ -188,12 +210,13 @@ impl Mood {
         ensures { IsTrue result ↔ is_dormant self }
     {
         match self {
-            Mood::Dormant { until: _ } => true,
+            Mood::Dormant { until: _, named: _ } => true,
             Mood::Awake { failed: _ }
             | Mood::Aside {
                 until: _,
                 failed: _,
             }
+            | Mood::Tried { failed: _ }
             | Mood::Probed => false,
         }
     }
@@ -203,12 +226,13 @@ impl Mood {
         ensures { IsTrue result ↔ SleepsAt now self }
     {
         match self {
-            Mood::Dormant { until } => now < until,
+            Mood::Dormant { until, named: _ } => now < until,
             Mood::Awake { failed: _ }
             | Mood::Aside {
                 until: _,
                 failed: _,
             }
+            | Mood::Tried { failed: _ }
             | Mood::Probed => false,
         }
     }

@@ -72,9 +72,20 @@ fn busy_archives_are_put_aside_and_dormant_ones_probed(rt: HostRuntime) -> Resul
     );
     assert_eq!(rt; schedule.offer(60), Some(turn(0, 1)));
     assert!(rt; schedule.hand_out(turn(0, 1), 60));
+    assert_eq!(rt;
+        (schedule.offer(900), schedule.mood(0)),
+        (None, Some(Mood::Tried { failed: 1 })),
+        "one walk goes first"
+    );
     assert!(rt; !schedule.is_dormant(0));
     assert!(rt; schedule.done(turn(0, 1), Verdict::Failed, 61));
-    assert_eq!(rt; schedule.mood(0), Some(Mood::Dormant { until: 161 }));
+    assert_eq!(rt;
+        schedule.mood(0),
+        Some(Mood::Dormant {
+            until: 161,
+            named: 0
+        })
+    );
     assert!(rt; schedule.is_dormant(0));
     assert!(rt; schedule.is_over(160));
     assert!(rt; !schedule.is_over(161));
@@ -85,7 +96,71 @@ fn busy_archives_are_put_aside_and_dormant_ones_probed(rt: HostRuntime) -> Resul
         "one probe alone"
     );
     assert!(rt; schedule.done(turn(0, 0), Verdict::Unknown, 170));
-    assert_eq!(rt; schedule.mood(0), Some(Mood::Dormant { until: 270 }));
+    assert_eq!(rt;
+        schedule.mood(0),
+        Some(Mood::Dormant {
+            until: 270,
+            named: 0
+        })
+    );
+    Ok(())
+}
+
+#[test]
+fn answers_of_earlier_walks_wake_no_busy_archive(rt: HostRuntime) -> Result<(), Fail> {
+    let pace = Pace {
+        at_once: 4,
+        every: 0,
+    };
+    let mut schedule = Schedule::new(rt.alloc(), LIMITS, &[pace], 9)?;
+    for original in 0..4 {
+        assert!(rt; schedule.hand_out(turn(0, original), 0));
+    }
+    assert!(rt; schedule.done(turn(0, 0), Verdict::Busy { until: 50 }, 1));
+    assert!(rt; schedule.done(turn(0, 1), Verdict::Answered, 2));
+    assert_eq!(rt;
+        (schedule.offer(49), schedule.offer(50)),
+        (None, Some(turn(0, 0))),
+        "it is left alone until its time"
+    );
+    assert!(rt; schedule.hand_out(turn(0, 0), 50));
+    assert!(rt; schedule.done(turn(0, 0), Verdict::Unknown, 51));
+    assert!(rt; schedule.hand_out(turn(0, 4), 52));
+    assert_eq!(rt; schedule.offer(52), None, "it is tried anew");
+    assert!(rt; schedule.done(turn(0, 4), Verdict::Answered, 53));
+    assert_eq!(rt; schedule.mood(0), Some(Mood::Awake { failed: 0 }));
+    assert!(rt; schedule.hand_out(turn(0, 5), 54));
+    assert!(rt; schedule.hand_out(turn(0, 6), 54));
+    Ok(())
+}
+
+#[test]
+fn a_dormant_archive_that_answers_is_left_alone_until_the_time_it_named(
+    rt: HostRuntime,
+) -> Result<(), Fail> {
+    let pace = Pace {
+        at_once: 3,
+        every: 0,
+    };
+    let mut schedule = Schedule::new(rt.alloc(), LIMITS, &[pace], 9)?;
+    for original in 0..3 {
+        assert!(rt; schedule.hand_out(turn(0, original), 0));
+    }
+    assert!(rt; schedule.done(turn(0, 0), Verdict::Failed, 1));
+    assert!(rt; schedule.done(turn(0, 1), Verdict::Busy { until: 40 }, 2));
+    assert_eq!(rt;
+        schedule.mood(0),
+        Some(Mood::Dormant {
+            until: 102,
+            named: 40
+        })
+    );
+    assert!(rt; schedule.done(turn(0, 2), Verdict::Answered, 3));
+    assert_eq!(rt;
+        (schedule.offer(39), schedule.next_time(3)),
+        (None, Some(40))
+    );
+    assert_eq!(rt; schedule.offer(40), Some(turn(0, 1)));
     Ok(())
 }
 

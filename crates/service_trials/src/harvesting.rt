@@ -551,10 +551,10 @@ fn patience_that_is_asked_for(rt: HostRuntime) -> Result<()> {
         let asked = asked_patience(&asking(alloc, status, value)?, 784_111_777);
         assert_eq!(rt; asked, seconds, "{value}");
     }
-    assert_eq!(rt;
-        asked_patience(&answer(alloc, 503, "", "")?, 784_111_777),
-        Some(60)
-    );
+    for (status, seconds) in [(429, Some(60)), (503, None)] {
+        let asked = asked_patience(&answer(alloc, status, "", "")?, 784_111_777);
+        assert_eq!(rt; asked, seconds, "{status} without a time");
+    }
     Ok(())
 }
 

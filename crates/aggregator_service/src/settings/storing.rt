@@ -22,7 +22,7 @@ pub struct Storing {
 /// Where what is known is kept, by the keys `snapshot` and `snapshot_every`.
 pub(crate) fn storing_at(alloc: Global, table: &Table) -> Result<Storing, SettingsFault>
     ensures snapshot { IfOk result (λ storing. IfSome storing.snapshot
-        (λ path. IsWithin Key.Snapshot (length path.bytes))) }
+        (λ path. IsWithin Key.Snapshot (length path.bytes.items))) }
     ensures every { IfOk result (λ storing. IsWithin Key.SnapshotEvery storing.every) }
 {
     let snapshot = text_if(alloc, table, Key::Snapshot)?;

@@ -32,7 +32,7 @@ pub(crate) fn wishing_at(alloc: Global, table: &Table) -> Result<Wishing, Settin
         (λ most. IsWithin Key.Wanted (non_zero_usize_get most))) }
     ensures wishes { IfOk result (λ wishing. IsWithin Key.Wishes wishing.wishes) }
     ensures file { IfOk result (λ wishing. IfSome wishing.originals_file
-        (λ path. IsWithin Key.OriginalsFile (length path.bytes))) }
+        (λ path. IsWithin Key.OriginalsFile (length path.bytes.items))) }
 {
     let wanted = number_or(table, Key::Wanted, 0)?;
     let wishes = number_or(table, Key::Wishes, DEFAULT_WISHES)?;

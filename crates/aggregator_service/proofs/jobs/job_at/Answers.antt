@@ -5,18 +5,13 @@ use Rattle.aggregator_service.proofs.jobs.job_at.Goals as goal
 
 pub returns-clause-own : goal.returns-clause-own
 returns-clause-own c =
-    let found : slice_get c.args.settings.now.archives.items c.args.turn.archive ≡ Some c.in_ok-archive.archive.now =
-    slice_get_read c.args.settings.now.archives.items (length c.args.settings.now.archives.items) c.args.turn.archive
+    let found : slice_get c.args.settings.now.archives.items c.args.place ≡ Some c.in_ok-archive.archive.now =
+    slice_get_read c.args.settings.now.archives.items (length c.args.settings.now.archives.items) c.args.place
     c.in_ok-archive.archive.now refl (grind arith) (grind arith) in
-    let named : slice_get c.args.settings.now.originals.items c.args.turn.original ≡ Some c.in_ok-original.original.now =
-    slice_get_read c.args.settings.now.originals.items (length c.args.settings.now.originals.items) c.args.turn.original
-    c.in_ok-original.original.now refl (grind arith) (grind arith) in
     record {
       archive = c.in_ok-archive.archive.now;
       listed = found;
       name = c.in_ok-job.ensures.archive;
-      original = subst (λ original. slice_get c.args.settings.now.originals.items c.args.turn.original ≡ Some original)
-          (sym c.in_ok-job.ensures.original) named;
       first = subst (λ original. c.in_ok-job.job.first ≡ c.in_ok-archive.archive.now.timemap ++ original)
           (sym c.in_ok-job.ensures.original) c.in_ok-job.ensures.first;
     }

@@ -6,7 +6,7 @@ use Rattle.aggregator_service.proofs.serving.serve_settings.Given as goal
 -- the jobs of these settings, and what may be fetched by them
 abbrev pub ghosts-serve_gates : goal.ghosts-serve_gates
 ghosts-serve_gates g a = record {
-  jobs = IsJobOf (arc_value a.settings.now);
+  jobs = λ turn. IsJobOf (arc_value a.settings.now) turn.archive;
   answers = MayAnswer (arc_value a.settings.now);
   faults = λ _ _. ⊤;
 }

@@ -1,0 +1,8 @@
+use Rattle.std.proofs.Common.{subst}
+use Rattle.published_index.specs.Events.{RunsAsEvents}
+use Rattle.published_index.specs.Views.{MergerView}
+use Rattle.aggregator_service.proofs.keeping.publish_states.Goals as goal
+
+pub returns-clause-events : goal.returns-clause-events
+returns-clause-events g c =
+    subst (λ (m : MergerView). RunsAsEvents m.published m.pending) c.in_ok-append_states.ensures.ok c.in-Ok.ensures.events

@@ -1,0 +1,116 @@
+//! The originals that rounds look after: those of the settings, and those of a file, which is read anew for each round.
+ghost use Rattle.std.specs.Prelude.{◌≡◌, [], Contains};
+
+use crate::lines::{Line, ListMatter};
+use crate::making::{Rounds, Standing};
+use crate::ordering::shuffle;
+use crate::runtimes::SocketRuntime;
+use crate::settings::Settings;
+use harvest_workers::WalkRules;
+use memento_time::{NoMemory, Original};
+use original_list::{Listed, each_once, read_list};
+use std::alloc::{AllocGlobal, Global};
+use std::fs;
+use std::hash::RandomState;
+use std::io::{self, Read, Write};
+use std::rt::Files;
+
+/// The most bytes that a file of originals can have.
+const MAX_LIST: u64 = 268_435_456;
+
+/// The originals that rounds look after.
+#[derive(Drop)]
+pub(crate) struct Listing {
+    /// Those of the settings and of the file; `None` if those of the settings alone.
+    originals: Option<Vec<Original>>,
+}
+
+impl Listing {
+    /// Nothing is read yet.
+    pub(crate) const NONE: Listing = Listing { originals: None };
+
+    pub(crate) fn originals<'a>(&'a self, settings: &'a Settings) -> &'a [Original] {
+        match &self.originals {
+            Some(originals) => originals,
+            None => &settings.originals,
+        }
+    }
+}
+
+/// The bytes of a file. `NoMemory` also where they are too many.
+fn read_file<R: Files + AllocGlobal>(rt: &R, path: &str) -> Result<Vec<u8>, ListMatter> {
+    let mut bytes = Vec::new(rt.alloc());
+    let file = fs::open(rt, path).map_err(|_| ListMatter::Unread)?;
+    match file.take(MAX_LIST + 1).read_to_end(&mut bytes) {
+        Ok(_) if bytes.len() as u64 <= MAX_LIST => Ok(bytes),
+        Ok(_) => Err(ListMatter::Unread),
+        Err(error) if error.kind() == io::ErrorKind::OutOfMemory => Err(ListMatter::NoMemory),
+        Err(_) => Err(ListMatter::Unread),
+    }
+}
+
+/// The originals of the settings, and then those of a text, each once.
+fn list_of(
+    alloc: Global,
+    settings: &Settings,
+    text: &[u8],
+    keys: RandomState,
+) -> Result<(Vec<Original>, Listed), NoMemory> {
+    let listed = read_list(alloc, text)?;
+    let originals = each_once(alloc, &settings.originals, &listed.originals, keys)?;
+    Ok((originals, listed))
+}
+
+impl<R, P, L> Rounds<'_, R, P, L>
+where
+    R: SocketRuntime + Files,
+    P: WalkRules,
+    L: Write + Copy,
+{
+    /// Reads the file of originals, if the settings name one, for the round with this number. Where it can't be read,
+    /// the originals of before stay.
+    pub(crate) fn read_list(&self, standing: &mut Standing, number: u64) {
+        let (Some(path), Some(keys)) = (&self.settings().wishing.originals_file, self.means.keys)
+        else {
+            return;
+        };
+        if let Err(matter) = self.take_list(standing, path.as_str(), keys, number) {
+            self.tell_list(number, matter);
+        }
+    }
+
+    /// Takes the originals of a file into the list of the rounds.
+    fn take_list(
+        &self,
+        standing: &mut Standing,
+        path: &str,
+        keys: RandomState,
+        number: u64,
+    ) -> Result<(), ListMatter> {
+        let text = read_file(self.rt, path)?;
+        let Ok((mut originals, listed)) = list_of(self.alloc(), self.settings(), &text, keys) else {
+            return Err(ListMatter::NoMemory);
+        };
+        if self.settings().timing.again.is_some() {
+            shuffle(&mut originals, self.seed);
+        }
+        standing.listing.originals = Some(originals);
+        self.tell_bad(number, &listed);
+        Ok(())
+    }
+
+    /// Tells the log which lines hold no originals.
+    fn tell_bad(&self, number: u64, listed: &Listed) {
+        for line in &listed.bad {
+            self.tell_list(number, ListMatter::Bad(*line as u64));
+        }
+        let more = listed.bad_count.saturating_sub(listed.bad.len());
+        if more > 0 {
+            self.tell_list(number, ListMatter::More(more as u64));
+        }
+    }
+
+    fn tell_list(&self, round: u64, matter: ListMatter) {
+        self.log.tell(self.alloc(), Line::List { round, matter });
+    }
+}

@@ -1,0 +1,133 @@
+//! A status that the thread of the rounds tells what happens, and that the status' gate shows.
+use crate::counts::{PullEnd, WalkEnd, WishCounts};
+use crate::status::{KnownStatus, RoundStatus, Status};
+use memento_time::NoMemory;
+use std::alloc::Global;
+use std::sync::{Arc, Mutex, Wait};
+
+/// A status behind a lock, or none, which nothing is told of.
+#[derive(Drop)]
+pub struct StatusBoard {
+    pub(crate) shared: Option<Arc<Mutex<Status>>>,
+}
+
+impl StatusBoard {
+    /// A board without a status. Takes no memory.
+    pub fn closed() -> StatusBoard {
+        StatusBoard { shared: None }
+    }
+
+    /// A board with this status.
+    pub fn open(alloc: Global, status: Status) -> Result<StatusBoard, NoMemory> {
+        let shared = Arc::new(alloc, Mutex::new(status))?;
+        Ok(StatusBoard {
+            shared: Some(shared),
+        })
+    }
+
+    /// Another owner of the same status.
+    pub fn share(&self) -> Result<StatusBoard, NoMemory> {
+        let shared = match &self.shared {
+            Some(shared) => Some(Arc::try_clone(shared)?),
+            None => None,
+        };
+        Ok(StatusBoard { shared })
+    }
+
+    /// Whether there is a status.
+    pub fn is_open(&self) -> bool {
+        self.shared.is_some()
+    }
+
+    /// Counts a walk of the archive at this place, which took so many seconds.
+    pub fn add_walk<R: Wait>(&self, rt: &R, place: usize, end: WalkEnd, seconds: u64) {
+        if let Some(shared) = &self.shared {
+            let mut status = shared.lock(rt);
+            if let Some(archive) = status.archives.get_mut(place) {
+                archive.add_walk(end, seconds);
+            }
+        }
+    }
+
+    /// Notes until which second the archive at this place is dormant; 0 if it isn't.
+    pub fn set_dormant<R: Wait>(&self, rt: &R, place: usize, until: u64) {
+        if let Some(shared) = &self.shared {
+            let mut status = shared.lock(rt);
+            if let Some(archive) = status.archives.get_mut(place) {
+                archive.dormant_until = until;
+            }
+        }
+    }
+
+    /// Notes how far the round is.
+    pub fn set_round<R: Wait>(&self, rt: &R, round: RoundStatus) {
+        if let Some(shared) = &self.shared {
+            shared.lock(rt).round = round;
+        }
+    }
+
+    /// Counts a round that was made.
+    pub fn add_round<R: Wait>(&self, rt: &R) {
+        if let Some(shared) = &self.shared {
+            let mut status = shared.lock(rt);
+            status.rounds = status.rounds.saturating_add(1);
+        }
+    }
+
+    /// Counts a publish in this second.
+    pub fn add_publish<R: Wait>(&self, rt: &R, second: u64) {
+        if let Some(shared) = &self.shared {
+            shared.lock(rt).publishes.add(second);
+        }
+    }
+
+    /// Counts a publish for which memory was refused.
+    pub fn add_refused<R: Wait>(&self, rt: &R) {
+        if let Some(shared) = &self.shared {
+            shared.lock(rt).publishes.add_refused();
+        }
+    }
+
+    /// Notes that something is published.
+    pub fn set_shown<R: Wait>(&self, rt: &R) {
+        if let Some(shared) = &self.shared {
+            shared.lock(rt).is_shown = true;
+        }
+    }
+
+    /// Notes how much is known.
+    pub fn set_known<R: Wait>(&self, rt: &R, known: KnownStatus) {
+        if let Some(shared) = &self.shared {
+            shared.lock(rt).known = known;
+        }
+    }
+
+    /// Notes how many bytes of memory the process holds, if they are known.
+    pub fn set_resident<R: Wait>(&self, rt: &R, resident: Option<u64>) {
+        if let Some(shared) = &self.shared {
+            shared.lock(rt).resident = resident;
+        }
+    }
+
+    /// Counts a pull from the peer with this number, counted from 1, which ended in this second.
+    pub fn add_pull<R: Wait>(&self, rt: &R, number: u64, end: PullEnd, second: u64) {
+        if let Some(shared) = &self.shared {
+            let mut status = shared.lock(rt);
+            for (of, peer) in (1..).zip(&mut status.peers) {
+                if of == number {
+                    peer.add_pull(end, second);
+                }
+            }
+        }
+    }
+
+    /// Counts so many wishes more, if wishes are taken.
+    pub fn add_wishes<R: Wait>(&self, rt: &R, more: WishCounts) {
+        if let Some(shared) = &self.shared {
+            let mut status = shared.lock(rt);
+            if let Some(wishes) = &mut status.wishes {
+                wishes.add(more);
+            }
+        }
+    }
+}

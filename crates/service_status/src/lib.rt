@@ -1,0 +1,32 @@
+//! What an operator is told of a running service: its metrics in Prometheus' text format, and whether it shows
+//! something.
+//!
+//! A `Status` is a plain struct of counts, and `write_status` writes it as metrics; the contract says which text that
+//! is. A `StatusBoard` is a status behind a lock, which the thread of the rounds tells what happens, and a `StatusGate`
+//! answers `/metrics` and `/health` by it. A `CountingGate` stands round a gate and counts its replies, for which it
+//! takes no lock.
+#![tactic(auto)]
+
+mod board;
+mod counters;
+mod counts;
+mod gates;
+mod laws;
+mod memory;
+mod metrics;
+mod replies;
+mod status;
+mod writing;
+
+pub use board::StatusBoard;
+pub use counters::ReplyCounter;
+pub use counts::{PullCounts, PullEnd, ReplyCounts, WalkCounts, WalkEnd, WishCounts};
+pub use gates::{CountingGate, StatusGate};
+pub use laws::{samples_are_read_back, texts_by_example};
+pub use memory::resident_bytes;
+pub use metrics::Metric;
+pub use replies::reply_to;
+pub use status::{
+    ArchiveStatus, GateStatus, KnownStatus, PeerStatus, PublishStatus, RoundStatus, Status,
+};
+pub use writing::write_status;
