@@ -14,5 +14,9 @@ mod LaidOut
 mod Forms
 mod Commands
 mod WholeScript
+mod Settled
+mod Ends
+mod Windows
+mod Streams
 mod Outputs
 mod Reached

@@ -6,7 +6,7 @@ use Rattle.std.proofs.lemmas.Grind.{common_steps}
 use Rattle.std.specs.Io.KnownBytes.{Appends}
 use Rattle.std.proofs.KnownBytes.{Appends-nil, Appends-trans}
 use Rattle.replica_world.specs.declared.replaying.fault.ReplayFault.{ReplayFault}
-use Rattle.replica_world.specs.declared.replaying.fault.ReplayFault.TheVariants.{BadLine, Write, NoMemory}
+use Rattle.replica_world.specs.declared.replaying.fault.ReplayFault.TheVariants.{BadLine, Write}
 use Rattle.replica_events.specs.World.{World, start}
 use Rattle.replica_world.specs.Stands.{Kept, Stands}
 use Rattle.replica_world.specs.Devices.{AppendsBeginning}
@@ -167,12 +167,6 @@ progress_unwritten one base w text kept next_kept rest next old mid new said p s
 
 -- ---- in the words of the code
 
--- it ends for want of memory
-pub progress_out_of_memory : OnePage → (base : List ℕ) (w : World) (script text : List ℕ) (kept : Kept) (rest : List ℕ) (old new : Option (List ℕ)) (result : Result (Unit {0}) ReplayFault)
-    → Progress base w text kept rest old new → result ≡ Err NoMemory → ReplaysFrom base w script text old new result
-progress_out_of_memory one base w script text kept rest old new result p result_is =
-    subst (λ (r : Result (Unit {0}) ReplayFault). ReplaysFrom base w script text old new r) (sym result_is) (progress_broken one base w text kept rest old new p)
-
 -- it ends as a write fails
 pub progress_cut : OnePage → (base : List ℕ) (w : World) (script text : List ℕ) (kept next_kept : Kept) (rest next : List ℕ)
     (old mid new : Option (List ℕ)) (said bytes : List ℕ) (result : Result (Unit {0}) ReplayFault)
@@ -211,14 +205,14 @@ script_at text [] rest_is some = absurd (omega arith)
 script_at text (b ∷ rest) rest_is some = ap script_from (sym rest_is)
 
 -- nothing is written of the first
-pub replays_nothing : (text rest : List ℕ) (old : Option (List ℕ)) (u : Unit {0}) → rest ≡ after_empty_lines text → length rest ≡ 0 → Replays text old old (Ok u)
-replays_nothing text rest old u rest_is none = replays_as text _ old old (Ok u) (script_none text rest rest_is none) ([], refl, Appends-nil old, refl)
+pub replays_nothing : (text rest : List ℕ) (old new : Option (List ℕ)) (u : Unit {0}) → rest ≡ after_empty_lines text → length rest ≡ 0 → Appends old new [] → Replays text old new (Ok u)
+replays_nothing text rest old new u rest_is none written = replays_as text _ old new (Ok u) (script_none text rest rest_is none) ([], refl, written, refl)
 
 -- nor of one with a bad first line
-pub replays_bad_start : (text rest : List ℕ) (old : Option (List ℕ)) (n : ℕ) → rest ≡ after_empty_lines text → 0 < length rest → start_at rest ≡ None → n ≡ number_of_line text rest
-    → Replays text old old (Err (BadLine n))
-replays_bad_start text rest old n rest_is some is number =
-    replays_as text _ old old (Err (BadLine n)) (script_at text rest rest_is some ∙ ap (begun rest) is) ([], refl, Appends-nil old, ap (λ (k : ℕ). Some k) (sym number))
+pub replays_bad_start : (text rest : List ℕ) (old new : Option (List ℕ)) (n : ℕ) → rest ≡ after_empty_lines text → 0 < length rest → start_at rest ≡ None → n ≡ number_of_line text rest
+    → Appends old new [] → Replays text old new (Err (BadLine n))
+replays_bad_start text rest old new n rest_is some is number written =
+    replays_as text _ old new (Err (BadLine n)) (script_at text rest rest_is some ∙ ap (begun rest) is) ([], refl, written, ap (λ (k : ℕ). Some k) (sym number))
 
 -- the commands of any other are replayed in a new world
 pub replays_on : (text rest after : List ℕ) (begin : Start) (kept : Kept) (old new : Option (List ℕ)) (result : Result (Unit {0}) ReplayFault) → rest ≡ after_empty_lines text → 0 < length rest

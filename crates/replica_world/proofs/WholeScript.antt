@@ -28,18 +28,18 @@ line_shorter text parts is = on ((line_is text parts).0 is) where
 block_shorter : (len : ℕ) (text : List ℕ) (parts : List ℕ × List ℕ) → block_of len text ≡ Some parts → length parts.1 ≤ length text
 block_shorter len text parts is = ended_shorter text parts ((block_is len text parts).0 is).2
 
-empty_lines_shorter : (text : List ℕ) → length (after_empty_lines text) ≤ length text
+pub empty_lines_shorter : (text : List ℕ) → length (after_empty_lines text) ≤ length text
 empty_lines_shorter text =
     let is = after_empty_lines_is text in
     let both : length text ≡ length (replicate is.lines 10) + length (after_empty_lines text) = ap length is.whole ∙ length-append (replicate is.lines 10) (after_empty_lines text) in
     omega (arith, both)
 
 -- what holds of each thing that is found
-if_bound : {A B : Type 0} (o : Option A) (f : A → Option B) (P : B → Type 0) → ((x : A) → o ≡ Some x → IfSome (f x) P) → IfSome (o >>= f) P
+pub if_bound : {A B : Type 0} (o : Option A) (f : A → Option B) (P : B → Type 0) → ((x : A) → o ≡ Some x → IfSome (f x) P) → IfSome (o >>= f) P
 if_bound None f P h = tt
 if_bound (Some x) f P h = h x refl
 
-if_some : {A : Type 0} (o : Option A) (P : A → Type 0) (x : A) → IfSome o P → o ≡ Some x → P x
+pub if_some : {A : Type 0} (o : Option A) (P : A → Type 0) (x : A) → IfSome o P → o ≡ Some x → P x
 if_some {A} o P x h is = subst (λ (o : Option A). IfSome o P) is h
 
 lines_shorter : (count : ℕ) (text : List ℕ) → IfSome (lines_of count text) (λ found. length found.1 ≤ length text)

@@ -16,10 +16,17 @@ StopsReading NoMemory = Unit {0}
 StopsReading (BadLine number) = ⊥
 StopsReading Write = ⊥
 
--- once a script is read, a replay ends with `Write` just where a write failed, and never with `Read`
-abbrev pub BlamesWriter : Result (Unit {0}) ReplayFault → ℕ → ℕ → Type 0
+-- a replay breaks off where a device failed, or where memory was refused
+abbrev pub IsBreak : ReplayFault → Type 0
+IsBreak Read = Unit {0}
+IsBreak Write = Unit {0}
+IsBreak NoMemory = Unit {0}
+IsBreak (BadLine number) = ⊥
+
+-- a replay ends with `Write` just where a write failed
+abbrev pub BlamesWriter : {T : Type 0} → Result T ReplayFault → ℕ → ℕ → Type 0
 BlamesWriter (Ok u) old new = new ≡ old
-BlamesWriter (Err Read) old new = ⊥
+BlamesWriter (Err Read) old new = new ≡ old
 BlamesWriter (Err Write) old new = new ≡ grown 1 old
 BlamesWriter (Err NoMemory) old new = new ≡ old
 BlamesWriter (Err (BadLine number)) old new = new ≡ old

@@ -12,4 +12,5 @@ pub mod Spelled
 pub mod Performing
 pub mod Watching
 pub mod Devices
+pub mod Reading
 pub mod Reached

@@ -156,14 +156,14 @@ abbrev pub IsOutput : List ℕ → List ℕ → Type 0
 IsOutput script output = Writes (script_of script).start (script_of script).commands.list output
 
 -- What is written and answered where a text has these outputs and this bad line. Unless a device failed or memory was
--- refused, it is a whole output, and the bad line if there is one. Where the reader failed, nothing is written; else a
--- beginning of each output.
+-- refused, it is a whole output, and the bad line if there is one; else a beginning of each output.
 abbrev pub Replayed : (List ℕ → Type 0) → Option ℕ → Option (List ℕ) → Option (List ℕ) → Result (Unit {0}) ReplayFault
     → Type 0
 Replayed IsOneOutput bad old new (Ok u) = (output : List ℕ) × IsOneOutput output × Appends old new output × (bad ≡ None)
 Replayed IsOneOutput bad old new (Err (fault.BadLine number)) =
     (output : List ℕ) × IsOneOutput output × Appends old new output × (bad ≡ Some number)
-Replayed IsOneOutput bad old new (Err fault.Read) = Appends old new []
+Replayed IsOneOutput bad old new (Err fault.Read) =
+    (output : List ℕ) → IsOneOutput output → AppendsBeginning old new output
 Replayed IsOneOutput bad old new (Err fault.Write) =
     (output : List ℕ) → IsOneOutput output → AppendsBeginning old new output
 Replayed IsOneOutput bad old new (Err fault.NoMemory) =

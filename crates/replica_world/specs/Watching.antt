@@ -20,3 +20,8 @@ IsPiece (Err e) = ⊥
 abbrev pub IsFailedWrite : {E : Type 0} → Result ℕ E → List ℕ → Type 0
 IsFailedWrite (Ok count) bytes = (count ≡ 0) × (0 < length bytes)
 IsFailedWrite (Err e) bytes = Unit {0}
+
+-- a count after so many more
+pub record Counted (more old new : ℕ) : Type 0 where
+  pub none : more ≡ 0 → new ≡ old
+  pub some : 0 < more → new ≡ grown more old

@@ -9,6 +9,8 @@ pub mod laws;
 mod output;
 mod perform;
 pub mod run;
+mod settled;
 mod start;
 mod texts;
 pub mod watched;
+mod window;

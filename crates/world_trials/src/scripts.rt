@@ -85,11 +85,14 @@ impl Read for FailingReader<'_> {
     }
 }
 
-/// A writer that takes a byte at a time, and fails after `writes` of them.
+/// A writer that takes a byte at a time, fails after `writes` of them, and shows what it took only once it is flushed.
+/// It fails too after `flushes` flushes.
 #[derive(Drop)]
 struct FailingWriter<'a> {
-    bytes: &'a mut Vec<u8>,
+    taken: &'a mut Vec<u8>,
+    shown: &'a mut usize,
     writes: usize,
+    flushes: usize,
 }
 
 impl Write for FailingWriter<'_> {
@@ -98,10 +101,15 @@ impl Write for FailingWriter<'_> {
             return Err(Error::from(ErrorKind::Other));
         }
         self.writes -= 1;
-        self.bytes.write(&buf[..1])
+        self.taken.write(&buf[..1])
     }
 
     fn flush(&mut self) -> io::Result<()> {
+        if self.flushes == 0 {
+            return Err(Error::from(ErrorKind::Other));
+        }
+        self.flushes -= 1;
+        *self.shown = self.taken.len();
         Ok(())
     }
 }
@@ -157,28 +165,93 @@ fn bad_lines(rt: HostRuntime) {
     }
 }
 
-/// What a replay gives of a script that is read a byte at a time, with at most so many reads, and how much it writes.
-fn replay_by_bytes(alloc: Global, rest: &[u8], reads: usize) -> (Result<(), ReplayFault>, usize) {
+/// Any number of reads, writes or flushes.
+const ENOUGH: usize = 10_000_000;
+
+/// What a replay gives of a script that is read a byte at a time, with at most so many reads and flushes, how much it
+/// writes, and how much of that was flushed.
+fn replay_by_bytes(
+    alloc: Global,
+    rest: &[u8],
+    reads: usize,
+    flushes: usize,
+) -> (Result<(), ReplayFault>, usize, usize) {
     let mut reader = Watched::new(FailingReader { rest, reads });
-    let mut writer = Watched::new(Vec::new(alloc));
+    let mut output = Vec::new(alloc);
+    let mut length = 0;
+    let taken = &mut output;
+    let shown = &mut length;
+    let mut writer = Watched::new(FailingWriter {
+        taken,
+        shown,
+        writes: ENOUGH,
+        flushes,
+    });
     let result = replay(alloc, &mut reader, &mut writer);
-    (result, writer.device().len())
+    (result, output.len(), length)
 }
 
 /// A reader may give a byte at a time for as long as it likes, below the limit of a thousand million reads.
 #[test]
 fn many_reads(rt: HostRuntime) -> Result<()> {
     let lines = vec![in rt.alloc(); b'\n'; 1_000_001]?;
-    assert_eq!(rt; replay_by_bytes(rt.alloc(), &lines, 1_000_002), (Ok(()), 0));
+    assert_eq!(rt;
+        replay_by_bytes(rt.alloc(), &lines, 1_000_002, ENOUGH),
+        (Ok(()), 0, 0)
+    );
     Ok(())
 }
 
+/// How much of `SAYS` is said once so many bytes of `SCRIPT` are read: where a command's last byte stands, how much is
+/// said from there on.
+fn said_after(reads: usize) -> usize {
+    let said = [
+        (39, 7),
+        (51, 14),
+        (64, 21),
+        (108, 30),
+        (159, 42),
+        (214, 54),
+        (233, 172),
+        (257, 226),
+        (282, 302),
+        (305, 386),
+        (315, 396),
+    ];
+    let mut most = 0;
+    for (read, says) in said {
+        if reads >= read {
+            most = says;
+        }
+    }
+    most
+}
+
+/// A command is answered as soon as its last byte is read, and what is said is flushed before the next byte is asked
+/// for.
 #[test]
 fn failing_readers(rt: HostRuntime) {
     for reads in 0..=SCRIPT.len() {
+        let said = said_after(reads);
         assert_eq!(rt;
-            replay_by_bytes(rt.alloc(), SCRIPT, reads),
-            (Err(ReplayFault::Read), 0)
+            replay_by_bytes(rt.alloc(), SCRIPT, reads, ENOUGH),
+            (Err(ReplayFault::Read), said, said),
+            "after {reads} bytes"
+        );
+    }
+}
+
+/// A flush that fails ends a replay: what was said before was said by then, and flushed but for the last answer.
+#[test]
+fn failing_flushes(rt: HostRuntime) {
+    for flushes in 0..=SCRIPT.len() {
+        let (result, said, shown) = replay_by_bytes(rt.alloc(), SCRIPT, ENOUGH, flushes);
+        assert_eq!(rt; result, Err(ReplayFault::Write), "after {flushes} flushes");
+        assert_eq!(rt; said, said_after(flushes), "after {flushes} flushes");
+        assert_eq!(rt;
+            shown,
+            said_after(flushes.saturating_sub(1)),
+            "after {flushes} flushes"
         );
     }
 }
@@ -187,8 +260,15 @@ fn failing_readers(rt: HostRuntime) {
 fn is_cut_at(alloc: Global, script: &[u8], wanted: &[u8], writes: usize) -> bool {
     let mut reader = Watched::new(script);
     let mut output = Vec::new(alloc);
-    let bytes = &mut output;
-    let mut writer = Watched::new(FailingWriter { bytes, writes });
+    let mut length = 0;
+    let taken = &mut output;
+    let shown = &mut length;
+    let mut writer = Watched::new(FailingWriter {
+        taken,
+        shown,
+        writes,
+        flushes: ENOUGH,
+    });
     let result = replay(alloc, &mut reader, &mut writer);
     let said = if writes == wanted.len() {
         Ok(())

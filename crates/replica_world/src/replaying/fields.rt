@@ -10,9 +10,11 @@ use memento_time::{NoMemory, Octets};
 use std::alloc::Global;
 use text_fields::{next_field, next_line, read_decimal};
 
-const LONGEST_LINE: usize = 65_536;
+/// The most bytes of a line.
+pub const LONGEST_LINE: usize = 65_536;
 
-const LONGEST_BLOCK: u64 = 300_000_000;
+/// The most bytes of a block.
+pub const LONGEST_BLOCK: u64 = 300_000_000;
 
 /// The first line, and what follows it.
 fn first_line(text: &[u8]) -> (&[u8], &[u8])

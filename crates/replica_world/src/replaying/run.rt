@@ -1,44 +1,28 @@
 //! A whole script.
-ghost use Rattle.std.specs.Prelude.{◌≡◌, ◌≢◌, ◌⊎◌, ◌+◌, ◌-◌, ◌<◌, ◌≤◌, ◌==◌, length, take, count_by, None, IfOk};
-ghost use Rattle.std.specs.Prelude.{IfSome};
-ghost use Rattle.std.specs.Prelude.{MatchOption};
-ghost use Rattle.replica_world.specs.Script.{command_at, number_of_line};
+ghost use Rattle.std.specs.Prelude.{◌≡◌, ◌≢◌, ◌⊎◌, ◌++◌, ◌<◌, ℕ, List, length, None, Some, Err, IfOk, IfSome, MatchOption};
+ghost use Rattle.replica_world.specs.Script.{command_at};
 ghost use Rattle.replica_events.specs.World.{World as Replicas};
 ghost use Rattle.replica_world.specs.Stands.{Stands};
 ghost use Rattle.replica_world.specs.Watching.{grown};
 ghost use Rattle.replica_world.specs.Devices.{BlamesWriter};
 ghost use Rattle.replica_world.specs.Output.{Replays, ReplaysFrom};
 ghost use Rattle.replica_world.specs.Performing.{IsFirstPerformed};
+ghost use Rattle.replica_world.specs.Reading.{Told, IsReadTo, BlamesReader, told, nothing_held};
 
 use crate::replaying::command::command_at;
-use crate::replaying::devices::read_all;
 use crate::replaying::fault::ReplayFault;
 use crate::replaying::fields::after_empty_lines;
 use crate::replaying::output::Output;
 use crate::replaying::perform::perform;
+use crate::replaying::settled::Part;
 use crate::replaying::start::start_at;
 use crate::replaying::watched::Watched;
+use crate::replaying::window::{Window, await_part};
 use crate::world::World;
 use memento_time::NoMemory;
 use std::alloc::Global;
 use std::io::{Read, Write};
 use timemap_reader::one_page;
-
-fn ends_of_lines(text: &[u8]) -> u64
-    ensures count { result ≡ count_by (λ b. b == 10) text.now }
-    ensures bound { result ≤ length text.now }
-{
-    text.iter().filter(|byte| **byte == b'\n').count() as u64
-}
-
-/// The number of the line at which the rest of a script begins.
-fn number_of_line(script: &[u8], rest: &[u8]) -> u64
-    requires { length rest.now ≤ length script.now }
-    ensures { result ≡ number_of_line script.now rest.now }
-{
-    let (before, _) = script.split_at(script.len() - rest.len());
-    1 + ends_of_lines(before)
-}
 
 /// Performs the command at the front of a text, and returns what it writes and the text from the next command on.
 /// `None` if the line is bad.
@@ -57,56 +41,72 @@ fn perform_first<'a>(
     Ok(Some((said, after_empty_lines(rest))))
 }
 
-/// Performs the commands of a text that ends the script.
-fn replay_commands<W: Write>(
+/// Performs the commands of what is left of a script, each once it is whole.
+fn replay_commands<R: Read, W: Write>(
     alloc: Global,
     world: &mut World,
-    script: &[u8],
-    text: &[u8],
+    window: &mut Window,
+    reader: &mut Watched<R>,
     writer: &mut Watched<W>,
 ) -> Result<(), ReplayFault>
-    requires { length text.now ≤ length script.now }
-    ensures replays { (w : Replicas) → Stands world.old w → ReplaysFrom world.old.base w script.now text.now
+    ensures replays { (begun : Told) (script rest : List ℕ) → begun.bytes ≡ Some script →
+        R.remaining reader.old.device ≡ Some rest → IsReadTo begun window.old (told R.remaining reader.old) →
+        (w : Replicas) → Stands world.old w → ReplaysFrom world.old.base w script (window.old.bytes ++ rest)
         (W.contents writer.old.device) (W.contents writer.new.device) result }
+    ensures reader { (begun : Told) → IsReadTo begun window.old (told R.remaining reader.old) →
+        BlamesReader result begun (told R.remaining reader.new) }
     ensures writer { BlamesWriter result writer.old.failures writer.new.failures }
 {
     // A body has only one page, so what a failed replay wrote is a prefix of the script's one output.
     one_page();
-    let mut rest = after_empty_lines(text);
-    'commands: while !rest.is_empty() {
-        let Some((said, after)) = perform_first(alloc, world, rest)? else {
+    'commands: loop {
+        await_part(Part::Command, window, reader, writer)?;
+        if window.bytes().is_empty() {
+            return Ok(());
+        }
+        let Some((said, rest)) = perform_first(alloc, world, window.bytes())? else {
             return Err(ReplayFault::BadLine {
-                number: number_of_line(script, rest),
+                number: window.line_number(),
             });
         };
+        let left = rest.len();
         said.write(writer)?;
-        rest = after;
+        window.keep(left);
     }
-    Ok(())
 }
 
-fn replay_script<W: Write>(
+/// Performs a script from its first line on.
+fn replay_script<R: Read, W: Write>(
     alloc: Global,
-    script: &[u8],
+    window: &mut Window,
+    reader: &mut Watched<R>,
     writer: &mut Watched<W>,
 ) -> Result<(), ReplayFault>
-    ensures replays { Replays script.now (W.contents writer.old.device) (W.contents writer.new.device) result }
+    requires { window.old ≡ nothing_held }
+    ensures replays { IfSome (R.remaining reader.old.device) (λ script.
+        Replays script (W.contents writer.old.device) (W.contents writer.new.device) result) }
+    ensures reader { BlamesReader result (told R.remaining reader.old) (told R.remaining reader.new) }
     ensures writer { BlamesWriter result writer.old.failures writer.new.failures }
 {
-    let text = after_empty_lines(script);
-    if text.is_empty() {
+    await_part(Part::Start, window, reader, writer)?;
+    if window.bytes().is_empty() {
         return Ok(());
     }
-    let Some((start, rest)) = start_at(alloc, text)? else {
+    let Some((start, rest)) = start_at(alloc, window.bytes())? else {
         return Err(ReplayFault::BadLine {
-            number: number_of_line(script, text),
+            number: window.line_number(),
         });
     };
+    let left = rest.len();
+    window.keep(left);
     let mut world = World::new(alloc, start.replicas, start.service)?;
-    replay_commands(alloc, &mut world, script, rest, writer)
+    replay_commands(alloc, &mut world, window, reader, writer)
 }
 
-/// Reads a script to its end, performs its commands in order, and writes what each says before it performs the next.
+/// Performs the commands of a script in order, each as soon as it is read whole, and writes what each says before it
+/// performs the next. What was written is flushed before the reader is asked for more, so whoever writes the script
+/// through a pipe gets each answer before asking the next question. Of the script only what isn't performed yet is
+/// held.
 ///
 /// A script consists of lines that end with LF, which the last one may lack. A line has at most 65,536 bytes, and empty
 /// lines are skipped. The first line is `replicas N BASE`: 1 to 16 replicas, numbered from 1, of the service with this
@@ -137,14 +137,14 @@ fn replay_script<W: Write>(
 ///
 /// - `BadLine`: the line with this number is none of these, or its block or lines are cut short. The commands before it
 ///   were performed.
-/// - `Read`, `Write`: a device failed in this call; a write that takes no byte is a failure. `Read` also if
-///   1,000,000,000 reads gave bytes and the reader's end had not been seen; no script of fewer bytes needs that many.
+/// - `Read`, `Write`: a device failed in this call, which for a writer may be a flush; a write that takes no byte is a
+///   failure. `Read` also if 1,000,000,000 reads gave bytes and the reader's end had not been seen; no script of fewer
+///   bytes needs that many.
 /// - `NoMemory`: the allocator refused a growth.
 ///
 /// If the reader and the writer say which bytes they read and write, then what is written is the one output of the
-/// script: nothing of it after `Read`, and a prefix of it after `Write` and `NoMemory`. `Watched` counts the failures
-/// and the reads. This shows that `Read` and `Write` come from the devices, and that anything else comes without a
-/// failure of theirs.
+/// script, and a prefix of it after `Read`, `Write` and `NoMemory`. `Watched` counts the failures and the reads. This
+/// shows that `Read` and `Write` come from the devices, and that anything else comes without a failure of theirs.
 pub fn replay<R: Read, W: Write>(
     alloc: Global,
     reader: &mut Watched<R>,
@@ -160,6 +160,6 @@ pub fn replay<R: Read, W: Write>(
     ensures no_read_failed { result ≢ Err ReplayFault.Read → reader.new.failures ≡ reader.old.failures }
     ensures no_write_failed { result ≢ Err ReplayFault.Write → writer.new.failures ≡ writer.old.failures }
 {
-    let script = read_all(alloc, reader)?;
-    replay_script(alloc, &script, writer)
+    let mut window = Window::new(alloc);
+    replay_script(alloc, &mut window, reader, writer)
 }

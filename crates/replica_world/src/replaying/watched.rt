@@ -1,14 +1,14 @@
 //! Devices that count their failures, so that contracts can refer to them.
 ghost use Rattle.std.specs.Prelude.{◌≡◌, OnOk, OnErr};
 ghost use Rattle.std.specs.Io.{ReadsAtMost, WritesAtMost};
-ghost use Rattle.std.specs.Io.KnownBytes.{ReadConsumes, WriteAppends};
+ghost use Rattle.std.specs.Io.KnownBytes.{ReadConsumes, WriteAppends, Keeps};
 ghost use Rattle.replica_world.specs.Watching.{grown, IsPiece, IsFailedWrite};
 
 use std::io::{self, Read, Write};
 use std::marker::Model;
 
-/// A reader or a writer, how many of its calls have failed, and how many reads have given bytes. Only `read` and
-/// `write` below, which call the device once, count.
+/// A reader or a writer, how many of its calls have failed, and how many reads have given bytes. Only `read`, `write`
+/// and `flush` below, which call the device once, count.
 #[derive(Debug, Drop)]
 pub struct Watched<D> {
     device: D,
@@ -43,7 +43,7 @@ impl<D> Watched<D> {
         &self.device
     }
 
-    /// How many reads failed, and how many writes failed or took none of the bytes that they were given.
+    /// How many reads and flushes failed, and how many writes failed or took none of the bytes that they were given.
     pub fn failures(&self) -> u64
         ensures { result ≡ self.now.failures }
     {
@@ -91,6 +91,19 @@ impl<W: Write> Watched<W> {
         match result {
             Ok(count) if count > 0 || bytes.is_empty() => {}
             _ => self.failures = self.failures.saturating_add(1),
+        }
+        result
+    }
+    /// Flushes once, and counts whether that failed.
+    pub fn flush(&mut self) -> io::Result<()>
+        ensures bytes { Keeps (W.contents self.old.device) (W.contents self.new.device) }
+        ensures failed { OnErr result (self.new.failures ≡ grown 1 self.old.failures) }
+        ensures not_failed { OnOk result (self.new.failures ≡ self.old.failures) }
+        ensures no_piece { self.new.pieces ≡ self.old.pieces }
+    {
+        let result = self.device.flush();
+        if result.is_err() {
+            self.failures = self.failures.saturating_add(1);
         }
         result
     }
