@@ -6,8 +6,6 @@ at the first that doesn't.
 """
 import contextlib
 import http.client
-import importlib.machinery
-import importlib.util
 import os
 import pathlib
 import random
@@ -22,18 +20,20 @@ import threading
 import time
 
 if sys.version_info < (3, 11):
-    sys.exit(f"the tests need Python 3.11 or later, and this is {sys.version.split()[0]}")
+    sys.exit(f"{pathlib.Path(sys.argv[0]).name}: needs Python 3.11 or later")
 
 TOP = pathlib.Path(__file__).resolve().parent.parent
+sys.path.append(str(TOP / "deploy"))    # whose modules can be tried call by call
 PROGRAM = os.environ.get("PROGRAM", str(TOP / "crates/aggregator/out/aggregator"))
-ORIGINAL = "http://a.example/"
+ORIGINAL, MEMENTO = "http://a.example/", "http://m.example/1"
 BASE = "/timemap/link/"    # what stands before an original in the address of its TimeMap, on the archives here
 PATIENCE = 60    # seconds for what should come at once
 os.environ["PATH"] += ":/usr/sbin:/sbin"    # where Debian has nginx
 # A program that is instrumented to find faults of memory is to tell of memory that is refused, and to give it back at once.
 ENVIRONMENT = {**os.environ, "ASAN_OPTIONS": "allocator_may_return_null=1:quarantine_size_mb=1"}
 LACKS = 77    # the status of a test that needs what this machine hasn't
-PACKAGES = {"nginx": "nginx-light", "cc": "gcc libc6-dev"}    # Debian's, if they have another name than the command
+# Debian's packages, if they have another name than the command.
+PACKAGES = {"nginx": "nginx-light", "cc": "gcc libc6-dev", "chromedriver": "chromium-driver"}
 
 # ---- saying ----
 
@@ -74,6 +74,13 @@ def comes_true(condition, seconds=PATIENCE):
             return False
         time.sleep(0.02)
     return True
+
+
+def until(what, condition, seconds=PATIENCE):
+    """Waits until this holds, and says after how many seconds it was."""
+    began = time.monotonic()
+    came = comes_true(condition, seconds)
+    holds(f"{what}, after {time.monotonic() - began:.1f} s" if came else what, came)
 
 
 def is_listening(port):
@@ -136,6 +143,30 @@ def reply(text="", *fields, status=200, length=None):
     return "\r\n".join([*head, "", ""]).encode() + body
 
 
+GOOD = reply(link(MEMENTO))
+
+
+def slow(seconds, answer=GOOD):
+    """An archive that gives its answer after so many seconds."""
+    def said(_):
+        time.sleep(seconds)
+        return answer
+    return said
+
+
+def silent(_):
+    """An archive that never answers."""
+    threading.Event().wait()
+    yield b""
+
+
+def dripped(text, every=1):
+    """A byte each second, or as often as that."""
+    for byte in text:
+        yield bytes([byte])
+        time.sleep(every)
+
+
 def chunk(data):
     return b"%x\r\n%b\r\n" % (len(data), data)
 
@@ -152,6 +183,10 @@ def delta(incarnation, begin, end, entries=""):
 def entry(original, uri, archive="p.example", revision=5):
     """The lines of an entry with one memento."""
     return f"entry {archive} {revision} 1 {original}\nat {revision} 1\n946684800 {uri}\n"
+
+
+def originals(count, host="a.example"):
+    return [f"http://{host}/{k}" for k in range(count)]
 
 
 def told(number, jobs, harvests, pulls=0, end="published"):
@@ -252,14 +287,6 @@ def start_archive(stack, *words):
     """The port of the archive that is shipped to try the service against."""
     process = start(stack, TOP / "deploy/archive", 0, *words, stdout=subprocess.PIPE, text=True)
     return int(process.stdout.readline().strip().rpartition(":")[2])
-
-
-def script(path):
-    """A script without an ending, as a module."""
-    loader = importlib.machinery.SourceFileLoader(path.name, str(path))
-    module = importlib.util.module_from_spec(importlib.util.spec_from_loader(path.name, loader))
-    loader.exec_module(module)
-    return module
 
 
 def compiled(folder, source):
@@ -398,6 +425,19 @@ def start_nginx(stack, folder, port, text=None):
     return process
 
 
+def nginx_text(text, folder, *changes):
+    """The settings of deploy/nginx.conf for this machine, with what nginx writes in this folder, and with further changes: pairs of what
+    stands there and what is to stand there."""
+    temporary = "".join(f"    {kind}_temp_path {folder}/{kind};\n" for kind in TEMPORARY)
+    for old, new in [("/var/log/nginx/error.log", f"{folder}/error.log"), ("/run/nginx.pid", f"{folder}/nginx.pid"),
+                     ("root /usr/share/maplewrench/web", f"root {TOP}/web"),
+                     ("    access_log off;\n", temporary + "    access_log off;\n"), *changes]:
+        if old not in text:
+            raise SystemExit(f"deploy/nginx.conf has no {old}")
+        text = text.replace(old, new)
+    return text
+
+
 def nginx(stack, gates, *changes):
     """The port of nginx in front of these gates, by the settings of deploy/nginx.conf but for TLS; `changes` are further pairs
     of what stands there and what is to stand there."""
@@ -406,14 +446,7 @@ def nginx(stack, gates, *changes):
     text = re.sub(r"(?m)^ *ssl_.*\n", "", (TOP / "deploy/nginx.conf").read_text())
     servers = "\n".join(f"        server 127.0.0.1:{gate};" for gate in gates)
     text = re.sub(r"(?m)^        server 127\.0\.0\.1:8080;\n        server 127\.0\.0\.1:8081;$", servers, text)
-    temporary = "".join(f"    {kind}_temp_path {folder}/{kind};\n" for kind in TEMPORARY)
-    for old, new in [("/var/log/nginx/error.log", f"{folder}/error.log"), ("/run/nginx.pid", f"{folder}/nginx.pid"),
-                     ("listen 443 ssl", f"listen 127.0.0.1:{front}"), ("root /usr/share/maplewrench/web", f"root {TOP}/web"),
-                     ("    access_log off;\n", temporary + "    access_log off;\n"), *changes]:
-        if old not in text:
-            raise SystemExit(f"deploy/nginx.conf has no {old}")
-        text = text.replace(old, new)
-    start_nginx(stack, folder, front, text)
+    start_nginx(stack, folder, front, nginx_text(text, folder, ("listen 443 ssl", f"listen 127.0.0.1:{front}"), *changes))
     return front
 
 

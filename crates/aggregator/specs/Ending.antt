@@ -9,7 +9,7 @@ use Rattle.aggregator_service.specs.declared.settings.fault.SettingsFault.TheVar
 use Rattle.aggregator_service.specs.declared.serving.ServeFault.{ServeFault}
 use Rattle.aggregator_service.specs.declared.serving.ServeFault.TheVariants as serve
 use Rattle.aggregator.specs.declared.failure.Failure.{Failure}
-use Rattle.aggregator.specs.declared.failure.Failure.TheVariants.{Usage, BadLine, BadText, BadKey, NoGate, Device}
+use Rattle.aggregator.specs.declared.failure.Failure.TheVariants.{Usage, BadLine, BadText, BadKey, BadOriginal, NoGate, Device}
 use Rattle.aggregator.specs.declared.failure.Failure.TheVariants.{NoMemory}
 
 -- how a replay's fault ends the program
@@ -31,12 +31,13 @@ failure_of_serving serve.NoGate = NoGate
 failure_of_serving serve.Device = Device
 failure_of_serving serve.NoMemory = NoMemory
 
--- the line on standard error
+-- what stands on standard error, but for the LF at its end: one line, or two where an entry of `originals` is told
 abbrev pub message_of : Failure → List ℕ
 message_of Usage = codes "usage: aggregator [replay | serve FILE | check FILE]"
 message_of (BadLine number) = codes "bad line " ++ decimal number
 message_of BadText = codes "bad settings: text"
 message_of (BadKey key) = codes "bad settings: " ++ name_of key
+message_of (BadOriginal number) = codes "bad settings: originals\noriginals: entry " ++ decimal number ++ codes " is no original"
 message_of NoGate = codes "no gate"
 message_of Device = codes "device fault"
 message_of NoMemory = codes "no memory"
@@ -47,6 +48,7 @@ status_of Usage = 2
 status_of (BadLine number) = 2
 status_of BadText = 2
 status_of (BadKey key) = 2
+status_of (BadOriginal number) = 2
 status_of NoGate = 3
 status_of Device = 3
 status_of NoMemory = 3

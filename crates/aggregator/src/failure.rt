@@ -1,4 +1,4 @@
-//! How the program fails: its one line on standard error, and its exit status.
+//! How the program fails: what it says on standard error, and its exit status.
 ghost use Rattle.std.specs.Prelude.{◌≡◌, Some};
 ghost use Rattle.std.specs.Process.{exit_status};
 ghost use Rattle.aggregator.specs.Ending.{failure_of, failure_of_serving, failure_of_settings, message_of, status_of};
@@ -24,6 +24,8 @@ pub(crate) enum Failure {
     BadText,
     /// The settings lack this key, or it holds what it may not.
     BadKey(Key),
+    /// The entry of `originals` with this number, from 1 on, is none.
+    BadOriginal { number: u64 },
     /// A gate can't be bound, opened, or given a thread.
     NoGate,
     /// Reading or writing failed.
@@ -38,9 +40,11 @@ impl Failure {
         ensures { exit_status result ≡ status_of self }
     {
         match self {
-            Failure::Usage | Failure::BadLine { .. } | Failure::BadText | Failure::BadKey(_) => {
-                ExitCode::from(BAD_INPUT)
-            }
+            Failure::Usage
+            | Failure::BadLine { .. }
+            | Failure::BadText
+            | Failure::BadKey(_)
+            | Failure::BadOriginal { .. } => ExitCode::from(BAD_INPUT),
             Failure::NoGate | Failure::Device | Failure::NoMemory => ExitCode::from(BAD_MACHINE),
         }
     }
@@ -55,6 +59,10 @@ impl fmt::Display for Failure {
             Failure::BadLine { number } => write!(f, "bad line {number}"),
             Failure::BadText => f.write_str("bad settings: text"),
             Failure::BadKey(key) => write!(f, "bad settings: {}", key.name()),
+            Failure::BadOriginal { number } => write!(
+                f,
+                "bad settings: originals\noriginals: entry {number} is no original"
+            ),
             Failure::NoGate => f.write_str("no gate"),
             Failure::Device => f.write_str("device fault"),
             Failure::NoMemory => f.write_str("no memory"),

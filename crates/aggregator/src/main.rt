@@ -1,7 +1,8 @@
 //! The program: what the words of its command line ask for, and what it says and returns when it ends.
 //!
 //! Standard output gets what the command writes and nothing else. A failure is one line on standard error, after the
-//! log if the settings ask for one.
+//! log if the settings ask for one; a second tells which entry of `originals` is none, if the settings have a key by
+//! which more is told.
 #![tactic(auto)]
 
 mod check;

@@ -1,4 +1,5 @@
 pub mod Dues
+pub mod Entries
 pub mod Freshness
 pub mod Jobs
 pub mod Keeping

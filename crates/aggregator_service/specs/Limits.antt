@@ -37,6 +37,7 @@ limits key.Snapshot = (1, 4096)
 limits key.SnapshotEvery = (1, 86400)
 limits key.Formats = (0, 2)
 limits key.Status = (1, 1)
+limits key.Together = (1, 256)
 
 -- the most milliseconds between two requests of one archive
 abbrev pub most_every : ℕ
@@ -130,3 +131,6 @@ pub record AreLimits : Type 0 where
   pub snapshot_every : TakesUpTo key.SnapshotEvery (24 * 60 * 60)
   pub no_format : IsWithin key.Formats 0
   pub formats : TakesUpTo key.Formats 2
+  pub none_together : ¬ IsWithin key.Together 0
+  pub one_together : IsWithin key.Together 1
+  pub together : TakesUpTo key.Together (2 ^ 8)

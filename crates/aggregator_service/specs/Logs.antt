@@ -29,7 +29,7 @@ use Rattle.aggregator_service.specs.declared.lines.Line.{Line}
 use Rattle.aggregator_service.specs.declared.lines.Line.TheVariants.{Archive, Wanting, Peer, Unpublished, Output, Gate, Status, Start, Snapshot}
 use Rattle.aggregator_service.specs.declared.lines.Line.TheVariants.{Progress as Goes, Wishes, List as Of_list}
 use Rattle.aggregator_service.specs.declared.lines.ListMatter.{ListMatter}
-use Rattle.aggregator_service.specs.declared.lines.ListMatter.TheVariants.{Bad, More, Unread, NoMemory}
+use Rattle.aggregator_service.specs.declared.lines.ListMatter.TheVariants.{Bad, More, Unread, Unreadable, NoMemory}
 use Rattle.aggregator_service.specs.declared.desks.WishCounts.{WishCounts}
 
 -- why a peer brought nothing
@@ -94,7 +94,12 @@ abbrev pub list_words : ListMatter → List ℕ
 list_words (Bad number) = codes "line " ++ decimal number ++ codes " is no original"
 list_words (More count) = decimal count ++ codes " more lines are no originals"
 list_words Unread = codes "not read: the originals of before stay"
+list_words Unreadable = codes "not read"
 list_words NoMemory = codes "no memory: the originals of before stay"
+
+-- a line that `check` writes of the file of originals
+abbrev pub list_line : ListMatter → List ℕ
+list_line matter = codes "list: " ++ list_words matter ++ codes "\n"
 
 -- what became of a snapshot
 abbrev pub snapshot_words : SnapshotEnd → List ℕ

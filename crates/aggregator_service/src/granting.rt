@@ -301,13 +301,9 @@ where
             };
             let is_found = ended.outcome.is_found
                 || is_shown(self.settings(), merger, &ended.original);
-            self.means.book.end(
-                self.rt,
-                &ended.original,
-                is_found,
-                ended.outcome.is_whole,
-                now,
-            );
+            self.means
+                .book
+                .end(self.rt, &ended.original, is_found, ended.outcome, now);
             standing.desk.count(is_found);
             let over = WishCounts {
                 ended: 1,

@@ -213,6 +213,8 @@ pub(crate) enum ListMatter {
     More(u64),
     /// It can't be read.
     Unread,
+    /// The same, where no originals of before are known.
+    Unreadable,
     /// There is no memory for it.
     NoMemory,
 }
@@ -225,6 +227,7 @@ impl fmt::Display for ListMatter {
             ListMatter::Bad(number) => write!(f, "line {number} is no original"),
             ListMatter::More(count) => write!(f, "{count} more lines are no originals"),
             ListMatter::Unread => f.write_str("not read: the originals of before stay"),
+            ListMatter::Unreadable => f.write_str("not read"),
             ListMatter::NoMemory => f.write_str("no memory: the originals of before stay"),
         }
     }

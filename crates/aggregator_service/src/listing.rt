@@ -1,10 +1,13 @@
 //! The originals that rounds look after: those of the settings, and those of a file, which is read anew for each round.
-ghost use Rattle.std.specs.Prelude.{◌≡◌, [], Contains};
+ghost use Rattle.std.specs.Prelude.{◌≡◌, [], Contains, OnOk};
+ghost use Rattle.std.specs.Io.KnownBytes.{Appends};
+ghost use Rattle.aggregator_service.specs.Logs.{list_line};
 
 use crate::lines::{Line, ListMatter};
 use crate::making::{Rounds, Standing};
 use crate::ordering::shuffle;
 use crate::runtimes::SocketRuntime;
+use crate::serving::ServeFault;
 use crate::settings::Settings;
 use harvest_workers::WalkRules;
 use memento_time::{NoMemory, Original};
@@ -59,6 +62,47 @@ fn list_of(
     let listed = read_list(alloc, text)?;
     let originals = each_once(alloc, &settings.originals, &listed.originals, keys)?;
     Ok((originals, listed))
+}
+
+/// Writes a line about the file of originals.
+fn say_matter<W: Write>(matter: ListMatter, out: &mut W) -> Result<(), ServeFault>
+    ensures { OnOk result (Appends (W.contents out.old) (W.contents out.new) (list_line matter)) }
+{
+    writeln!(out, "list: {matter}")?;
+    out.flush()?;
+    Ok(())
+}
+
+/// Writes which lines hold no originals.
+fn say_bad<W: Write>(listed: &Listed, out: &mut W) -> Result<(), ServeFault> {
+    for line in &listed.bad {
+        say_matter(ListMatter::Bad(*line as u64), out)?;
+    }
+    let more = listed.bad_count.saturating_sub(listed.bad.len());
+    if more > 0 {
+        say_matter(ListMatter::More(more as u64), out)?;
+    }
+    Ok(())
+}
+
+/// Reads the file of originals, if the settings name one, and writes which of its lines hold none, in the log's words.
+pub fn check_list<R: Files + AllocGlobal, W: Write>(
+    rt: &R,
+    settings: &Settings,
+    out: &mut W,
+) -> Result<(), ServeFault> {
+    let Some(path) = &settings.wishing.originals_file else {
+        return Ok(());
+    };
+    let text = match read_file(rt, path.as_str()) {
+        Ok(text) => text,
+        Err(ListMatter::NoMemory) => return Err(ServeFault::NoMemory),
+        Err(_) => return say_matter(ListMatter::Unreadable, out),
+    };
+    let Ok(listed) = read_list(rt.alloc(), &text) else {
+        return Err(ServeFault::NoMemory);
+    };
+    say_bad(&listed, out)
 }
 
 impl<R, P, L> Rounds<'_, R, P, L>

@@ -7,7 +7,7 @@ ghost use Rattle.aggregator_service.specs.Lines.{round_line};
 
 use crate::clocks::incarnation_now;
 use crate::dues::Stopwatch;
-use crate::gates::{Doors, open_doors};
+use crate::gates::{Listeners, open_listeners};
 use crate::lines::Line;
 use crate::logs::Log;
 use crate::making::{Rounds, Standing};
@@ -139,8 +139,8 @@ fn secret_keys<R: RandomSource>(
     Ok(Some(RandomState::new(rt)?))
 }
 
-/// Opens the gates' doors, makes the rounds, and waits for the gates to end. What rounds take memory for is made before
-/// the first gate answers.
+/// Opens the gates' listeners, makes the rounds, and waits for the gates to end. What rounds take memory for is made
+/// before the first gate answers.
 fn serve_gates<R, W, L, P>(
     rt: &R,
     settings: &Arc<Settings, Global>,
@@ -167,8 +167,8 @@ where
         }
     }
     let watch = Stopwatch::start(rt);
-    let doors = open_doors(rt, terms.settings(), gates, &means, log)?;
-    let said = say_ports(&doors, terms.settings(), out);
+    let listeners = open_listeners(rt, terms.settings(), gates, &means, log)?;
+    let said = say_ports(&listeners, terms.settings(), out);
     let made = match said {
         Ok(()) => {
             means.start(rt, &terms);
@@ -192,20 +192,24 @@ where
     if made.is_err() {
         log.tell(rt.alloc(), Line::Output);
     }
-    let ended = doors.wait(rt);
+    let ended = listeners.wait(rt);
     made?;
     ended
 }
 
 /// Writes a line for each gate, in the order of the settings, and one for the status, if the settings ask for it.
-fn say_ports<W: Write>(doors: &Doors, settings: &Settings, out: &mut W) -> Result<(), ServeFault> {
-    for (address, port) in settings.gates.iter().zip(doors.ports()) {
+fn say_ports<W: Write>(
+    listeners: &Listeners,
+    settings: &Settings,
+    out: &mut W,
+) -> Result<(), ServeFault> {
+    for (address, port) in settings.gates.iter().zip(listeners.ports()) {
         if let Ok(mut address) = address.parse::<SocketAddr>() {
             address.set_port(*port);
             writeln!(out, "gate {address}")?;
         }
     }
-    if let (Some(address), Some(port)) = (&settings.status, doors.status()) {
+    if let (Some(address), Some(port)) = (&settings.status, listeners.status()) {
         if let Ok(mut address) = address.parse::<SocketAddr>() {
             address.set_port(port);
             writeln!(out, "status {address}")?;

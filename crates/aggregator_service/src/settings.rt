@@ -2,15 +2,16 @@
 //!
 //! Keys are looked for in the order of `Key`. The fault is the first key that is missing or holds what it may not. An
 //! optional key may be missing. Other keys aren't looked at.
-ghost use Rattle.std.specs.Prelude.{◌≡◌, ◌<◌, IfSome, length};
+ghost use Rattle.std.specs.Prelude.{◌≡◌, ◌<◌, IfOk, IfSome, length};
 ghost use Rattle.std.proofs.Props.{props};
 ghost use Rattle.aggregator_service.specs.Limits.{IsWithin};
 ghost use Rattle.aggregator_service.specs.declared.settings.fault.Key.TheVariants.{Gates, Connections, Rounds, Pause};
 ghost use Rattle.aggregator_service.specs.declared.settings.fault.Key.TheVariants.{Workers, Originals, Peers, Archives, Patience};
-ghost use Rattle.aggregator_service.specs.declared.settings.fault.Key.TheVariants.{Hosts};
+ghost use Rattle.aggregator_service.specs.declared.settings.fault.Key.TheVariants.{Hosts, Together};
 
 mod archives;
 mod asking;
+mod entries;
 mod fault;
 mod hosts;
 mod showing;
@@ -31,6 +32,7 @@ use crate::settings::values::{
 use crate::settings::wishing::wishing_at;
 pub use archives::Archive;
 pub use asking::Asking;
+pub use entries::bad_original;
 pub use fault::{Key, SettingsFault};
 use format_gates::Forms;
 use hyper_edge::{Agent, AllowedHost, DEFAULT_PATIENCE};
@@ -44,6 +46,9 @@ pub use wishing::Wishing;
 
 /// The most bytes that the text of settings can have.
 pub const MAX_TEXT: usize = 1_048_576;
+
+/// How many connections a gate serves at once by default: one after the other.
+const DEFAULT_TOGETHER: u64 = 1;
 
 /// What a service has to do, by the keys of its settings, each within its limits (`Key::limits`).
 #[derive(Drop)]
@@ -89,6 +94,8 @@ pub struct Settings {
     pub forms: Forms,
     /// The address at which the status is shown: a text that std reads as a socket address; `None` if it isn't.
     pub status: Option<String>,
+    /// How many connections a gate serves at once.
+    pub together: u64,
 
     ghost few_gates: { IsWithin Gates (length gates.items) },
     ghost few_connections: { IsWithin Connections connections },
@@ -127,6 +134,7 @@ struct OwnKeys {
     storing: Storing,
     forms: Forms,
     status: Option<String>,
+    together: u64,
 }
 
 /// What stands at the keys from `at_once` on.
@@ -137,6 +145,7 @@ fn own_keys_at(
     archives: usize,
 ) -> Result<OwnKeys, SettingsFault>
     requires { IsWithin Workers workers }
+    ensures { IfOk result (λ own. IsWithin Together own.together) }
 {
     let asking = asking_at(table, workers, archives)?;
     let timing = timing_at(table)?;
@@ -146,6 +155,7 @@ fn own_keys_at(
     let storing = storing_at(alloc, table)?;
     let forms = forms_at(table)?;
     let status = status_at(alloc, table)?;
+    let together = number_or(table, Key::Together, DEFAULT_TOGETHER)?;
     Ok(OwnKeys {
         asking,
         timing,
@@ -155,6 +165,7 @@ fn own_keys_at(
         storing,
         forms,
         status,
+        together,
     })
 }
 
@@ -193,5 +204,6 @@ fn settings_of(alloc: Global, table: &Table) -> Result<Settings, SettingsFault> 
         storing: own.storing,
         forms: own.forms,
         status: own.status,
+        together: own.together,
     })
 }

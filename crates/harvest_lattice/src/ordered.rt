@@ -11,7 +11,7 @@ use memento_time::{Memento, NoMemory};
 use std::cmp::Ordering;
 
 /// How many parts have a lesser revision.
-pub fn count_below(parts: &[Part], revision: u64) -> usize
+pub(crate) fn count_below(parts: &[Part], revision: u64) -> usize
     requires { PartsRise parts.now }
     ensures within { result ≤ length parts.now }
     ensures place { IsPlace parts.now revision result }
@@ -24,7 +24,7 @@ pub fn count_below(parts: &[Part], revision: u64) -> usize
 }
 
 /// The part at a revision.
-pub fn find(parts: &[Part], revision: u64) -> Option<&Part>
+pub(crate) fn find(parts: &[Part], revision: u64) -> Option<&Part>
     requires { PartsRise parts.now }
     ensures { found_set (option_copied result) ≡ map.find nat_cmp revision parts.now }
 {
@@ -49,7 +49,7 @@ fn part_at(parts: &[Part], place: usize, revision: u64) -> Option<&Part>
 
 /// Merges both lists. Parts of the same revision are united, and a part that comes shares the list of the part before
 /// it if the two have the same mementos. Takes one walk over both.
-pub fn unite(standing: Vec<Part>, coming: &[Part]) -> Result<Vec<Part>, NoMemory>
+pub(crate) fn unite(standing: Vec<Part>, coming: &[Part]) -> Result<Vec<Part>, NoMemory>
     requires { PartsRise coming.now }
     ensures { IfOk result (λ both. both.items ≡ put_parts standing.items coming.now) }
 {
@@ -118,7 +118,7 @@ fn beside(standing: Option<Part>, part: &Part, before: Option<&Part>) -> Result<
 }
 
 /// Makes each part share the list of the part before it if the two have the same mementos.
-pub fn share_alike(parts: &mut Vec<Part>) -> Result<(), NoMemory>
+pub(crate) fn share_alike(parts: &mut Vec<Part>) -> Result<(), NoMemory>
     ensures { parts.new.items ≡ parts.old.items }
 {
     for k in 1..parts.len() {
@@ -130,7 +130,7 @@ pub fn share_alike(parts: &mut Vec<Part>) -> Result<(), NoMemory>
 
 /// A part that has the mementos of all parts, if each part has those of all parts before it or has none other than
 /// those.
-pub fn widest<'a>(first: &'a Part, later: &'a [Part]) -> Option<&'a Part>
+pub(crate) fn widest<'a>(first: &'a Part, later: &'a [Part]) -> Option<&'a Part>
     ensures { IfSome result (λ part. part.now.1 ≡ union_all (map_list (λ p. p.1) (first.now ∷ later.now))) }
 {
     let mut widest = first;
@@ -147,7 +147,7 @@ pub fn widest<'a>(first: &'a Part, later: &'a [Part]) -> Option<&'a Part>
 }
 
 /// Whether each revision is less than the next.
-pub fn parts_rise(parts: &[Part]) -> bool
+pub(crate) fn parts_rise(parts: &[Part]) -> bool
     ensures { result ≡ map.is_sorted nat_cmp parts.now }
 {
     for k in 1..parts.len() {
@@ -159,7 +159,7 @@ pub fn parts_rise(parts: &[Part]) -> bool
 }
 
 /// Whether the whole revision, if there is one, is that of the first part.
-pub fn is_whole_first(whole: Option<u64>, parts: &[Part]) -> bool
+pub(crate) fn is_whole_first(whole: Option<u64>, parts: &[Part]) -> bool
     ensures { result ≡ whole_first whole parts.now }
 {
     let Some(whole) = whole else {
@@ -171,7 +171,7 @@ pub fn is_whole_first(whole: Option<u64>, parts: &[Part]) -> bool
     }
 }
 
-pub fn append_parts(list: &mut Vec<Memento>, parts: &[Part]) -> Result<(), NoMemory>
+pub(crate) fn append_parts(list: &mut Vec<Memento>, parts: &[Part]) -> Result<(), NoMemory>
     ensures { OnOk result (list.new.items ≡ list.old.items ++ items_of parts.now) }
 {
     for part in parts {
@@ -181,7 +181,7 @@ pub fn append_parts(list: &mut Vec<Memento>, parts: &[Part]) -> Result<(), NoMem
 }
 
 /// Appends copies of these mementos. After an error, some of them may be in the list.
-pub fn append_copies(list: &mut Vec<Memento>, mementos: &[Memento]) -> Result<(), NoMemory>
+pub(crate) fn append_copies(list: &mut Vec<Memento>, mementos: &[Memento]) -> Result<(), NoMemory>
     ensures { OnOk result (list.new.items ≡ list.old.items ++ mementos.now) }
 {
     for memento in mementos {

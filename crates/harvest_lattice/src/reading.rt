@@ -207,7 +207,7 @@ impl<'a> Reading<'a> {
     }
 }
 
-pub fn is_not_before(whole: Option<u64>, revision: u64) -> bool
+pub(crate) fn is_not_before(whole: Option<u64>, revision: u64) -> bool
     ensures { result ≡ not_before whole revision }
 {
     match whole {

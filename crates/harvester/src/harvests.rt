@@ -1,7 +1,8 @@
 //! The harvest of a job.
-ghost use Rattle.std.specs.Prelude.{◌≡◌, ◌≤◌, ◌<◌, IfOk, IfErr, IsErrOf, length};
+ghost use Rattle.std.specs.Prelude.{◌≡◌, ◌≤◌, IfOk, IfErr, IsErrOf, length};
 ghost use Rattle.memento_time.specs.Mementos.{memento_cmp};
 ghost use Rattle.memento_sets.specs.Sets as set;
+ghost use Rattle.harvest_lattice.specs.Making.{harvest_from, AreTooMany};
 ghost use Rattle.harvester.specs.Limits.{max_mementos};
 
 use crate::faults::WalkFault;
@@ -12,16 +13,9 @@ use memento_time::Memento;
 
 /// The job's harvest, whole or part as the mark says.
 fn make(job: &Job, is_whole: bool, mementos: Vec<Memento>) -> Result<Harvest, HarvestFault>
-    ensures kept { IfOk result
-        (λ h. h ≡ record {
-          archive = job.now.archive;
-          original = job.now.original;
-          revision = job.now.revision;
-          is_whole = is_whole;
-          mementos = set.from_list mementos.items;
-        }) }
-    ensures too_many { IsErrOf result HarvestFault.TooMany
-        → max_mementos < length (set.items (set.from_list {R = memento_cmp} mementos.items)) }
+    ensures kept { IfOk result (λ h. h ≡ harvest_from job.now.archive job.now.original
+        job.now.revision is_whole mementos.items) }
+    ensures too_many { IsErrOf result HarvestFault.TooMany → AreTooMany mementos.items }
 {
     if is_whole {
         Harvest::new(job.archive, &job.original, job.revision, mementos)
@@ -37,14 +31,8 @@ pub(crate) fn harvest(
     mut mementos: Vec<Memento>,
 ) -> Result<Harvest, WalkFault>
     requires { length (set.items (set.from_list {R = memento_cmp} mementos.items)) ≤ max_mementos }
-    ensures kept { IfOk result
-        (λ h. h ≡ record {
-          archive = job.now.archive;
-          original = job.now.original;
-          revision = job.now.revision;
-          is_whole = is_whole;
-          mementos = set.from_list mementos.items;
-        }) }
+    ensures kept { IfOk result (λ h. h ≡ harvest_from job.now.archive job.now.original
+        job.now.revision is_whole mementos.items) }
     ensures err { IfErr result (λ fault. fault ≡ WalkFault.NoMemory) }
 {
     put_in_order(&mut mementos)?;

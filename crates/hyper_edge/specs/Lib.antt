@@ -9,3 +9,4 @@ pub mod Exchanges
 pub mod Pulls
 pub mod Addresses
 pub mod Hosts
+pub mod Crowds

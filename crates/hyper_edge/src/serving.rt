@@ -17,13 +17,14 @@ use std::{io, thread};
 use tokio::io::{AsyncRead, AsyncWrite};
 use tokio::net::TcpStream;
 use tokio::runtime::LocalRuntime;
+use tokio::time::Handle;
 
 /// The most seconds that a client may take for the head of a request, counted from when its connection was accepted or
 /// from the reply before.
 const HEAD_SECONDS: u64 = 10;
 
 /// How many milliseconds to wait where a connection can't be accepted for the moment.
-const ACCEPT_PAUSE: u64 = 100;
+pub(crate) const ACCEPT_PAUSE: u64 = 100;
 
 const ENOMEM: i32 = 12;
 
@@ -56,10 +57,7 @@ where
     ensures counted { IfOk result (λ faults. faults ≤ connections) }
     ensures cause { IfErr result (λ fault. (fault ≡ EdgeFault.Accept) ⊎ (fault ≡ EdgeFault.NoMemory)) }
 {
-    let keys = RandomState::new(rt).map_err(|error| EdgeFault::of_accepting(&error))?;
-    let timers = bound.runtime.handle().time().clone()?;
-    let mut http = Builder::new(rt.alloc(), keys).timer(GateTimer::new(rt.clone()?, timers));
-    http.header_read_timeout(Some(Duration::from_secs(HEAD_SECONDS)));
+    let http = http_of(rt, bound.runtime.handle().time())?;
     let mut faults = 0u64;
     for _ in 0..connections {
         let stream = accept(rt, bound)?;
@@ -68,6 +66,19 @@ where
         }
     }
     Ok(faults)
+}
+
+/// The settings of connections.
+pub(crate) fn http_of<R>(rt: &R, timers: &Handle) -> Result<Builder<GateTimer<R>>, EdgeFault>
+where
+    R: Clock + RandomSource + AllocGlobal + Clone + Drop,
+    ensures cause { IfErr result (λ fault. (fault ≡ EdgeFault.Accept) ⊎ (fault ≡ EdgeFault.NoMemory)) }
+{
+    let keys = RandomState::new(rt).map_err(|error| EdgeFault::of_accepting(&error))?;
+    let timer = GateTimer::new(rt.clone()?, timers.clone()?);
+    let mut http = Builder::new(rt.alloc(), keys).timer(timer);
+    http.header_read_timeout(Some(Duration::from_secs(HEAD_SECONDS)));
+    Ok(http)
 }
 
 /// The next connection.
@@ -94,7 +105,7 @@ where
 
 /// Whether a connection may be accepted later: the process or the system has as many open files as it may, there is no
 /// memory for another connection, or the client was gone before it was accepted (`accept(2)`).
-fn is_passing(error: &io::Error) -> bool {
+pub(crate) fn is_passing(error: &io::Error) -> bool {
     match error.raw_os_error() {
         Some(code) => PASSING.contains(&code),
         None => false,

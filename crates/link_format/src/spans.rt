@@ -15,19 +15,19 @@ pub(crate) enum ValueSpan<'a> {
 /// A parameter, as it stands in the text.
 #[derive(Clone, Copy)]
 pub(crate) struct ParamSpan<'a> {
-    pub name: &'a [u8],
-    pub value: Option<ValueSpan<'a>>,
+    pub(crate) name: &'a [u8],
+    pub(crate) value: Option<ValueSpan<'a>>,
 }
 
 /// The parameters of a link, as they stand in the text.
 #[derive(Clone, Copy)]
 pub(crate) struct ParamsSpan<'a> {
     /// Everything after the target's `>`, with the parameters at the front.
-    pub text: &'a [u8],
+    pub(crate) text: &'a [u8],
     /// How many parameters there are.
-    pub count: usize,
+    pub(crate) count: usize,
     /// The datetime of a memento; none also if a value has to be unescaped to know it.
-    pub usual: Option<&'a [u8]>,
+    pub(crate) usual: Option<&'a [u8]>,
     ghost counted: { count ≡ length (params_of text.now) },
     ghost says: { (datetime : List ℕ) → option_map (λ u. u.now) usual ≡ Some datetime
         → SaysMemento (params_of text.now) datetime },
@@ -36,6 +36,6 @@ pub(crate) struct ParamsSpan<'a> {
 /// A link, as it stands in the text.
 #[derive(Clone, Copy)]
 pub(crate) struct LinkSpan<'a> {
-    pub target: &'a [u8],
-    pub params: ParamsSpan<'a>,
+    pub(crate) target: &'a [u8],
+    pub(crate) params: ParamsSpan<'a>,
 }

@@ -62,7 +62,7 @@ fn take_out(list: &mut Tally, lifted: &mut Tally, memento: &Memento) -> Option<C
 }
 
 /// Counts one more archive that shows a memento.
-pub fn count_in(list: &mut Tally, lifted: &mut Tally, memento: Memento)
+pub(crate) fn count_in(list: &mut Tally, lifted: &mut Tally, memento: Memento)
     requires tally { IsTally (whole list.old.entries lifted.old.entries) }
     requires list_room { length list.old.entries + length lifted.old.entries < list.old.room }
     requires lifted_room { length list.old.entries + length lifted.old.entries ≤ lifted.old.room }
@@ -85,7 +85,7 @@ pub fn count_in(list: &mut Tally, lifted: &mut Tally, memento: Memento)
 }
 
 /// Counts one archive less that shows a memento, and drops the memento with the last archive.
-pub fn count_out(list: &mut Tally, lifted: &mut Tally, memento: &Memento)
+pub(crate) fn count_out(list: &mut Tally, lifted: &mut Tally, memento: &Memento)
     requires tally { IsTally (whole list.old.entries lifted.old.entries) }
     requires list_room { length list.old.entries + length lifted.old.entries ≤ list.old.room }
     requires lifted_room { length list.old.entries + length lifted.old.entries ≤ lifted.old.room }
@@ -115,7 +115,7 @@ pub fn count_out(list: &mut Tally, lifted: &mut Tally, memento: &Memento)
 }
 
 /// Puts back everything that was lifted.
-pub fn settle(list: &mut Tally, lifted: &mut Tally)
+pub(crate) fn settle(list: &mut Tally, lifted: &mut Tally)
     requires room { length list.old.entries + length lifted.old.entries ≤ list.old.room }
     ensures list { list.new.entries ≡ whole list.old.entries lifted.old.entries }
     ensures lifted { lifted.new.entries ≡ [] }
@@ -130,7 +130,7 @@ pub fn settle(list: &mut Tally, lifted: &mut Tally)
 ///
 /// It moves each memento of the list twice that isn't less than the first step's memento, and of those that are less it
 /// touches only the last.
-pub fn recount(list: &mut Tally, lifted: &mut Tally, mut steps: Vec<Step>)
+pub(crate) fn recount(list: &mut Tally, lifted: &mut Tally, mut steps: Vec<Step>)
     requires tally { IsTally list.old.entries }
     requires settled { lifted.old.entries ≡ [] }
     requires list_room { length list.old.entries + vec_len steps ≤ list.old.room }

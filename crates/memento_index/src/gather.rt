@@ -22,7 +22,7 @@ use std::collections::BTreeMap;
 
 /// The steps of each original. If a single row replaces everything that is listed of an original, that row gives the
 /// new list.
-pub fn gather_steps(
+pub(crate) fn gather_steps(
     alloc: Global,
     state: &State,
     lists: &Lists,

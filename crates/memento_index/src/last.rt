@@ -32,7 +32,7 @@ pub fn last_in(list: &mut Probed<'_>) -> Option<usize>
 }
 
 /// The memento with the greatest datetime: the one with the least URI, if several have it.
-pub fn last_of(list: &[Memento]) -> Option<&Memento>
+pub(crate) fn last_of(list: &[Memento]) -> Option<&Memento>
     requires { IsStrictlySortedBy memento_cmp list.now }
     ensures { option_copied result ≡ last (set.from_list list.now) }
 {

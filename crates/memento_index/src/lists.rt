@@ -1,5 +1,5 @@
 //! The lists of an index.
-ghost use Rattle.std.specs.Prelude.{◌≡◌, ◌↔◌, ◌+◌, ◌≤◌, ℕ, List, [], true, false, IsTrue, IfOk, IfSome, IsSome, OnOk};
+ghost use Rattle.std.specs.Prelude.{◌≡◌, ◌↔◌, ◌+◌, ◌≤◌, ℕ, List, [], false, IsTrue, IfOk, IfSome, IsSome, OnOk};
 ghost use Rattle.std.specs.Prelude.{None, length};
 ghost use Rattle.std.specs.BTreeMap as tree;
 ghost use Rattle.std.specs.Ordering.{eq_by_cmp};
@@ -18,12 +18,12 @@ use std::collections::BTreeMap;
 pub type Lists = BTreeMap<Original, Listing>;
 
 /// What begins and ceases to be shown of each original.
-pub type StepLists = BTreeMap<Original, Steps>;
+pub(crate) type StepLists = BTreeMap<Original, Steps>;
 
 /// Makes room in the list of each original for its steps, and room to lift the longest of these lists. A list that is
 /// replaced needs no room. No count of the keys and the steps is too large. If memory is refused, empty lists may have
 /// been made.
-pub fn make_rooms(
+pub(crate) fn make_rooms(
     lists: &mut Lists,
     lifted: &mut Tally,
     alloc: Global,
@@ -107,7 +107,7 @@ fn reserve(
 }
 
 /// Has the list of an original share the memory of another, if both list the same and can: see `Listing::share_with`.
-pub fn share_list(lists: &mut Lists, original: &Original, others: &Lists)
+pub(crate) fn share_list(lists: &mut Lists, original: &Original, others: &Lists)
     ensures { (o : List ℕ) → tree.get text_cmp lists.new o ≡ tree.get text_cmp lists.old o }
 {
     if let Some(other) = others.get(original) {
@@ -118,7 +118,7 @@ pub fn share_list(lists: &mut Lists, original: &Original, others: &Lists)
 }
 
 /// Drops the lists of these originals that are empty. Takes no memory.
-pub fn drop_empty(lists: &mut Lists, all: &StepLists)
+pub(crate) fn drop_empty(lists: &mut Lists, all: &StepLists)
     ensures gone { (o : List ℕ) → IsSome (tree.get text_cmp all.now o) → IsListed (tree.get text_cmp lists.new o) }
     ensures tallies { (o : List ℕ) → tally_of lists.new o ≡ tally_of lists.old o }
     ensures listed { (o : List ℕ) → IsListed (tree.get text_cmp lists.old o)
@@ -151,7 +151,7 @@ fn is_empty_at(lists: &Lists, original: &Original) -> bool
 }
 
 /// Counts the steps of each original in its list, and drops the lists that become empty.
-pub fn recount_all(lists: &mut Lists, lifted: &mut Tally, all: StepLists)
+pub(crate) fn recount_all(lists: &mut Lists, lifted: &mut Tally, all: StepLists)
     requires tally { (o : List ℕ) → IsTally (tally_of lists.old o) }
     requires can { (o : List ℕ) → CanCount (tally_of lists.old o) (steps_of all o) }
     requires room { HaveRoom 0 all lists.old lifted.old.room }
@@ -166,6 +166,7 @@ pub fn recount_all(lists: &mut Lists, lifted: &mut Tally, all: StepLists)
     }
 }
 
+/// Counts the steps in the list of an original, and drops the list if nothing is left.
 fn recount_list(lists: &mut Lists, lifted: &mut Tally, original: &Original, steps: Steps)
     requires tally { IsTally (tally_of lists.old original.now) }
     requires can { CanCount (tally_of lists.old original.now) (steps_in steps) }
@@ -179,36 +180,11 @@ fn recount_list(lists: &mut Lists, lifted: &mut Tally, original: &Original, step
     ensures lifted_room { lifted.old.room ≤ lifted.new.room }
     ensures listed { IsListed (tree.get text_cmp lists.new original.now) }
 {
-    if recount_in_place(lists, lifted, original, steps) {
+    let Some(list) = lists.get_mut(original) else {
+        return;
+    };
+    list.recount(lifted, steps);
+    if list.mementos().is_empty() {
         lists.remove(original);
-    }
-}
-
-/// Counts the steps, and returns whether nothing is left.
-fn recount_in_place(
-    lists: &mut Lists,
-    lifted: &mut Tally,
-    original: &Original,
-    steps: Steps,
-) -> bool
-    requires tally { IsTally (tally_of lists.old original.now) }
-    requires can { CanCount (tally_of lists.old original.now) (steps_in steps) }
-    requires room { HasRoom 0 (tree.get text_cmp lists.old original.now) lifted.old.room steps }
-    requires settled { lifted.old.entries ≡ [] }
-    ensures recounted { IsRecounted (tally_of lists.old original.now) (steps_in steps)
-        (tally_of lists.new original.now) }
-    ensures others { (o : List ℕ) → eq_by_cmp text_cmp original.now o ≡ false
-        → tree.get text_cmp lists.new o ≡ tree.get text_cmp lists.old o }
-    ensures settled { lifted.new.entries ≡ [] }
-    ensures lifted_room { lifted.old.room ≤ lifted.new.room }
-    ensures empty { result ≡ true → tally_of lists.new original.now ≡ [] }
-    ensures listed { result ≡ false → IsListed (tree.get text_cmp lists.new original.now) }
-{
-    match lists.get_mut(original) {
-        Some(list) => {
-            list.recount(lifted, steps);
-            list.mementos().is_empty()
-        }
-        None => false,
     }
 }

@@ -12,7 +12,7 @@ use crate::probed::Probed;
 use memento_time::{Memento, Moment};
 
 /// The first place before the end whose datetime isn't earlier than the moment, or the end if there is none.
-pub fn first_from(list: &mut Probed<'_>, end: usize, moment: Moment) -> usize
+pub(crate) fn first_from(list: &mut Probed<'_>, end: usize, moment: Moment) -> usize
     requires in_order { IsNonDecreasing (datetimes list.old.list) }
     requires in_range { end ≤ length list.old.list }
     requires few { list.old.probes ≤ 2000000000 }
@@ -81,7 +81,7 @@ pub fn nearest_in(list: &mut Probed<'_>, moment: Moment) -> Option<usize>
 }
 
 /// The memento at the least distance in seconds.
-pub fn nearest_of(list: &[Memento], moment: Moment) -> Option<&Memento>
+pub(crate) fn nearest_of(list: &[Memento], moment: Moment) -> Option<&Memento>
     requires { IsStrictlySortedBy memento_cmp list.now }
     ensures { option_copied result ≡ nearest (set.from_list list.now) moment }
 {

@@ -49,7 +49,7 @@ fn copy_of(alloc: Global, memento: &Memento, shares: bool) -> Result<Memento, No
 ///
 /// If it showed nothing before, all of the list `after` begins, and the steps share its addresses. Otherwise no address
 /// that begins keeps the others in its buffer alive.
-pub fn steps_between(
+pub(crate) fn steps_between(
     alloc: Global,
     before: &[Memento],
     after: &[Memento],

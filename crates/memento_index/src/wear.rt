@@ -66,7 +66,7 @@ fn bytes_of(mementos: &[Memento]) -> usize {
 }
 
 /// How many bytes the addresses of steps have.
-pub fn bytes_of_steps(steps: &[Step]) -> usize {
+pub(crate) fn bytes_of_steps(steps: &[Step]) -> usize {
     let mut bytes: usize = 0;
     for step in steps {
         bytes = bytes.saturating_add(step.memento.uri.as_bytes().len());

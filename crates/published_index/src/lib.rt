@@ -2,6 +2,16 @@
 //!
 //! `open` makes both. What a gate has seen never goes back, and a gate that learnt the receipt of a publish serves each
 //! of its merges from then on.
+//!
+//! In four groups:
+//!
+//! - calls: `openings` (a merger and its gates), `mergers` (which publish), `gates` (which answer), `receipts` (by
+//!   which a gate learns of a publish) and `faults`;
+//! - what is published: `editions` (two copies that take turns) and `marks` (the log of publishes, and how much of it
+//!   was seen);
+//! - why it is right: `rules` (what the copies keep, step by step), `views` (what the rule knows about each reader
+//!   and about the writer), `asking` (a reader's step) and `writing` (the writer's);
+//! - laws: `laws` (of one gate's calls, and of the replies of two) and `pairs` (gates of two replicas).
 #![tactic(auto)]
 
 mod asking;

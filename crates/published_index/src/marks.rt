@@ -67,7 +67,7 @@ impl Rule<LogEntry, u64> for LogRule {
 }
 
 /// States that nothing is gained by adding an entry.
-pub struct NoGain;
+pub(crate) struct NoGain;
 
 impl Gain<LogEntry, u64> for NoGain {
     ghost use base.Fml.{ftrue};
@@ -89,7 +89,7 @@ impl NamesEntry for Brand {
 }
 
 /// Names the entry that the last attempt succeeded.
-pub struct SuccessEntry;
+pub(crate) struct SuccessEntry;
 
 impl NamesEntry for SuccessEntry {
     ghost use Rattle.published_index.specs.declared.marks.LogEntry.TheVariants.{Success};
@@ -98,7 +98,7 @@ impl NamesEntry for SuccessEntry {
 }
 
 /// A step that adds the named entry after all entries that were seen.
-pub struct Addition<B> {
+pub(crate) struct Addition<B> {
     of: PhantomData<B>,
 }
 

@@ -26,14 +26,14 @@ impl Outcome<Edition, ReaderView> for Entry {
 }
 
 /// The writer shows the other copy.
-pub struct Publication;
+pub(crate) struct Publication;
 
 impl Outcome<Edition, ReaderView> for Publication {
     ghost then = { Shows };
 }
 
 /// The writer tells everything that it knows, and still knows it.
-pub struct Telling;
+pub(crate) struct Telling;
 
 impl Split<ReaderView> for Telling {
     ghost left = { λ view. view };
@@ -42,7 +42,7 @@ impl Split<ReaderView> for Telling {
 }
 
 /// A new reader learns what the writer told.
-pub struct Learning;
+pub(crate) struct Learning;
 
 impl Join<ReaderView> for Learning {
     ghost both = { view_of_note };

@@ -1,9 +1,9 @@
-//! How trials make public calls while requests for memory are refused: each call is named as it is made. Where it is
+//! How probes make public calls while requests for memory are refused: each call is named as it is made. Where it is
 //! refused its name is told on standard error, what it was called on has to be as it was before, and the same call
 //! again has to succeed.
 //!
 //! A call's row is a case of an enum, whose name is the call's: `State::merge` is `StateMerge`, `read_url` is
-//! `ReadUrl`. `tests/memory/calls` finds the calls in the sources, so that none is without a row. An attempt gives
+//! `ReadUrl`. `tests/memory/calls.py` finds the calls in the sources, so that none is without a row. An attempt gives
 //! `None` where what the call is made on was refused.
 #![tactic(auto)]
 

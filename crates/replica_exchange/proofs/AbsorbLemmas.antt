@@ -1,5 +1,5 @@
 -- What a merge does to the stamps: its number goes to the keys of what is news, and no other entry changes.
-use Rattle.std.proofs.Common.{◌≡◌, ℕ, ◌+◌, Bool, true, false, ◌||◌, cond, ◌++◌, map, List, [], ◌∷◌, Option, Some, None, is_some, Result, Ok, Err, OnOk, OnErr, refl, sym, ap, subst, ◌∙◌, inl, inr}
+use Rattle.std.proofs.Common.{◌≡◌, ℕ, ◌+◌, Bool, true, false, ◌||◌, cond, ◌++◌, map, List, [], ◌∷◌, Option, Some, None, is_some, Result, Ok, Err, OnOk, refl, sym, ap, subst, ◌∙◌, inl, inr}
 use Rattle.std.specs.Prelude.{MatchOption, IfSome}
 use Rattle.std.specs.Result.{IsErrAnd}
 use Rattle.std.specs.Ordering.{eq_by_cmp}
@@ -14,6 +14,7 @@ use Rattle.harvest_lattice.specs.Knowledge.{lat}
 use Rattle.harvest_lattice.specs.News.{IsNews}
 use Rattle.harvest_lattice.specs.Rows.{row_key, row_entry}
 use Rattle.harvest_lattice.proofs.Entries.{entry_semilattice, at_most_from_join, get-join}
+use Rattle.harvest_lattice.proofs.RowLemmas.{joined_with_none}
 use Rattle.memento_index.specs.declared.merge.Merge.{Merge}
 use Rattle.memento_index.specs.Merges.{adds_of}
 use Rattle.replica_exchange.specs.Stamps.{Stamps, StampedState, IsRestamped, IsAbsorbed}
@@ -48,10 +49,6 @@ at_most_where_same : (o : Option Kept) (e : Kept) → join_values join_kept o (S
 at_most_where_same None e same = absurd (none-some e (sym same))
 at_most_where_same (Some a) e same = at_most_from_join e a (entry_semilattice.comm e a ∙ same_Some (join_kept a e) a same)
 
-alone : (o : Option Kept) → join_values join_kept o None ≡ o
-alone None = refl
-alone (Some a) = refl
-
 module _ (x y news : Entries) (is : IsNews x y news) where
   joined : (k : Key) (o : Option Kept) → fmap.get news k ≡ o → fmap.get (join x y) k ≡ join_values join_kept (fmap.get x k) o
   joined k o here = ap (λ (z : Entries). fmap.get z k) (sym is.whole) ∙ (get-join x news k ∙ ap (join_values join_kept (fmap.get x k)) here)
@@ -64,7 +61,7 @@ module _ (x y news : Entries) (is : IsNews x y news) where
 
   -- and where there is none it stays
   unchanged : (k : Key) → fmap.get news k ≡ None → fmap.get (join x y) k ≡ fmap.get x k
-  unchanged k none = joined k None none ∙ alone (fmap.get x k)
+  unchanged k none = joined k None none ∙ joined_with_none (fmap.get x k)
 
 -- a key is among those of rows where a row has it
 among_rows : (rows : List Row) (k : Key) → is_among (map row_key rows) k ≡ is_some (fmap.find key_cmp k (map row_entry rows))
@@ -108,10 +105,6 @@ get-restamped was keys number old made new view h g same stamped k =
     get-stamps_in new g k ∙ (stamped k ∙ ap (restamped keys number k) (same k ∙ (sym (get-stamps_in old h k) ∙ ap (λ (s : Stamps). fmap.get s k) view)))
 
 -- ---- a merge that is refused
-
-pub on_err : {T E P : Type 0} (r : Result T E) → P → OnErr r P
-on_err (Ok x) p = tt
-on_err (Err e) p = p
 
 pub ok_of_refused : {T : Type 0} (P : Type 0) (r : Result T StampFault) → IsErrAnd r (λ e. e ≡ OutOfMemory) → OnOk r P
 ok_of_refused P (Ok x) refused = absurd refused

@@ -15,7 +15,7 @@ use Rattle.replica_exchange.specs.declared.fault.StateFault.TheVariants.{TooLong
 use Rattle.replica_exchange.specs.Faults.{IsDeltaCause, longest_text}
 use Rattle.replica_exchange.specs.Spelling.{Spelling, Begins, Refuses, RefusesWhole, number}
 use Rattle.replica_exchange.specs.Parts.{stated, span, first_line}
-use Rattle.replica_exchange.proofs.SpellingLemmas.{Once, number_once}
+use Rattle.replica_exchange.proofs.SpellingLemmas.{Once, number_once, ended_apart}
 use Rattle.replica_exchange.proofs.Sequences.{Leaves, seq, seq_found, seq_first, seq_then, seq_once}
 use Rattle.replica_exchange.proofs.FormatLemmas.{format_once}
 use Rattle.replica_exchange.proofs.StateLemmas.{stated_is, stated_old, old_stated, new_stated, stated_once}
@@ -28,14 +28,11 @@ start_and_end = seq (number 32) (number 10)
 abbrev numbers : Spelling (ℕ × (ℕ × ℕ))
 numbers = seq (number 32) start_and_end
 
-parted : (a : List ℕ) (end : ℕ) (x : List ℕ) → a ++ end ∷ x ≡ (a ++ end ∷ []) ++ x
-parted a end x = sym (append_assoc a (end ∷ []) x)
-
 span_parts : (s : ℕ × (ℕ × ℕ)) → from_line s.0 s.1.0 s.1.1 ≡ codes "from " ++ numbers.spelled s
 span_parts s =
     ap (λ (u : List ℕ). codes "from " ++ u)
-    (parted (decimal s.0) 32 (decimal s.1.0 ++ 32 ∷ (decimal s.1.1 ++ 10 ∷ []))
-    ∙ ap (λ (u : List ℕ). (decimal s.0 ++ 32 ∷ []) ++ u) (parted (decimal s.1.0) 32 (decimal s.1.1 ++ 10 ∷ [])))
+    (ended_apart (decimal s.0) 32 (decimal s.1.0 ++ 32 ∷ (decimal s.1.1 ++ 10 ∷ []))
+    ∙ ap (λ (u : List ℕ). (decimal s.0 ++ 32 ∷ []) ++ u) (ended_apart (decimal s.1.0) 32 (decimal s.1.1 ++ 10 ∷ [])))
 
 span_whole : (text rest : List ℕ) (s : ℕ × (ℕ × ℕ)) → Begins span text s rest → text ≡ codes "from " ++ (numbers.spelled s ++ rest)
 span_whole text rest s begins = begins.whole ∙ (ap (λ (u : List ℕ). u ++ rest) (span_parts s) ∙ append_assoc (codes "from ") (numbers.spelled s) rest)

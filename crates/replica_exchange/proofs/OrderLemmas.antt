@@ -5,7 +5,7 @@ use Rattle.std.specs.Prelude.{◌==◌, IfSome, get_or}
 use Rattle.std.specs.List.{All, AllWithin, Contains, flat_map}
 use Rattle.std.specs.List.Sorted.{IsNonDecreasingBy, IsPermutation}
 use Rattle.std.specs.Ordering.{eq_by_cmp, is_eq}
-use Rattle.std.specs.Cmp.{Equal-is, tied_itself}
+use Rattle.std.specs.Cmp.{tied_itself}
 use Rattle.std.specs.FinMap as fmap
 use Rattle.std.specs.Prelude.{T}
 use Rattle.std.specs.Cmp.Lexicographic.{nat_list_cmp_total}
@@ -26,6 +26,7 @@ use Rattle.harvest_lattice.specs.declared.row.Row.{Row}
 use Rattle.harvest_lattice.specs.Lattice.{Key, key_cmp, Kept, Entries}
 use Rattle.harvest_lattice.specs.Rows.{row_entry, keys_rise, map_with}
 use Rattle.harvest_lattice.proofs.Entries.{key_cmp_total, key_cmp_exact}
+use Rattle.harvest_lattice.proofs.Knowledge.{same_key}
 use Rattle.memento_time.specs.Mementos.{text_cmp}
 use Rattle.replica_exchange.specs.declared.order.OrderRow.{OrderRow}
 use Rattle.replica_exchange.specs.declared.stamps.ChangedKey.{ChangedKey}
@@ -73,9 +74,6 @@ flat_all P Q f each [] all = All-nil Q
 flat_all P Q f each (x ∷ xs) all = All-append Q (f x) (flat_map f xs) (each x (All-head P x xs all)) (flat_all P Q f each xs (All-tail P x xs all))
 
 -- ---- rows that are added
-
-same_key : (k q : Key) → eq_by_cmp key_cmp k q ≡ true → k ≡ q
-same_key k q t = key_cmp_exact k q ((Equal-is (key_cmp k q)).0 t)
 
 abbrev stamp_of : ℕ × Key → ℕ
 stamp_of row = row.0

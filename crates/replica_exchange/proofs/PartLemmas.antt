@@ -1,6 +1,6 @@
 -- The lines of a state's text, part by part: what each reader has found or refused, and that it is the only reading.
 use Rattle.std.proofs.Common.{◌≡◌, ℕ, ◌<◌, ◌^◌, Bool, true, false, cond, List, [], ◌∷◌, ◌++◌, length, Option, None, Some, IsSome, refl, sym, ap, subst, ◌∙◌, append_assoc, arith}
-use Rattle.std.specs.Prelude.{T, codes, All}
+use Rattle.std.specs.Prelude.{codes, All}
 use Rattle.std.specs.List.{flat_map}
 use Rattle.std.specs.Fmt.{decimal}
 use Rattle.std.specs.FinMap as map
@@ -16,7 +16,7 @@ use Rattle.memento_sets.specs.Sets as set
 use Rattle.memento_sets.specs.MementoSets.{Mementos, mementos_rise, mementos_with}
 use Rattle.memento_sets.proofs.Sets.{items_sorted, from_list-items}
 use Rattle.memento_sets.proofs.Ordered.{sorted_marked, items_in_order}
-use Rattle.memento_sets.proofs.Rising.{rise_in_order}
+use Rattle.memento_sets.proofs.Rising.{rise_in_order, is_true}
 use Rattle.harvest_lattice.specs.Lattice.{Key, Kept, least, first_of, whole}
 use Rattle.harvest_lattice.specs.Parts.{kept_in, kept_with}
 use Rattle.harvest_lattice.proofs.Parts.{entries_in, whole_in}
@@ -27,12 +27,8 @@ use Rattle.replica_exchange.specs.StateText.{memento_lines, line_of_entry, whole
 use Rattle.replica_exchange.specs.StateText.{IsPart, IsEntry}
 use Rattle.replica_exchange.specs.Spelling.{Spelling, Begins, ended, field, number}
 use Rattle.replica_exchange.specs.Parts.{memento, IsWholeField, line_with, head, old_head, set_of, part_head, part, new_entry, old_entry, entry, many}
-use Rattle.replica_exchange.proofs.SpellingLemmas.{Once, number_once, whole_once, archive_once, original_once, uri_once}
+use Rattle.replica_exchange.proofs.SpellingLemmas.{Once, number_once, whole_once, archive_once, original_once, uri_once, ended_apart}
 use Rattle.replica_exchange.proofs.Sequences.{Leaves, seq, seq_found, seq_first, seq_then, seq_once, many_once, many_more, many_leaves}
-
--- a field, its end, and what follows
-parted : (a : List ℕ) (end : ℕ) (x : List ℕ) → a ++ end ∷ x ≡ (a ++ end ∷ []) ++ x
-parted a end x = sym (append_assoc a (end ∷ []) x)
 
 -- ---- a memento's line
 
@@ -42,7 +38,7 @@ second_and_uri = seq (number 32) (field IsClean 10)
 memento_parts : (text rest : List ℕ) (m : Memento) → Begins memento text m rest → Begins second_and_uri text (m.at, m.uri) rest
 memento_parts text rest m begins = record {
   is = (omega (arith, begins.is.at), begins.is.uri);
-  whole = begins.whole ∙ ap (λ (u : List ℕ). u ++ rest) (parted (decimal m.at) 32 (m.uri ++ 10 ∷ []));
+  whole = begins.whole ∙ ap (λ (u : List ℕ). u ++ rest) (ended_apart (decimal m.at) 32 (m.uri ++ 10 ∷ []));
 }
 
 -- a text that begins with a memento begins with its second
@@ -67,7 +63,7 @@ memento_found text mid rest uri at second first then =
     let both = seq_found (number 32) (field IsClean 10) text mid rest at uri first then in
     record {
       is = record { at = second; uri = then.is };
-      whole = both.whole ∙ ap (λ (u : List ℕ). u ++ rest) (sym (parted (decimal at) 32 (uri ++ 10 ∷ [])));
+      whole = both.whole ∙ ap (λ (u : List ℕ). u ++ rest) (sym (ended_apart (decimal at) 32 (uri ++ 10 ∷ [])));
     }
 
 pub memento_once : Once memento
@@ -83,11 +79,6 @@ set_lines count text rest s begins = record { is = begins.is; whole = begins.who
 -- they begin with so many lines
 pub set_leaves_mementos : (count : ℕ) (text : List ℕ) → Leaves (many count memento) (set_of count) text text
 set_leaves_mementos count text s rest begins = (set.items s, rest, set_lines count text rest s begins)
-
--- a test that holds
-pub is_true : (b : Bool) → T b → b ≡ true
-is_true true h = refl
-is_true false h = absurd h
 
 -- the items of a set stand in order
 items_rise : (s : Mementos) → mementos_rise (set.items s) ≡ true
@@ -135,7 +126,7 @@ abbrev part_numbers : Spelling (ℕ × ℕ)
 part_numbers = seq (number 32) (number 10)
 
 part_line_parts : (h : ℕ × ℕ) → part_line h.0 h.1 ≡ codes "at " ++ part_numbers.spelled h
-part_line_parts h = ap (λ (u : List ℕ). codes "at " ++ u) (parted (decimal h.0) 32 (decimal h.1 ++ 10 ∷ []))
+part_line_parts h = ap (λ (u : List ℕ). codes "at " ++ u) (ended_apart (decimal h.0) 32 (decimal h.1 ++ 10 ∷ []))
 
 part_head_whole : (text rest : List ℕ) (h : ℕ × ℕ) → Begins part_head text h rest → text ≡ codes "at " ++ (part_numbers.spelled h ++ rest)
 part_head_whole text rest h begins = begins.whole ∙ (ap (λ (u : List ℕ). u ++ rest) (part_line_parts h) ∙ append_assoc (codes "at ") (part_numbers.spelled h) rest)
@@ -247,10 +238,10 @@ module _ {A : Type 0} (Is : A → Type 0) (written : A → List ℕ) where
   line_parts : (h : Key × (A × ℕ)) → line_of_entry h.0 (written h.1.0) h.1.1 ≡ codes "entry " ++ archive_on.spelled (fields_of h)
   line_parts h =
       ap (λ (u : List ℕ). codes "entry " ++ u)
-      (parted h.0.0 32 (written h.1.0 ++ 32 ∷ (decimal h.1.1 ++ 32 ∷ (h.0.1 ++ 10 ∷ [])))
+      (ended_apart h.0.0 32 (written h.1.0 ++ 32 ∷ (decimal h.1.1 ++ 32 ∷ (h.0.1 ++ 10 ∷ [])))
       ∙ ap (λ (u : List ℕ). (h.0.0 ++ 32 ∷ []) ++ u)
-      (parted (written h.1.0) 32 (decimal h.1.1 ++ 32 ∷ (h.0.1 ++ 10 ∷ []))
-      ∙ ap (λ (u : List ℕ). (written h.1.0 ++ 32 ∷ []) ++ u) (parted (decimal h.1.1) 32 (h.0.1 ++ 10 ∷ []))))
+      (ended_apart (written h.1.0) 32 (decimal h.1.1 ++ 32 ∷ (h.0.1 ++ 10 ∷ []))
+      ∙ ap (λ (u : List ℕ). (written h.1.0 ++ 32 ∷ []) ++ u) (ended_apart (decimal h.1.1) 32 (h.0.1 ++ 10 ∷ []))))
 
   line_whole : (text rest : List ℕ) (h : Key × (A × ℕ)) → Begins (line_with Is written) text h rest → text ≡ codes "entry " ++ (archive_on.spelled (fields_of h) ++ rest)
   line_whole text rest h begins = begins.whole ∙ (ap (λ (u : List ℕ). u ++ rest) (line_parts h) ∙ append_assoc (codes "entry ") (archive_on.spelled (fields_of h)) rest)

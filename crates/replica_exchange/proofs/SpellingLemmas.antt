@@ -39,6 +39,10 @@ front_refused text front test rest whole =
 
 -- ---- a value and the byte that ends it
 
+-- a field and its end are apart from what follows
+pub ended_apart : (front : List ℕ) (end : ℕ) (rest : List ℕ) → front ++ end ∷ rest ≡ (front ++ end ∷ []) ++ rest
+ended_apart front end rest = sym (append_assoc front (end ∷ []) rest)
+
 module _ {A : Type 0} (Is : A → Type 0) (written : A → List ℕ) (byte : ℕ) where
   regrouped : (text : List ℕ) (v : A) (rest : List ℕ) → Begins (ended Is written byte) text v rest → text ≡ written v ++ byte ∷ rest
   regrouped text v rest begins = begins.whole ∙ append_assoc (written v) (byte ∷ []) rest

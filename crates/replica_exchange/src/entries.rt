@@ -304,7 +304,11 @@ fn is_end(text: &[u8]) -> bool
 }
 
 /// The entries from `entries N` to `end`, which nothing may follow.
-pub fn read_listing(alloc: Global, format: Format, text: &[u8]) -> Result<Vec<Row>, StateFault>
+pub(crate) fn read_listing(
+    alloc: Global,
+    format: Format,
+    text: &[u8],
+) -> Result<Vec<Row>, StateFault>
     ensures found { IfOk result (λ rows.
         Begins (listing format) text.now (map_list row_entry rows.items) []) }
     ensures refused { IfErr result (λ fault. RefusesWhole (listing format) text.now fault) }

@@ -7,7 +7,7 @@ use crate::fields::skip;
 
 /// How the entries of a text are written.
 #[derive(Clone, Copy, Debug, PartialEq, Eq)]
-pub enum Format {
+pub(crate) enum Format {
     /// Each entry with only its whole revision.
     One,
     /// Each entry with its whole revision, if there is one, and all its revisions.
@@ -15,7 +15,7 @@ pub enum Format {
 }
 
 /// The format of a text whose first line begins with this word, and what follows that line.
-pub fn read_format<'a>(text: &'a [u8], word: &[u8]) -> Result<(Format, &'a [u8]), StateFault>
+pub(crate) fn read_format<'a>(text: &'a [u8], word: &[u8]) -> Result<(Format, &'a [u8]), StateFault>
     ensures found { IfOk result (λ read. text.now ≡ first_line word.now read.0 ++ read.1.now) }
     ensures refused { IfErr result (λ fault. (fault ≡ StateFault.NotState)
         × ((format : Format) (rest : List ℕ) → ¬ (text.now ≡ first_line word.now format ++ rest))) }

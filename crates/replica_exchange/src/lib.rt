@@ -45,6 +45,14 @@
 //!
 //! For each peer, a receiver keeps a cursor, which says how far it knows that peer's merges (`Cursors`). It accepts a
 //! delta only if the delta starts at the beginning or within what the cursor reaches.
+//!
+//! In four groups:
+//!
+//! - what a replica knows: `stamped` (a state with the stamp of each entry), `stamps` (which are kept in slots) and
+//!   `order` (keys by their stamps);
+//! - what it hears: `cursor` (how far a peer's merges are known) and `delta` (what a peer has learnt since);
+//! - texts: `writing`; `reading`, with `entries` (of a state), `fields` (of a line) and `format` (which of the two);
+//! - `fault` (why bytes can't be read as a state) and `laws`.
 #![tactic(auto)]
 
 mod cursor;

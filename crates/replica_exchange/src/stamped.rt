@@ -60,6 +60,13 @@ impl From<NoMemory> for StampFault {
     }
 }
 
+/// The keys of the entries that a merge changes, and the merge's number, which becomes their stamp.
+#[derive(Clone, Copy)]
+struct Stamping<'a> {
+    keys: &'a [ChangedKey],
+    number: u64,
+}
+
 /// Makes room for the stamps of the keys, and has the index take in the changes. If memory is refused, the index and
 /// the stamps are as they were, but empty slots may have been made, and rows added to the order.
 fn put_with_room(
@@ -68,21 +75,21 @@ fn put_with_room(
     order: &mut StampOrder,
     alloc: Global,
     changes: Changes,
-    keys: &[ChangedKey],
-    number: u64,
+    stamping: &Stamping<'_>,
 ) -> Result<(), NoMemory>
     requires ordered { IsOrdered text_cmp stamps.old }
     requires news { AreNews index.old changes }
     ensures ok { OnOk result (index.new ≡ join index.old changes) }
     ensures err { OnErr result (index.new ≡ index.old) }
     ensures same { (k : Key) → filled (slot stamps.new k) ≡ filled (slot stamps.old k) }
-    ensures made { OnOk result (All (λ key. IsSome (slot stamps.new (key_of key))) keys.now) }
+    ensures made { OnOk result (All (λ key. IsSome (slot stamps.new (key_of key))) stamping.now.keys.now) }
     ensures ordered { IsOrdered text_cmp stamps.new }
-    ensures listed { OnOk result (order_of order.new ≡ order_of order.old ++ map_list (given_at number) keys.now) }
+    ensures listed { OnOk result (order_of order.new
+        ≡ order_of order.old ++ map_list (given_at stamping.now.number) stamping.now.keys.now) }
     ensures front { take (length (order_of order.old)) (order_of order.new) ≡ order_of order.old }
 {
-    order.add_all(keys, number)?;
-    make_rooms(stamps, alloc, keys)?;
+    order.add_all(stamping.keys, stamping.number)?;
+    make_rooms(stamps, alloc, stamping.keys)?;
     index.put(changes)
 }
 
@@ -210,14 +217,17 @@ impl Stamped {
         let held = self.index.state().len();
         self.order.make_place(&self.stamps, keys.len(), held);
         let listed = self.order.len();
+        let stamping = Stamping {
+            keys: &keys,
+            number,
+        };
         let taken = put_with_room(
             &mut self.index,
             &mut self.stamps,
             &mut self.order,
             self.alloc,
             changes,
-            &keys,
-            number,
+            &stamping,
         );
         match taken {
             Ok(()) => {

@@ -48,7 +48,7 @@ impl ChangedKey {
 }
 
 /// The keys of the rows. They remain when the rows are taken in.
-pub fn keys_of(alloc: Global, rows: &[Row]) -> Result<Vec<ChangedKey>, NoMemory>
+pub(crate) fn keys_of(alloc: Global, rows: &[Row]) -> Result<Vec<ChangedKey>, NoMemory>
     ensures { IfOk result (λ keys. map_list key_of keys.items ≡ map_list row_key rows.now) }
 {
     let mut keys = Vec::new(alloc);
@@ -153,7 +153,11 @@ impl StampShelf {
 pub type StampShelves = BTreeMap<ArchiveName, StampShelf>;
 
 /// The stamp of an archive and original.
-pub fn stamp_at(shelves: &StampShelves, archive: ArchiveName, original: &Original) -> Option<u64>
+pub(crate) fn stamp_at(
+    shelves: &StampShelves,
+    archive: ArchiveName,
+    original: &Original,
+) -> Option<u64>
     ensures { result ≡ filled (slot shelves.now (archive, original.now)) }
 {
     shelves.get(&archive)?.stamp(original)
@@ -198,7 +202,7 @@ fn make_room(
 }
 
 /// Makes a slot for each key.
-pub fn make_rooms(
+pub(crate) fn make_rooms(
     shelves: &mut StampShelves,
     alloc: Global,
     keys: &[ChangedKey],
@@ -230,7 +234,7 @@ fn drop_room(shelves: &mut StampShelves, archive: ArchiveName, original: &Origin
 
 /// Drops those slots of the keys that are empty, so that a merge that is refused leaves no copies of originals behind.
 /// The stamps stay as they are.
-pub fn drop_rooms(shelves: &mut StampShelves, keys: &[ChangedKey])
+pub(crate) fn drop_rooms(shelves: &mut StampShelves, keys: &[ChangedKey])
     requires ordered { IsOrdered text_cmp shelves.old }
     ensures same { (k : Key) → filled (slot shelves.new k) ≡ filled (slot shelves.old k) }
     ensures gone { All (λ key. ¬ (slot shelves.new (key_of key) ≡ Some None)) keys.now }
@@ -257,7 +261,7 @@ fn fill(shelves: &mut StampShelves, archive: ArchiveName, original: &Original, s
 }
 
 /// Puts a stamp into the slots of the keys. The slots exist.
-pub fn fill_all(shelves: &mut StampShelves, keys: &[ChangedKey], stamp: u64)
+pub(crate) fn fill_all(shelves: &mut StampShelves, keys: &[ChangedKey], stamp: u64)
     requires ordered { IsOrdered text_cmp shelves.old }
     requires room { All (λ key. IsSome (slot shelves.old (key_of key))) keys.now }
     ensures stamps { (k : Key)

@@ -1,5 +1,5 @@
 //! Writing a state or a delta as its text.
-ghost use Rattle.std.specs.Prelude.{◌≡◌, ◌+◌, ◌^◌, ◌<◌, ◌++◌, ◌∷◌, [], length, All, IfOk, IfSome, OnOk};
+ghost use Rattle.std.specs.Prelude.{◌≡◌, ◌^◌, ◌<◌, ◌++◌, ◌∷◌, [], length, All, IfOk, IfSome, OnOk};
 ghost use Rattle.std.specs.List.{flat_map, filter};
 ghost use Rattle.std.specs.Fmt.{decimal};
 ghost use Rattle.std.specs.FinMap as map;
@@ -146,37 +146,20 @@ fn write_entries(out: &mut Vec<u8>, state: &State) -> Result<(), AllocError>
     Ok(())
 }
 
-/// Adds one to the count if the entry's stamp is above the start.
-fn count_if_above(
-    count: usize,
-    all: usize,
-    stamped: &Stamped,
-    start: u64,
-    archive: ArchiveName,
-    original: &Original,
-    _entry: &Entry,
-) -> usize
-    requires { count < all }
-    ensures { result ≡ count
-        + length (filter (above stamped.now start) (((archive, original.now), _entry.now) ∷ [])) }
-{
-    if !stamped.is_above(archive, original, start) {
-        return count;
-    }
-    count + 1
-}
-
 /// How many entries have a stamp above the start.
 fn count_above(stamped: &Stamped, start: u64) -> u64
     ensures { result ≡ length (map.entries (entries_above stamped.now start)) }
 {
     let held = stamped.index().state();
-    let all = held.len();
+    // Called for its contract, which bounds how many entries there are.
+    let _all = held.len();
     let mut count = 0;
-    for ((archive, original), entry) in held.rows() {
-        count = count_if_above(count, all, stamped, start, archive, original, entry);
+    for ((archive, original), _) in held.rows() {
+        if stamped.is_above(archive, original, start) {
+            count += 1;
+        }
     }
-    count as u64
+    count
 }
 
 /// Writes the entry, if its stamp is above the start.

@@ -17,6 +17,14 @@ pub struct Asked {
     pub second: Answer,
 }
 
+/// A request that two replicas are asked.
+#[derive(Clone, Copy, Debug)]
+pub struct Question<'a> {
+    pub request: &'a Request,
+    pub first: usize,
+    pub second: usize,
+}
+
 /// Runs these events in a new world, and then asks two replicas the same. If both have learnt the same harvests and no
 /// delta is asked for, their replies are the same. So it says of the code what `replicas_agree` says of worlds.
 pub fn asked_after(
@@ -24,18 +32,17 @@ pub fn asked_after(
     replicas: usize,
     service: Service,
     events: &[Event],
-    request: &Request,
-    first: usize,
-    second: usize,
+    question: &Question<'_>,
 ) -> Result<Asked, NoMemory>
     requires { (1 ≤ replicas) × (replicas ≤ 16) }
-    ensures { IfOk result (AgreeAfter service replicas events.now request.now first second) }
+    ensures { IfOk result (AgreeAfter service replicas events.now question.now.request.now
+        question.now.first question.now.second) }
 {
     let mut world = World::new(alloc, replicas, service)?;
     let answers = world.run(events)?;
     Ok(Asked {
         answers,
-        first: world.ask(first, request),
-        second: world.ask(second, request),
+        first: world.ask(question.first, question.request),
+        second: world.ask(question.second, question.request),
     })
 }

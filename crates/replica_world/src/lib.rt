@@ -13,7 +13,7 @@ mod replaying;
 mod replica;
 mod world;
 
-pub use asked::{Asked, asked_after};
+pub use asked::{Asked, Question, asked_after};
 pub use read_back::{paged_timemaps_are_pages, timemaps_are_pages};
 pub use replaying::fault::ReplayFault;
 pub use replaying::laws::{

@@ -2,15 +2,15 @@
 
 mod command;
 mod devices;
-pub mod fault;
+pub(crate) mod fault;
 mod fields;
 mod form;
-pub mod laws;
+pub(crate) mod laws;
 mod output;
 mod perform;
-pub mod run;
+pub(crate) mod run;
 mod settled;
 mod start;
 mod texts;
-pub mod watched;
+pub(crate) mod watched;
 mod window;

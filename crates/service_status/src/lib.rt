@@ -5,6 +5,16 @@
 //! is. A `StatusBoard` is a status behind a lock, which the thread of the rounds tells what happens, and a `StatusGate`
 //! answers `/metrics` and `/health` by it. A `CountingGate` stands round a gate and counts its replies, for which it
 //! takes no lock.
+//!
+//! In three groups:
+//!
+//! - what is kept: `status` (the counts), `counts` (by how something ended), `board` (a status behind a lock) and
+//!   `memory` (how much the process holds);
+//! - what is replied: `gates` (of the status' address, and those whose replies are counted), `counters` (added to
+//!   without a lock) and `replies`;
+//! - what is written: `metrics` (which there are) and `writing` (their text).
+//!
+//! What follows from the definitions is in `laws`.
 #![tactic(auto)]
 
 mod board;

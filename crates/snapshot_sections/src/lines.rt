@@ -14,7 +14,7 @@ pub enum Line {
 }
 
 /// The line whose bytes before the LF these are.
-pub fn line_of(text: &[u8]) -> Option<Line>
+pub(crate) fn line_of(text: &[u8]) -> Option<Line>
     ensures found { IfSome result (λ line. text.now ++ 10 ∷ [] ≡ line_text line) }
     ensures fits { IfSome result IsLine }
 {

@@ -32,7 +32,7 @@ pub enum Route {
     Page(u64, Original),
 }
 
-pub fn is_head(request: &Request) -> bool
+pub(crate) fn is_head(request: &Request) -> bool
     ensures { result ≡ is_head request.now }
 {
     request.method.as_slice() == b"HEAD".as_slice()
@@ -86,7 +86,7 @@ fn delta_route(cursor: Option<Cursor>) -> Route
     }
 }
 
-pub fn is_timegate(request: &Request) -> bool
+pub(crate) fn is_timegate(request: &Request) -> bool
     ensures { result ≡ is_timegate request.now }
 {
     request.target.as_slice().starts_with(b"/timegate/")
@@ -149,7 +149,7 @@ fn map_route(alloc: Global, bytes: &[u8]) -> Result<Route, NoMemory>
 
 /// What the request asks for: the first refusal that fits, or else the TimeGate, the TimeMap or a page of it.
 #[tactic(auto, unfolding(crate::specs::Route::route_of))]
-pub fn route_of(alloc: Global, request: &Request) -> Result<Route, NoMemory>
+pub(crate) fn route_of(alloc: Global, request: &Request) -> Result<Route, NoMemory>
     ensures route { IfOk result (λ route. route ≡ route_of request.now) }
     ensures kept { IfOk result (λ route. IfSome (original_in route) IsAsked) }
 {

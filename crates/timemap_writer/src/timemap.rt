@@ -2,11 +2,12 @@
 ghost use Rattle.std.specs.Prelude.{◌≡◌, ◌==◌, ◌&&◌, not, ◌++◌, length, IfOk, OnOk, codes};
 ghost use Rattle.link_format.specs.Grammar.{IsTarget};
 ghost use Rattle.link_format.specs.Writing.{followed, joined, link_text};
-ghost use Rattle.timemap_writer.specs.TimeMap.{head_links, lines_text, timemap_text, gate_links};
-ghost use Rattle.timemap_writer.specs.Pages.{pages, IsPage, stretch, page_path, page_link, page_text, index_text};
+ghost use Rattle.timemap_writer.specs.TimeMap.{lines_text, timemap_text, gate_links};
+ghost use Rattle.timemap_writer.specs.Pages.{pages, IsPage, stretch, page_path, page_text, index_text};
 ghost use Rattle.timemap_writer.specs.Pages.{stretch_links};
+ghost use Rattle.timemap_writer.specs.Places.{head_at, page_link_at};
 
-use crate::lines::{push_memento, push_original, push_timegate, push_timemap};
+use crate::lines::{Place, push_memento, push_original, push_timegate, push_timemap};
 use crate::service::Service;
 use memento_time::{DateWriter, Memento, NoMemory, Original};
 use std::alloc::Global;
@@ -45,15 +46,12 @@ pub fn write_timemap(
 ) -> Result<Vec<u8>, NoMemory>
     ensures { IfOk result (λ text. text.items ≡ timemap_text service.now original.now mementos.now) }
 {
-    listing(
-        alloc,
+    let place = Place {
         service,
+        path: TIMEMAP_PATH,
         original,
-        TIMEMAP_PATH,
-        mementos,
-        true,
-        false,
-    )
+    };
+    listing(alloc, &place, mementos, true, false)
 }
 
 /// A page of an original's TimeMap, with the mementos of its stretch of the list. Only the first memento of the whole
@@ -70,8 +68,13 @@ pub fn write_page(
 {
     let path = page_path(alloc, page)?;
     let (first, more) = (page == 1, page < pages(mementos));
+    let place = Place {
+        service,
+        path: &path,
+        original,
+    };
     let stretch = stretch(mementos, page);
-    listing(alloc, service, original, &path, stretch, first, more)
+    listing(alloc, &place, stretch, first, more)
 }
 
 /// The index of the pages of an original's TimeMap, which takes the TimeMap's place. It has no mementos, but a link to
@@ -87,45 +90,35 @@ pub fn write_index(
     let count = pages(mementos);
     let mut text = Vec::with_capacity(alloc, index_size(service, original, count))?;
     let mut dates = DateWriter::new();
-    push_head(
-        &mut text,
-        alloc,
-        &mut dates,
+    let place = Place {
         service,
-        TIMEMAP_PATH,
+        path: TIMEMAP_PATH,
         original,
-        mementos,
-    )?;
+    };
+    push_head(&mut text, alloc, &mut dates, &place, mementos)?;
     for page in 1..count + 1 {
-        push_page(
-            &mut text, alloc, &mut dates, service, original, mementos, page,
-        )?;
+        push_page(&mut text, alloc, &mut dates, &place, mementos, page)?;
     }
     text.extend_from_slice(b"\n")?;
     Ok(text)
 }
 
-/// The text at this path that lists these mementos of the original. `first` says whether the first of them is the first
-/// of all, and `more` whether others follow the last.
+/// The text at this place that lists these mementos. `first` says whether the first of them is the first of all, and
+/// `more` whether others follow the last.
 fn listing(
     alloc: Global,
-    service: &Service,
-    original: &Original,
-    path: &[u8],
+    place: &Place<'_>,
     mementos: &[Memento],
     first: bool,
     more: bool,
 ) -> Result<Vec<u8>, NoMemory>
-    requires { IsTarget path.now }
-    ensures { IfOk result (λ text. text.items ≡ lines_text
-        (head_links service.now original.now (service.now ++ path.now ++ original.now) mementos.now
-        ++ stretch_links first more mementos.now)) }
+    requires { IsTarget place.now.path.now }
+    ensures { IfOk result (λ text. text.items
+        ≡ lines_text (head_at place.now mementos.now ++ stretch_links first more mementos.now)) }
 {
-    let mut text = Vec::with_capacity(alloc, listing_size(service, original, path, mementos))?;
+    let mut text = Vec::with_capacity(alloc, listing_size(place, mementos))?;
     let mut dates = DateWriter::new();
-    push_head(
-        &mut text, alloc, &mut dates, service, path, original, mementos,
-    )?;
+    push_head(&mut text, alloc, &mut dates, place, mementos)?;
     push_mementos(&mut text, &mut dates, first, more, mementos)?;
     text.extend_from_slice(b"\n")?;
     Ok(text)
@@ -159,50 +152,48 @@ fn page_path(alloc: Global, page: usize) -> Result<Vec<u8>, NoMemory>
     Ok(path)
 }
 
-/// Appends the lines at the head of a text that lists these mementos at this path.
+/// Appends the lines at the head of a text that lists these mementos at this place.
 fn push_head(
     out: &mut Vec<u8>,
     alloc: Global,
     dates: &mut DateWriter,
-    service: &Service,
-    path: &[u8],
-    original: &Original,
+    place: &Place<'_>,
     mementos: &[Memento],
 ) -> Result<(), NoMemory>
-    requires { IsTarget path.now }
-    ensures { OnOk result (out.new.items ≡ out.old.items ++ joined (codes ",\n")
-        (head_links service.now original.now (service.now ++ path.now ++ original.now) mementos.now)) }
+    requires { IsTarget place.now.path.now }
+    ensures { OnOk result (out.new.items
+        ≡ out.old.items ++ joined (codes ",\n") (head_at place.now mementos.now)) }
 {
-    push_original(out, original)?;
+    push_original(out, place.original)?;
     out.extend_from_slice(b",\n")?;
-    push_timegate(out, alloc, service, original)?;
+    push_timegate(out, alloc, place.service, place.original)?;
     out.extend_from_slice(b",\n")?;
-    push_timemap(
-        out, alloc, dates, b"self", service, path, original, mementos,
-    )?;
+    push_timemap(out, alloc, dates, b"self", place, mementos)?;
     Ok(())
 }
 
-/// Appends the index's line for a page, after a comma and the end of the line before.
+/// Appends the line for a page of the index at this place, after a comma and the end of the line before.
 fn push_page(
     out: &mut Vec<u8>,
     alloc: Global,
     dates: &mut DateWriter,
-    service: &Service,
-    original: &Original,
+    index: &Place<'_>,
     mementos: &[Memento],
     page: usize,
 ) -> Result<(), NoMemory>
     requires { IsPage mementos.now page }
-    ensures { OnOk result (out.new.items ≡ out.old.items ++ codes ",\n"
-        ++ link_text (page_link service.now original.now mementos.now page)) }
+    ensures { OnOk result (out.new.items
+        ≡ out.old.items ++ codes ",\n" ++ link_text (page_link_at index.now mementos.now page)) }
 {
     out.extend_from_slice(b",\n")?;
     let path = page_path(alloc, page)?;
+    let place = Place {
+        service: index.service,
+        path: &path,
+        original: index.original,
+    };
     let stretch = stretch(mementos, page);
-    push_timemap(
-        out, alloc, dates, b"timemap", service, &path, original, stretch,
-    )?;
+    push_timemap(out, alloc, dates, b"timemap", &place, stretch)?;
     Ok(())
 }
 
@@ -246,15 +237,10 @@ fn index_size(service: &Service, original: &Original, pages: usize) -> usize {
 
 /// How many bytes the text has, so that memory is asked for only once. If that exceeds every size, the allocator
 /// refuses.
-fn listing_size(
-    service: &Service,
-    original: &Original,
-    path: &[u8],
-    mementos: &[Memento],
-) -> usize {
-    let addresses = 2 * service.base().len() + 3 * original.as_bytes().len();
+fn listing_size(place: &Place<'_>, mementos: &[Memento]) -> usize {
+    let addresses = 2 * place.service.base().len() + 3 * place.original.as_bytes().len();
     mementos.iter().fold(
-        (LISTING_FRAME + addresses).saturating_add(path.len()),
+        (LISTING_FRAME + addresses).saturating_add(place.path.len()),
         |size, memento| {
             size.saturating_add(MEMENTO_FRAME)
                 .saturating_add(memento.uri.as_bytes().len())
@@ -277,15 +263,11 @@ pub fn write_gate_links(
     push_original(&mut text, original)?;
     text.extend_from_slice(b", ")?;
     let mut dates = DateWriter::new();
-    push_timemap(
-        &mut text,
-        alloc,
-        &mut dates,
-        b"timemap",
+    let place = Place {
         service,
-        TIMEMAP_PATH,
+        path: TIMEMAP_PATH,
         original,
-        mementos,
-    )?;
+    };
+    push_timemap(&mut text, alloc, &mut dates, b"timemap", &place, mementos)?;
     Ok(text)
 }

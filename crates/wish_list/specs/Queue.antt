@@ -1,5 +1,5 @@
 -- Wishes that wait to be granted, and those that were granted and aren't over.
-use Rattle.std.specs.Prelude.{◌≡◌, ℕ, ◌≤◌, Bool, true, false, not, ◌&&◌, List, [], ◌∷◌, length, map, position, bytes_eq, slice_get, slice_set, Option, Some, None, MatchOption}
+use Rattle.std.specs.Prelude.{◌≡◌, ℕ, ◌≤◌, Bool, true, false, not, ◌&&◌, ◌==◌, List, [], ◌∷◌, length, map, position, bytes_eq, slice_get, slice_set, Option, Some, None, MatchOption}
 use Rattle.std.specs.List.{list_any}
 use Rattle.wish_list.specs.declared.queue.Wish.{Wish}
 
@@ -17,6 +17,14 @@ isnt_of original wish = not (bytes_eq original wish.original)
 -- there is a wish for this original
 abbrev pub stands : List Wish → List ℕ → Bool
 stands wishes original = list_any (is_of original) wishes
+
+-- and was taken in this minute
+abbrev pub is_taken_in : List ℕ → ℕ → Wish → Bool
+is_taken_in original minute wish = is_of original wish && wish.minute == minute
+
+-- there is a wish for this original that was taken in this minute
+abbrev pub stands_from : List Wish → List ℕ → ℕ → Bool
+stands_from wishes original minute = list_any (is_taken_in original minute) wishes
 
 -- it isn't granted yet
 abbrev pub is_waiting : Wish → Bool

@@ -62,6 +62,16 @@ is_missed Failed = true
 is_missed Skipped = true
 is_missed Spared = false
 
+-- it was asked
+abbrev pub was_asked : Stage → Bool
+was_asked Waits = false
+was_asked Out = true
+was_asked Has = true
+was_asked HasNone = true
+was_asked Failed = true
+was_asked Skipped = false
+was_asked Spared = false
+
 -- how far an archive is that gave this
 abbrev pub stage_of : Answer → Stage
 stage_of Copies = Has
@@ -105,7 +115,11 @@ is_over stages = not (list_any is_open stages)
 
 -- what came of the wish
 abbrev pub outcome_of : List Stage → Outcome
-outcome_of stages = record { is_found = list_any has stages; is_whole = not (list_any is_missed stages) }
+outcome_of stages = record {
+  is_found = list_any has stages;
+  is_whole = not (list_any is_missed stages);
+  is_asked = list_any was_asked stages;
+}
 
 -- all that happens to the archives of a wish, from the time when it is granted
 abbrev pub IsRun : List Stage → List Act → List Stage → Type 0
@@ -122,16 +136,6 @@ asks archive (Skips other) = 0
 abbrev pub times_asked : ℕ → List Act → ℕ
 times_asked archive [] = 0
 times_asked archive (act ∷ acts) = asks archive act + times_asked archive acts
-
--- an archive at this stage was asked
-abbrev pub was_asked : Stage → Bool
-was_asked Waits = false
-was_asked Out = true
-was_asked Has = true
-was_asked HasNone = true
-was_asked Failed = true
-was_asked Skipped = false
-was_asked Spared = false
 
 -- Each archive is asked once or never, once where its stage says that it was: none is asked that is spared or skipped,
 -- and none twice.

@@ -2,7 +2,7 @@
 use Rattle.std.specs.Prelude.{ℕ, ◌-◌, ◌+◌, ◌^◌, min, Bool, true, false, not, ◌&&◌, ◌||◌, ◌==◌, List, [], ◌∷◌, ◌++◌, length, nat_lt, nat_le, ◌/◌, count_by}
 use Rattle.std.specs.Prelude.{Option, Some, None, if◌then◌else◌}
 use Rattle.original_sets.specs.Sets as set
-use Rattle.wish_list.specs.Queue.{is_unshown, most_wishes, stands}
+use Rattle.wish_list.specs.Queue.{is_unshown, most_wishes, stands, stands_from}
 use Rattle.wish_list.specs.Tables.{Seconds, asked, noted, second_of}
 use Rattle.wish_list.specs.declared.queue.Wish.{Wish}
 use Rattle.wish_list.specs.declared.wishes.Wishes.{Wishes}
@@ -28,11 +28,11 @@ has_room w is_shown =
 abbrev pub left_at : Wishes → ℕ → ℕ
 left_at w now = if now / 60 == w.minute then w.left else w.limits.in_a_minute
 
--- what becomes of a wish in this second for an original that rounds don't look after: the first of these that fits
-abbrev pub unlisted_decision : Wishes → List ℕ → Bool → ℕ → Decision
-unlisted_decision w original is_shown now =
-    if stands w.queue original then Waits
-    else if not (is_due (second_of (seconds_for w is_shown) original) w.limits.again now) then Fresh
+-- what becomes of a wish in this second for an original that is to be looked after: the first of these that fits
+abbrev pub due_decision : Wishes → List ℕ → Bool → ℕ → Decision
+due_decision w original is_shown now =
+    if is_shown && set.stands w.listed original then Listed
+    else if stands w.queue original then Waits
     else if not (has_room w is_shown) then Full
     else if left_at w now == 0 then Late
     else Added
@@ -40,17 +40,32 @@ unlisted_decision w original is_shown now =
 -- and of any wish
 abbrev pub decision : Wishes → List ℕ → Bool → ℕ → Decision
 decision w original is_shown now =
-    if is_shown && set.stands w.listed original then Listed else unlisted_decision w original is_shown now
+    if is_due (second_of (seconds_for w is_shown) original) w.limits.again now
+    then due_decision w original is_shown now
+    else Fresh
 
--- the queue then
-abbrev pub with_wish : Decision → List Wish → List ℕ → Bool → List Wish
-with_wish Added queue original is_shown =
-    queue ++ record { original = original; is_shown = is_shown; is_granted = false } ∷ []
-with_wish Waits queue original is_shown = queue
-with_wish Fresh queue original is_shown = queue
-with_wish Full queue original is_shown = queue
-with_wish Late queue original is_shown = queue
-with_wish Listed queue original is_shown = queue
+-- the original stands first then among those that are remembered
+abbrev pub is_use : Decision → Bool
+is_use Added = true
+is_use Waits = true
+is_use Fresh = true
+is_use Full = true
+is_use Late = true
+is_use Listed = false
+
+-- a wish that is taken in this second
+abbrev pub new_wish : List ℕ → Bool → ℕ → Wish
+new_wish original is_shown now =
+    record { original = original; is_shown = is_shown; is_granted = false; minute = now / 60 }
+
+-- the queue then, with this wish
+abbrev pub with_wish : Decision → List Wish → Wish → List Wish
+with_wish Added queue wish = queue ++ wish ∷ []
+with_wish Waits queue wish = queue
+with_wish Fresh queue wish = queue
+with_wish Full queue wish = queue
+with_wish Late queue wish = queue
+with_wish Listed queue wish = queue
 
 -- and how many more may be taken
 abbrev pub spent : Decision → ℕ → ℕ
@@ -60,6 +75,12 @@ spent Fresh left = left
 spent Full left = left
 spent Late left = left
 spent Listed left = left
+
+-- how many more may be taken in the minute of the last one, once the wish for an original is over: one more than
+-- before, if no archive was asked for it and it was taken in that minute
+abbrev pub left_after : Wishes → List ℕ → Bool → ℕ
+left_after w original is_asked =
+    if not is_asked && stands_from w.queue original w.minute then min (w.left + 1) w.limits.in_a_minute else w.left
 
 -- how many were turned away then
 abbrev pub turned_away : Decision → ℕ → ℕ

@@ -4,9 +4,8 @@ ghost use Rattle.std.specs.NonZero.{non_zero_usize_get};
 ghost use Rattle.lru.specs.LruCache.{lru_cache};
 ghost use Rattle.wish_list.specs.Queue.{Grants, PutsBack, is_waiting, isnt_of, most_wishes, stands};
 ghost use Rattle.wish_list.specs.Tables.{second_of};
-ghost use Rattle.original_sets.specs.Sets as set;
 ghost use Rattle.wish_list.specs.Wishing as spec;
-ghost use Rattle.wish_list.specs.Wishing.{asked_if, decision, unlisted_decision, has_room, left_at, noted_second, seconds_for, spent, with_note, with_wish};
+ghost use Rattle.wish_list.specs.Wishing.{asked_if, decision, due_decision, has_room, is_use, left_at, left_after, new_wish, noted_second, seconds_for, spent, with_note, with_wish};
 
 use crate::queue::{MOST_WISHES, Queue, Wish};
 use crate::table::Table;
@@ -97,21 +96,34 @@ impl Wishes {
         }
     }
 
-    /// What becomes of a wish for an original that rounds don't look after.
-    fn decision(&self, original: &Original, key: &Key, is_shown: bool, now: u64) -> Decision
+    /// What becomes of a wish for an original that is to be looked after.
+    fn due_decision(&self, original: &Original, key: &Key, is_shown: bool, now: u64) -> Decision
         requires { key.now ≡ original.now }
-        ensures { result ≡ unlisted_decision self.now original.now is_shown now }
+        ensures { result ≡ due_decision self.now original.now is_shown now }
     {
-        if self.queue.has(original) {
+        if is_shown && self.listed.has(key) {
+            Decision::Listed
+        } else if self.queue.has(original) {
             Decision::Waits
-        } else if !is_due(self.last(key, is_shown), self.limits.again, now) {
-            Decision::Fresh
         } else if !self.has_room(is_shown) {
             Decision::Full
         } else if self.left_at(now) == 0 {
             Decision::Late
         } else {
             Decision::Added
+        }
+    }
+
+    /// What becomes of a wish. Whether it is due comes first, since that is one look into a table: this is on the way
+    /// of each reader, and the queue may be long.
+    fn decision(&self, original: &Original, key: &Key, is_shown: bool, now: u64) -> Decision
+        requires { key.now ≡ original.now }
+        ensures { result ≡ decision self.now original.now is_shown now }
+    {
+        if is_due(self.last(key, is_shown), self.limits.again, now) {
+            self.due_decision(original, key, is_shown, now)
+        } else {
+            Decision::Fresh
         }
     }
 
@@ -124,9 +136,9 @@ impl Wishes {
     ) -> Result<Decision, NoMemory>
         ensures decision { IfOk result (λ it. it ≡ decision self.old original is_shown now) }
         ensures queue { OnOk result (self.new.queue
-            ≡ with_wish (decision self.old original is_shown now) self.old.queue original is_shown) }
+            ≡ with_wish (decision self.old original is_shown now) self.old.queue (new_wish original is_shown now)) }
         ensures shown { OnOk result (self.new.shown
-            ≡ asked_if (is_shown && not (set.stands self.old.listed original)) self.old.shown original) }
+            ≡ asked_if (is_shown && is_use (decision self.old original is_shown now)) self.old.shown original) }
         ensures unshown { self.new.unshown ≡ self.old.unshown }
         ensures limits { (self.new.limits ≡ self.old.limits) × (self.new.room ≡ self.old.room) }
         ensures listed { self.new.listed ≡ self.old.listed }
@@ -137,9 +149,6 @@ impl Wishes {
         ensures err { OnErr result (self.new ≡ self.old) }
     {
         let key = Key::new(&original)?;
-        if is_shown && self.listed.has(&key) {
-            return Ok(Decision::Listed);
-        }
         let decision = self.decision(&original, &key, is_shown, now);
         if decision == Decision::Added {
             self.add(original, is_shown, now)?;
@@ -147,7 +156,7 @@ impl Wishes {
         if decision == Decision::Full {
             self.turned_away = self.turned_away.saturating_add(1);
         }
-        if is_shown {
+        if is_shown && decision != Decision::Listed {
             self.shown.ask(&key);
         }
         Ok(decision)
@@ -157,8 +166,7 @@ impl Wishes {
     fn add(&mut self, original: Original, is_shown: bool, now: u64) -> Result<(), NoMemory>
         requires room { length self.old.queue + 1 ≤ most_wishes }
         requires new { stands self.old.queue original ≡ false }
-        ensures queue { OnOk result (self.new.queue
-            ≡ self.old.queue ++ record { original = original; is_shown = is_shown; is_granted = false } ∷ []) }
+        ensures queue { OnOk result (self.new.queue ≡ self.old.queue ++ new_wish original is_shown now ∷ []) }
         ensures left { OnOk result (left_at self.new now ≡ left_at self.old now - 1) }
         ensures rest { (self.new.shown ≡ self.old.shown) × (self.new.unshown ≡ self.old.unshown)
             × (self.new.limits ≡ self.old.limits) × (self.new.room ≡ self.old.room)
@@ -170,6 +178,7 @@ impl Wishes {
             original,
             is_shown,
             is_granted: false,
+            minute: now / 60,
         })?;
         self.minute = now / 60;
         self.left = left.saturating_sub(1);
@@ -220,10 +229,32 @@ impl Wishes {
         self.queue.put_back(original);
     }
 
-    /// Ends the wish for an original, if there is one.
-    pub fn end(&mut self, original: &Original)
-        ensures { self.new ≡ record self.old { queue = filter (isnt_of original.now) self.old.queue } }
+    /// How many more wishes may be taken in the minute of the last one, once the wish for an original is over.
+    fn left_after(&self, original: &Original, is_asked: bool) -> u64
+        ensures left { result ≡ left_after self.now original.now is_asked }
+        ensures most { result ≤ self.now.limits.in_a_minute }
     {
+        if is_asked || !self.queue.has_from(original, self.minute) {
+            return self.left;
+        }
+        if self.left < self.limits.in_a_minute {
+            self.left + 1
+        } else {
+            self.left
+        }
+    }
+
+    /// Ends the wish for an original, if there is one. A wish for which no archive was asked doesn't count: one more
+    /// may be taken in its minute, if no later one has begun.
+    pub fn end(&mut self, original: &Original, is_asked: bool)
+        ensures queue { self.new.queue ≡ filter (isnt_of original.now) self.old.queue }
+        ensures left { self.new.left ≡ left_after self.old original.now is_asked }
+        ensures rest { (self.new.shown ≡ self.old.shown) × (self.new.unshown ≡ self.old.unshown)
+            × (self.new.limits ≡ self.old.limits) × (self.new.room ≡ self.old.room)
+            × (self.new.listed ≡ self.old.listed) × (self.new.turned_away ≡ self.old.turned_away)
+            × (self.new.minute ≡ self.old.minute) }
+    {
+        self.left = self.left_after(original, is_asked);
         self.queue.end(original);
     }
 

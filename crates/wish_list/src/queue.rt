@@ -1,6 +1,6 @@
 //! Wishes that wait to be granted, and those that were granted and aren't over.
 ghost use Rattle.std.specs.Prelude.{◌≡◌, ◌++◌, ◌∷◌, [], ◌≤◌, ◌+◌, length, false, IfOk, IfNone, IfSome, OnOk, OnErr, count_by, position, filter};
-ghost use Rattle.wish_list.specs.Queue.{Grants, PutsBack, is_of, is_unshown, is_waiting, isnt_of, most_wishes, stands};
+ghost use Rattle.wish_list.specs.Queue.{Grants, PutsBack, is_of, is_taken_in, is_unshown, is_waiting, isnt_of, most_wishes, stands, stands_from};
 
 use memento_time::{NoMemory, Original};
 use std::alloc::Global;
@@ -17,6 +17,8 @@ pub struct Wish {
     pub is_shown: bool,
     /// Archives are being asked.
     pub is_granted: bool,
+    /// The minute in which it was taken.
+    pub minute: u64,
 }
 
 /// Wishes, the oldest first, none twice, and at most `MOST_WISHES`.
@@ -48,6 +50,12 @@ fn is_of(wish: &Wish, original: &Original) -> bool
     ensures { result ≡ is_of original.now wish.now }
 {
     *original == wish.original
+}
+
+fn is_taken_in(wish: &Wish, original: &Original, minute: u64) -> bool
+    ensures { result ≡ is_taken_in original.now minute wish.now }
+{
+    is_of(wish, original) && wish.minute == minute
 }
 
 /// The place of the wish for an original.
@@ -95,6 +103,15 @@ impl Queue {
         ensures { result ≡ stands self.now original.now }
     {
         self.wishes.iter().any(|wish| is_of(wish, original))
+    }
+
+    /// Whether there is a wish for an original that was taken in this minute.
+    pub fn has_from(&self, original: &Original, minute: u64) -> bool
+        ensures { result ≡ stands_from self.now original.now minute }
+    {
+        self.wishes
+            .iter()
+            .any(|wish| is_taken_in(wish, original, minute))
     }
 
     /// Adds a wish behind the others. There has to be room, and none for its original.

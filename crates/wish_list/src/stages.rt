@@ -46,6 +46,8 @@ pub struct Outcome {
     pub is_found: bool,
     /// Each archive gave a harvest, now or a short time ago.
     pub is_whole: bool,
+    /// An archive was asked.
+    pub is_asked: bool,
 }
 
 /// How far each archive is with a wish.
@@ -122,6 +124,15 @@ fn is_missed(stage: Stage) -> bool
     matches!(stage, Stage::Failed | Stage::Skipped)
 }
 
+fn was_asked(stage: Stage) -> bool
+    ensures { result ≡ spec.was_asked stage }
+{
+    matches!(
+        stage,
+        Stage::Out | Stage::Has | Stage::HasNone | Stage::Failed
+    )
+}
+
 fn any_is_open(list: &[Stage]) -> bool
     ensures { result ≡ list_any spec.is_open list.now }
 {
@@ -138,6 +149,12 @@ fn any_is_missed(list: &[Stage]) -> bool
     ensures { result ≡ list_any spec.is_missed list.now }
 {
     list.iter().any(|stage| is_missed(*stage))
+}
+
+fn any_was_asked(list: &[Stage]) -> bool
+    ensures { result ≡ list_any spec.was_asked list.now }
+{
+    list.iter().any(|stage| was_asked(*stage))
 }
 
 impl Stages {
@@ -241,6 +258,7 @@ impl Stages {
         Outcome {
             is_found: any_has(&self.list),
             is_whole: !any_is_missed(&self.list),
+            is_asked: any_was_asked(&self.list),
         }
     }
 }

@@ -13,7 +13,7 @@ pub struct Limits {
     pub remembered: NonZeroUsize,
     /// The seconds in which an original isn't looked after again.
     pub again: u64,
-    /// How many wishes are taken in one minute.
+    /// How many wishes are taken in one minute, without those for which no archive was asked.
     pub in_a_minute: u64,
 }
 

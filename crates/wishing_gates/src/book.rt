@@ -4,7 +4,7 @@ use original_sets::OriginalSet;
 use std::alloc::Global;
 use std::hash::RandomState;
 use std::sync::{Arc, Mutex, Wait};
-use wish_list::{Decision, Limits, Wishes};
+use wish_list::{Decision, Limits, Outcome, Wishes};
 
 /// Wishes that gates and the thread that hands out walks share, or a closed book, which takes none.
 #[derive(Drop)]
@@ -66,20 +66,20 @@ impl WishBook {
     }
 
     /// Ends a granted wish in this second, and notes whether something of its original is shown, and whether each
-    /// archive gave a harvest. Where memory is refused nothing is noted, and the original may be wished for again at
-    /// once.
+    /// archive gave a harvest. A wish for which no archive was asked doesn't count among those of its minute. Where
+    /// memory is refused nothing is noted, and the original may be wished for again at once.
     pub fn end<R: Wait>(
         &self,
         rt: &R,
         original: &Original,
         is_shown: bool,
-        is_whole: bool,
+        outcome: Outcome,
         now: u64,
     ) {
         if let Some(shared) = &self.shared {
             let mut wishes = shared.lock(rt);
-            let _ = wishes.note(original, is_shown, is_whole, now);
-            wishes.end(original);
+            let _ = wishes.note(original, is_shown, outcome.is_whole, now);
+            wishes.end(original, outcome.is_asked);
         }
     }
 

@@ -63,6 +63,8 @@ pub enum Key {
     Formats,
     /// Optional.
     Status,
+    /// Optional.
+    Together,
 }
 
 impl Key {
@@ -102,6 +104,7 @@ impl Key {
             Key::SnapshotEvery => "snapshot_every",
             Key::Formats => "formats",
             Key::Status => "status",
+            Key::Together => "together",
         }
     }
 
@@ -133,6 +136,7 @@ impl Key {
             Key::Wishes => (1, 60_000),
             Key::OriginalsFile | Key::Snapshot => (1, 4_096),
             Key::Formats => (0, 2),
+            Key::Together => (1, 256),
         }
     }
 }

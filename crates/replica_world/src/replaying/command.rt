@@ -166,7 +166,10 @@ fn command_of<'a>(
 
 /// The command at the front of a text, and the text after it. `None` if the line is bad.
 #[tactic(auto, unfolding(crate::specs::Script::command_at))]
-pub fn command_at(alloc: Global, text: &[u8]) -> Result<Option<(Command<'_>, &[u8])>, NoMemory>
+pub(crate) fn command_at(
+    alloc: Global,
+    text: &[u8],
+) -> Result<Option<(Command<'_>, &[u8])>, NoMemory>
     ensures { IfOk result (λ found. option_map (λ p. (command_view p.0, p.1.now)) found ≡ command_at text.now) }
 {
     let Some((line, rest)) = line(text) else {

@@ -9,7 +9,10 @@ use crate::replaying::watched::Watched;
 use std::io::Write;
 
 /// Writes all of the bytes, or a prefix of them if it fails.
-pub fn write_whole<W: Write>(writer: &mut Watched<W>, bytes: &[u8]) -> Result<(), ReplayFault>
+pub(crate) fn write_whole<W: Write>(
+    writer: &mut Watched<W>,
+    bytes: &[u8],
+) -> Result<(), ReplayFault>
     ensures ok { OnOk result (Appends (W.contents writer.old.device) (W.contents writer.new.device) bytes.now) }
     ensures err { OnErr result
         (AppendsBeginning (W.contents writer.old.device) (W.contents writer.new.device) bytes.now) }

@@ -11,10 +11,10 @@ use std::alloc::Global;
 use text_fields::{next_field, next_line, read_decimal};
 
 /// The most bytes of a line.
-pub const LONGEST_LINE: usize = 65_536;
+pub(crate) const LONGEST_LINE: usize = 65_536;
 
 /// The most bytes of a block.
-pub const LONGEST_BLOCK: u64 = 300_000_000;
+pub(crate) const LONGEST_BLOCK: u64 = 300_000_000;
 
 /// The first line, and what follows it.
 fn first_line(text: &[u8]) -> (&[u8], &[u8])
@@ -27,7 +27,7 @@ fn first_line(text: &[u8]) -> (&[u8], &[u8])
 }
 
 /// The text from its first non-empty line on.
-pub fn after_empty_lines(text: &[u8]) -> &[u8]
+pub(crate) fn after_empty_lines(text: &[u8]) -> &[u8]
     ensures text { result.now ≡ after_empty_lines text.now }
     ensures within { length result.now ≤ length text.now }
 {
@@ -39,7 +39,7 @@ pub fn after_empty_lines(text: &[u8]) -> &[u8]
 }
 
 /// A decimal, and what follows the space after it.
-pub fn number_field(text: &[u8]) -> Option<(u64, &[u8])>
+pub(crate) fn number_field(text: &[u8]) -> Option<(u64, &[u8])>
     ensures { option_map (λ p. (p.0, p.1.now)) result ≡ number_field text.now }
 {
     let (digits, rest) = next_field(text)?;
@@ -47,7 +47,7 @@ pub fn number_field(text: &[u8]) -> Option<(u64, &[u8])>
 }
 
 /// A word of at least one byte, and what follows the space after it.
-pub fn word_field(text: &[u8]) -> Option<(&[u8], &[u8])>
+pub(crate) fn word_field(text: &[u8]) -> Option<(&[u8], &[u8])>
     ensures { option_map (λ p. (p.0.now, p.1.now)) result ≡ word_field text.now }
 {
     let (word, rest) = next_field(text)?;
@@ -64,14 +64,14 @@ fn is_visible(byte: u8) -> bool
 }
 
 /// Whether each byte is a visible ASCII character.
-pub fn are_visible(text: &[u8]) -> bool
+pub(crate) fn are_visible(text: &[u8]) -> bool
     ensures { result ≡ list_all is_visible text.now }
 {
     text.iter().all(|byte| is_visible(*byte))
 }
 
 /// The bytes as text.
-pub fn utf8_text(bytes: &[u8]) -> Option<&str>
+pub(crate) fn utf8_text(bytes: &[u8]) -> Option<&str>
     ensures { option_map (λ text. text.now) result ≡ utf8_text bytes.now }
 {
     str::from_utf8(bytes).ok()
@@ -79,7 +79,7 @@ pub fn utf8_text(bytes: &[u8]) -> Option<&str>
 
 /// A block of `len` bytes, and what follows it.
 #[tactic(auto, unfolding(crate::specs::Fields::block_of))]
-pub fn block(len: u64, text: &[u8]) -> Option<(&[u8], &[u8])>
+pub(crate) fn block(len: u64, text: &[u8]) -> Option<(&[u8], &[u8])>
     ensures { option_map (λ p. (p.0.now, p.1.now)) result ≡ block_of len text.now }
 {
     if len > LONGEST_BLOCK || len > text.len() as u64 {
@@ -95,7 +95,7 @@ pub fn block(len: u64, text: &[u8]) -> Option<(&[u8], &[u8])>
 
 /// The first line and what follows it. `None` if there is no line, or if it has more than 65,536 bytes.
 #[tactic(auto, unfolding(crate::specs::Fields::line_of))]
-pub fn line(text: &[u8]) -> Option<(&[u8], &[u8])>
+pub(crate) fn line(text: &[u8]) -> Option<(&[u8], &[u8])>
     ensures { option_map (λ p. (p.0.now, p.1.now)) result ≡ line_of text.now }
 {
     if text.is_empty() {
@@ -109,7 +109,7 @@ pub fn line(text: &[u8]) -> Option<(&[u8], &[u8])>
 }
 
 /// Copies of `count` lines, and what follows them.
-pub fn lines(
+pub(crate) fn lines(
     alloc: Global,
     count: u64,
     text: &[u8],

@@ -14,7 +14,7 @@ const MOST_ASKED: u64 = 16;
 
 /// What the line of a command says.
 #[derive(Clone, Copy, Debug)]
-pub enum Form<'a> {
+pub(crate) enum Form<'a> {
     Take(TakeForm<'a>),
     Map(u64, &'a [u8]),
     Gate(u64, &'a [u8]),
@@ -31,23 +31,23 @@ pub enum Form<'a> {
 /// `take I ARCHIVE REVISION PAGEURL LENGTH ORIGINAL`, which takes a whole harvest, or the same after `takepart`, which
 /// takes a part harvest.
 #[derive(Clone, Copy, Debug)]
-pub struct TakeForm<'a> {
-    pub is_whole: bool,
-    pub replica: u64,
-    pub archive: &'a [u8],
-    pub revision: u64,
-    pub address: &'a [u8],
-    pub len: u64,
-    pub original: &'a [u8],
+pub(crate) struct TakeForm<'a> {
+    pub(crate) is_whole: bool,
+    pub(crate) replica: u64,
+    pub(crate) archive: &'a [u8],
+    pub(crate) revision: u64,
+    pub(crate) address: &'a [u8],
+    pub(crate) len: u64,
+    pub(crate) original: &'a [u8],
 }
 
 /// `ask I METHOD COUNT TARGET`.
 #[derive(Clone, Copy, Debug)]
-pub struct AskForm<'a> {
-    pub replica: u64,
-    pub method: &'a [u8],
-    pub count: u64,
-    pub target: &'a [u8],
+pub(crate) struct AskForm<'a> {
+    pub(crate) replica: u64,
+    pub(crate) method: &'a [u8],
+    pub(crate) count: u64,
+    pub(crate) target: &'a [u8],
 }
 
 #[tactic(auto, unfolding(crate::specs::Form::take_of))]
@@ -177,7 +177,7 @@ fn form_by_word<'a>(word: &[u8], fields: &'a [u8]) -> Option<Form<'a>>
 
 /// What a line says. `None` if it isn't a command.
 #[tactic(auto, unfolding(crate::specs::Form::form_of))]
-pub fn read_form(line: &[u8]) -> Option<Form<'_>>
+pub(crate) fn read_form(line: &[u8]) -> Option<Form<'_>>
     ensures { option_map form_view result ≡ form_of line.now }
 {
     let (word, fields) = next_field(line)?;

@@ -14,7 +14,7 @@ use std::marker::Model;
 
 /// Lines, followed by the body of a reply. The body is moved here, not copied, since a TimeMap can be long.
 #[derive(Drop)]
-pub struct Output {
+pub(crate) struct Output {
     lines: Vec<u8>,
     body: Octets,
 }
@@ -29,21 +29,21 @@ impl Model for Output {
 
 impl Output {
     /// Lines without a body.
-    pub fn of_lines(alloc: Global, lines: Vec<u8>) -> Output
+    pub(crate) fn of_lines(alloc: Global, lines: Vec<u8>) -> Output
         ensures { result ≡ lines.items }
     {
         Output::with_body(lines, Octets::of(Vec::new(alloc)))
     }
 
     /// Lines followed by a body.
-    pub fn with_body(lines: Vec<u8>, body: Octets) -> Output
+    pub(crate) fn with_body(lines: Vec<u8>, body: Octets) -> Output
         ensures { result ≡ lines.items ++ body }
     {
         Output { lines, body }
     }
 
     /// Writes all of the output, or a prefix of it if it fails.
-    pub fn write<W: Write>(&self, writer: &mut Watched<W>) -> Result<(), ReplayFault>
+    pub(crate) fn write<W: Write>(&self, writer: &mut Watched<W>) -> Result<(), ReplayFault>
         ensures ok { OnOk result (Appends (W.contents writer.old.device) (W.contents writer.new.device) self.now) }
         ensures err { OnErr result
             (AppendsBeginning (W.contents writer.old.device) (W.contents writer.new.device) self.now) }

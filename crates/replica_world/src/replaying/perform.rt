@@ -1,8 +1,8 @@
 //! Performs commands: what each does, and what it writes.
-ghost use Rattle.std.specs.Prelude.{◌≡◌, ◌∷◌, ◌<◌, ◌≤◌, length, IfOk, IsErrOf, MatchOption};
+ghost use Rattle.std.specs.Prelude.{◌≡◌, ◌∷◌, IfOk, IsErrOf, MatchOption};
 ghost use Rattle.std.specs.List.Sorted.{IsStrictlySortedBy};
 ghost use Rattle.memento_time.specs.Mementos.{memento_cmp};
-ghost use Rattle.memento_sets.specs.Sets as set;
+ghost use Rattle.harvest_lattice.specs.Making.{harvest_from, HasFewMementos, AreTooMany};
 ghost use Rattle.timemap_reader.specs.declared.page.Page.{Page as PageRead};
 ghost use Rattle.replica_world.specs.Output.{IsPage};
 ghost use Rattle.replica_world.specs.Performing.{IsHappening, IsHarvestTaken, IsPageTaken, IsPerformed};
@@ -57,17 +57,10 @@ fn harvest_of(
     original: &Original,
     mementos: Vec<Memento>,
 ) -> Result<Harvest, HarvestFault>
-    ensures kept { IfOk result
-        (λ h. h ≡ record {
-          archive = archive;
-          original = original.now;
-          revision = taking.now.revision;
-          is_whole = taking.now.is_whole;
-          mementos = set.from_list mementos.items;
-        }) }
-    ensures few { IfOk result (λ h. length (set.items h.mementos) ≤ Harvest.MAX_MEMENTOS) }
-    ensures too_many { IsErrOf result HarvestFault.TooMany
-        → Harvest.MAX_MEMENTOS < length (set.items (set.from_list {R = memento_cmp} mementos.items)) }
+    ensures kept { IfOk result (λ h. h ≡ harvest_from archive original.now
+        taking.now.revision taking.now.is_whole mementos.items) }
+    ensures few { IfOk result HasFewMementos }
+    ensures too_many { IsErrOf result HarvestFault.TooMany → AreTooMany mementos.items }
 {
     if taking.is_whole {
         Harvest::new(archive, original, taking.revision, mementos)
@@ -115,7 +108,11 @@ fn take(alloc: Global, world: &mut World, taking: &Taking<'_>) -> Result<Output,
 }
 
 /// Does what a command says, and returns what it writes.
-pub fn perform(alloc: Global, world: &mut World, command: &Command<'_>) -> Result<Output, NoMemory>
+pub(crate) fn perform(
+    alloc: Global,
+    world: &mut World,
+    command: &Command<'_>,
+) -> Result<Output, NoMemory>
     ensures { IfOk result (λ text. IsPerformed world.old (command_view command.now) text world.new) }
 {
     match command {

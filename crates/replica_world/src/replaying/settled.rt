@@ -11,7 +11,7 @@ use text_fields::next_line;
 
 /// What stands at the front of a text.
 #[derive(Clone, Copy, Debug, PartialEq, Eq)]
-pub enum Part {
+pub(crate) enum Part {
     /// The first line of a script.
     Start,
     /// A command, with its block or its lines.
@@ -89,7 +89,7 @@ fn is_command_settled(text: &[u8]) -> bool
 }
 
 /// Whether the part at the front of a text is whole, so that nothing that follows changes it.
-pub fn is_settled(part: Part, text: &[u8]) -> bool
+pub(crate) fn is_settled(part: Part, text: &[u8]) -> bool
     ensures settled { result ≡ true → IsSettled part text.now }
     ensures some { result ≡ true → 0 < length text.now }
 {

@@ -16,9 +16,9 @@ const MOST_REPLICAS: u64 = 16;
 
 /// The number of replicas and their service.
 #[derive(Debug, Drop)]
-pub struct Start {
-    pub replicas: usize,
-    pub service: Service,
+pub(crate) struct Start {
+    pub(crate) replicas: usize,
+    pub(crate) service: Service,
 }
 
 /// The service that a text names.
@@ -70,7 +70,7 @@ fn start_in(alloc: Global, line: &[u8]) -> Result<Option<Start>, NoMemory>
 
 /// What the first line of a text says, and the text after it. `None` if the line is bad.
 #[tactic(auto, unfolding(crate::specs::Script::start_at))]
-pub fn start_at(alloc: Global, text: &[u8]) -> Result<Option<(Start, &[u8])>, NoMemory>
+pub(crate) fn start_at(alloc: Global, text: &[u8]) -> Result<Option<(Start, &[u8])>, NoMemory>
     ensures found { IfOk result (λ found. option_map (λ p. (start_view p.0, p.1.now)) found ≡ start_at text.now) }
     ensures some { IfOk result (λ found. IfSome found (λ p. 1 ≤ p.0.replicas)) }
     ensures few { IfOk result (λ found. IfSome found (λ p. p.0.replicas ≤ 16)) }

@@ -11,7 +11,7 @@ use timegate::{Header, Reply};
 use timemap_reader::Page;
 
 /// The line of a refused command.
-pub fn refusal_text(alloc: Global, why: &str) -> Result<Output, NoMemory>
+pub(crate) fn refusal_text(alloc: Global, why: &str) -> Result<Output, NoMemory>
     ensures { IfOk result (λ text. text ≡ refusal_text why.now) }
 {
     let text = format!(in alloc; "refused {why}\n")?;
@@ -27,7 +27,7 @@ fn refusal_line(alloc: Global, why: Refused) -> Result<Vec<u8>, NoMemory>
 }
 
 /// The line of a page that was taken.
-pub fn taken_line(alloc: Global, page: &Page) -> Result<Vec<u8>, NoMemory>
+pub(crate) fn taken_line(alloc: Global, page: &Page) -> Result<Vec<u8>, NoMemory>
     ensures { IfOk result (λ text. text.items ≡ taken_line page.now) }
 {
     let mementos = page.mementos.as_slice().len();
@@ -78,7 +78,7 @@ fn reply_text(alloc: Global, reply: Reply) -> Result<Output, NoMemory>
 }
 
 /// The line of an event whose answer has neither a number nor a reply.
-pub fn accepted_line(event: &Event) -> &'static [u8]
+pub(crate) fn accepted_line(event: &Event) -> &'static [u8]
     ensures { result.now ≡ accepted_line event.now }
 {
     match event {
@@ -90,7 +90,7 @@ pub fn accepted_line(event: &Event) -> &'static [u8]
 }
 
 /// What is written for an answer. Nothing if memory ran out.
-pub fn answer_text(
+pub(crate) fn answer_text(
     alloc: Global,
     accepted: &[u8],
     answer: Result<Said, Refused>,

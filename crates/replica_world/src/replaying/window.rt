@@ -48,7 +48,7 @@ fn remove_front(bytes: &mut Vec<u8>, count: usize)
 
 /// The bytes that were read and aren't used yet. They stand at the end of a buffer that is used again.
 #[derive(Debug, Drop)]
-pub struct Window {
+pub(crate) struct Window {
     buffer: Vec<u8>,
     start: usize,
     lines: u64,
@@ -74,7 +74,7 @@ impl Model for Window {
 
 impl Window {
     /// Nothing was read.
-    pub fn new(alloc: Global) -> Window
+    pub(crate) fn new(alloc: Global) -> Window
         ensures { result ≡ nothing_held }
     {
         Window {
@@ -87,14 +87,14 @@ impl Window {
     }
 
     /// The bytes.
-    pub fn bytes(&self) -> &[u8]
+    pub(crate) fn bytes(&self) -> &[u8]
         ensures { result.now ≡ self.now.bytes }
     {
         &self.buffer[self.start..]
     }
 
     /// The number of the line at which they begin, counted from 1.
-    pub fn line_number(&self) -> u64
+    pub(crate) fn line_number(&self) -> u64
         ensures { result ≡ 1 + self.now.lines }
     {
         1 + self.lines
@@ -116,7 +116,7 @@ impl Window {
     }
 
     /// Uses all but the last `left` bytes.
-    pub fn keep(&mut self, left: usize)
+    pub(crate) fn keep(&mut self, left: usize)
         requires { left ≤ length self.old.bytes }
         ensures drops { Drops self.old self.new }
         ensures left { length self.new.bytes ≡ left }
@@ -229,7 +229,7 @@ fn read_part<R: Read, W: Write>(
 }
 
 /// Has the part at the front whole, or the end seen. A buffer for pieces is set up only where one has to be read.
-pub fn await_part<R: Read, W: Write>(
+pub(crate) fn await_part<R: Read, W: Write>(
     part: Part,
     window: &mut Window,
     reader: &mut Watched<R>,

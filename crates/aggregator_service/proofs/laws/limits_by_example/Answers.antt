@@ -80,4 +80,7 @@ returns c = record {
   snapshot_every = ((omega arith, omega arith), λ within. omega (arith, within.1));
   no_format = (omega arith, omega arith);
   formats = ((omega arith, omega arith), λ within. omega (arith, within.1));
+  none_together = λ within. omega (arith, within.0);
+  one_together = (omega arith, omega arith);
+  together = ((omega arith, omega arith), λ within. omega (arith, within.1));
 }

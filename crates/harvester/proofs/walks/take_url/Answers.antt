@@ -14,11 +14,11 @@ returns-in-Ok-clause-goes g c =
     goes_with (g.F.Fetch.answers c.args.fetcher.now) (g.F.Fetch.faults c.args.fetcher.now) (g.K.Record.stands_for c.fetch_page.new.kept) c.args.job.now into.new into.kept
     c.args.tried.now.lost.items c.add_page.new.known.items (c.args.next + 1) c.add_page.new.mementos.items c.add_page.result
     (page_stands (g.F.Fetch.answers c.args.fetcher.now) (g.F.Fetch.faults c.args.fetcher.now) c.args.job.now was.entries c.args.tried.now.lost.items
-    c.args.known.now.items c.args.next c.args.mementos.now.items was.stands was.given c.requires.within c.index-url.result.now c.index-url.ensures into.new
+    c.args.found.now.known.items c.args.next c.args.found.now.mementos.items was.stands was.given c.requires.within c.index-url.result.now c.index-url.ensures into.new
     c.in-Ok.page into.fetches c.add_page.new.known.items c.add_page.new.mementos.items c.add_page.result e.known e.few_urls e.united e.few_mementos)
     (on_any_ok c.add_page.result
     (given_after (g.F.Fetch.answers c.args.fetcher.now) (g.F.Fetch.faults c.args.fetcher.now) c.args.job.now was.entries c.args.tried.now.lost.items
-    c.args.known.now.items c.args.next c.args.mementos.now.items was.stands was.given c.requires.within c.index-url.result.now c.index-url.ensures into.new
+    c.args.found.now.known.items c.args.next c.args.found.now.mementos.items was.stands was.given c.requires.within c.index-url.result.now c.index-url.ensures into.new
     (Ok c.in-Ok.page) into.fetches))
 
 pub returns-in-Ok-clause-err : goal.returns-in-Ok-clause-err
@@ -29,7 +29,7 @@ returns-in-Ok-clause-err g c =
     ends_with (g.F.Fetch.answers c.args.fetcher.now) (g.F.Fetch.faults c.args.fetcher.now) (g.K.Record.stands_for c.fetch_page.new.kept) c.args.job.now into.new into.kept
     c.args.tried.now.lost.items c.add_page.result
     (page_err (g.F.Fetch.answers c.args.fetcher.now) (g.F.Fetch.faults c.args.fetcher.now) c.args.job.now was.entries c.args.tried.now.lost.items
-    c.args.known.now.items c.args.next c.args.mementos.now.items was.stands was.given c.requires.within c.index-url.result.now c.index-url.ensures into.new
+    c.args.found.now.known.items c.args.next c.args.found.now.mementos.items was.stands was.given c.requires.within c.index-url.result.now c.index-url.ensures into.new
     c.in-Ok.page into.fetches c.add_page.result e.many_urls e.many_mementos e.err)
 
 pub returns-in-Err-clause-goes : goal.returns-in-Err-clause-goes
@@ -38,13 +38,13 @@ returns-in-Err-clause-goes g c =
     let was = c.requires.goes in
     let into = c.in-Err.ensures.fetches was.entries was.kept in
     goes_with (g.F.Fetch.answers c.args.fetcher.now) (g.F.Fetch.faults c.args.fetcher.now) (g.K.Record.stands_for c.fetch_page.new.kept) c.args.job.now into.new into.kept
-    c.lose.new.lost.items c.args.known.now.items (c.args.next + 1) c.args.mementos.now.items c.lose.result
+    c.lose.new.lost.items c.args.found.now.known.items (c.args.next + 1) c.args.found.now.mementos.items c.lose.result
     (loss_stands (g.F.Fetch.answers c.args.fetcher.now) (g.F.Fetch.faults c.args.fetcher.now) c.args.job.now was.entries c.args.tried.now.lost.items
-    c.args.known.now.items c.args.next c.args.mementos.now.items was.stands was.given c.requires.within c.index-url.result.now c.index-url.ensures into.new
+    c.args.found.now.known.items c.args.next c.args.found.now.mementos.items was.stands was.given c.requires.within c.index-url.result.now c.index-url.ensures into.new
     c.in-Err.fault into.fetches c.lose.new.lost.items c.lose.result e.lost e.further e.goes_on)
     (on_any_ok c.lose.result
     (given_after (g.F.Fetch.answers c.args.fetcher.now) (g.F.Fetch.faults c.args.fetcher.now) c.args.job.now was.entries c.args.tried.now.lost.items
-    c.args.known.now.items c.args.next c.args.mementos.now.items was.stands was.given c.requires.within c.index-url.result.now c.index-url.ensures into.new
+    c.args.found.now.known.items c.args.next c.args.found.now.mementos.items was.stands was.given c.requires.within c.index-url.result.now c.index-url.ensures into.new
     (Err c.in-Err.fault) into.fetches))
 
 pub returns-in-Err-clause-err : goal.returns-in-Err-clause-err
@@ -55,5 +55,5 @@ returns-in-Err-clause-err g c =
     ends_with (g.F.Fetch.answers c.args.fetcher.now) (g.F.Fetch.faults c.args.fetcher.now) (g.K.Record.stands_for c.fetch_page.new.kept) c.args.job.now into.new into.kept
     c.lose.new.lost.items c.lose.result
     (loss_err (g.F.Fetch.answers c.args.fetcher.now) (g.F.Fetch.faults c.args.fetcher.now) c.args.job.now was.entries c.args.tried.now.lost.items
-    c.args.known.now.items c.args.next c.args.mementos.now.items was.stands was.given c.requires.within c.index-url.result.now c.index-url.ensures into.new
+    c.args.found.now.known.items c.args.next c.args.found.now.mementos.items was.stands was.given c.requires.within c.index-url.result.now c.index-url.ensures into.new
     c.in-Err.fault into.fetches c.lose.new.lost.items c.lose.result e.same e.err)

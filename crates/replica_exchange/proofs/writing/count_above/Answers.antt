@@ -8,14 +8,14 @@ use Rattle.replica_exchange.specs.Stamps.{above}
 use Rattle.replica_exchange.proofs.StampLemmas.{entries_filtered}
 use Rattle.replica_exchange.proofs.writing.count_above.Goals as goal
 
-pub count_if_above-count-requires : goal.count_if_above-count-requires
-count_if_above-count-requires c =
+pub overflow_add-count : goal.overflow_add-count
+overflow_add-count c =
     let start = c.into_iter-archive-iterator.ensures.into_iter_gives ∙ c.rows-archive-items.ensures in
     let turn = iter_turn lent_entry _ c.loop-archive.yielded _ _ _ _ start c.loop-archive.yielded_by _ c.in-Some.is c.next.ensures.steps in
     let few = c.loop-archive.invariant.few in
     let all : c.len-all.result ≡ length (fmap.entries c.state-held.result.now) = c.len-all.ensures ∙ fmap.len-entries c.state-held.result.now in
     let less = turn.0 in
-    omega (arith, few, all, less)
+    omega (arith, few, all, less, c.len-all.type_inv)
 
 pub returns : goal.returns
 returns c =

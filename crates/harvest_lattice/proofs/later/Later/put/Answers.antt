@@ -1,13 +1,10 @@
-use Rattle.std.proofs.Common.{◌≡◌, ℕ, ◌∷◌, ◌++◌, List, take, drop, true, false, OnOk, Result, Ok, Err, sym, ap, subst, ◌∙◌}
+use Rattle.std.proofs.Common.{◌≡◌, ℕ, ◌∷◌, ◌++◌, List, take, drop, true, false, sym, ap, subst, ◌∙◌}
 use Rattle.std.specs.Prelude.{slice_get}
+use Rattle.std.proofs.lemmas.Result.{on_ok_weaker}
 use Rattle.memento_sets.specs.MementoSets.{Mementos}
 use Rattle.harvest_lattice.specs.Parts.{IsPlace, is_of, united_at}
 use Rattle.harvest_lattice.proofs.PartLists.{united_placed, inserted_placed}
 use Rattle.harvest_lattice.proofs.later.Later.put.Goals as goal
-
-on_ok : {T E P Q : Type 0} (r : Result T E) → (P → Q) → OnOk r P → OnOk r Q
-on_ok (Ok x) f h = f h
-on_ok (Err e) f h = tt
 
 pub returns-then-has_at-clause-ok : goal.returns-then-has_at-clause-ok
 returns-then-has_at-clause-ok c =
@@ -18,7 +15,7 @@ returns-then-has_at-clause-ok c =
     (subst (λ (xs : List (ℕ × Mementos)). IsPlace xs c.revision.result k) c.as_slice.ensures
     c.count_below-place.ensures.place) in
     let here : is_of p.0 (slice_get es k) ≡ true = ap (λ r. is_of r (slice_get es k)) (sym c.revision-2.ensures) ∙ (sym c.has_at.ensures ∙ c.if-has_at.true) in
-    on_ok c.unite.result (λ is. is ∙ (ap (united_at es k) c.into_set.ensures ∙ united_placed es k p place here)) c.unite.ensures.ok
+    on_ok_weaker c.unite.result (λ is. is ∙ (ap (united_at es k) c.into_set.ensures ∙ united_placed es k p place here)) c.unite.ensures.ok
 
 pub returns-clause-ok : goal.returns-clause-ok
 returns-clause-ok c =
@@ -30,5 +27,5 @@ returns-clause-ok c =
     c.count_below-place.ensures.place) in
     let none : is_of p.0 (slice_get es k) ≡ false = ap (λ r. is_of r (slice_get es k)) (sym c.revision-2.ensures)
     ∙ (sym c.has_at.ensures ∙ c.if-has_at.false) in
-    on_ok c.insert.result (λ is. is ∙ (ap (λ (q : ℕ × Mementos). take k es ++ q ∷ drop k es) c.in_ok-placed.ensures
+    on_ok_weaker c.insert.result (λ is. is ∙ (ap (λ (q : ℕ × Mementos). take k es ++ q ∷ drop k es) c.in_ok-placed.ensures
     ∙ inserted_placed es k p place none)) c.insert.ensures.ok

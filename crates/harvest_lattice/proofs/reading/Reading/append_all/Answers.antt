@@ -1,18 +1,15 @@
-use Rattle.std.proofs.Common.{◌++◌, OnOk, Result, Ok, Err, sym, ap, ◌∙◌, append_assoc}
+use Rattle.std.proofs.Common.{◌++◌, sym, ap, ◌∙◌, append_assoc}
+use Rattle.std.proofs.lemmas.Result.{on_ok_weaker}
 use Rattle.memento_sets.specs.Sets as set
 use Rattle.harvest_lattice.specs.Knowledge.{items_of}
 use Rattle.harvest_lattice.proofs.Parts.{entries_of_it}
 use Rattle.harvest_lattice.proofs.reading.Reading.append_all.Goals as goal
 
-on_ok : {T E P Q : Type 0} (r : Result T E) → (P → Q) → OnOk r P → OnOk r Q
-on_ok (Ok x) f h = f h
-on_ok (Err e) f h = tt
-
 pub returns : goal.returns
 returns c =
     let e = c.self.inside in
     let list = c.args.list.now.items in
-    on_ok c.append_parts.result (λ is.
+    on_ok_weaker c.append_parts.result (λ is.
     is ∙ (ap (λ ms. ms ++ items_of e.later.now) (c.in_ok-append_copies.ensures ∙ ap (λ ms. list ++ ms) c.mementos.ensures)
     ∙ (append_assoc list (set.items e.first.now.1) (items_of e.later.now)
     ∙ ap (λ es. list ++ items_of es) (sym

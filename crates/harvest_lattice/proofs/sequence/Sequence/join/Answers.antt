@@ -1,19 +1,16 @@
-use Rattle.std.proofs.Common.{◌≡◌, ℕ, ◌<◌, ◌∷◌, ◌||◌, [], List, Bool, Option, OnOk, Result, Ok, Err}
+use Rattle.std.proofs.Common.{◌≡◌, ℕ, ◌<◌, ◌∷◌, ◌||◌, [], List, Bool, Option}
 use Rattle.std.proofs.Common.{refl, sym, ap, subst, ◌∙◌, arith}
 use Rattle.std.specs.Cmp.{ranked}
 use Rattle.std.specs.Ordering.{nat_cmp}
 use Rattle.std.specs.declared.cmp.Ordering.{Ordering}
 use Rattle.std.specs.declared.cmp.Ordering.TheVariants.{Less, Equal, Greater}
+use Rattle.std.proofs.lemmas.Result.{on_ok_weaker}
 use Rattle.memento_sets.specs.MementoSets.{Mementos}
 use Rattle.harvest_lattice.specs.Lattice.{Kept, whole, not_before}
 use Rattle.harvest_lattice.specs.Parts.{PartsRise, kept_in, put_part}
 use Rattle.harvest_lattice.proofs.Entries.{unite}
 use Rattle.harvest_lattice.proofs.PartLists.{older_joined, comes_first, comes_to_first, comes_behind, join_from_later, after_either}
 use Rattle.harvest_lattice.proofs.sequence.Sequence.join.Goals as goal
-
-on_ok : {T E P Q : Type 0} (r : Result T E) → (P → Q) → OnOk r P → OnOk r Q
-on_ok (Ok x) f h = f h
-on_ok (Err e) f h = tt
 
 -- what the test of the whole revision told
 told : (m n : Kept) (b v : Bool) (w : Option ℕ) (q r : ℕ) → b ≡ not_before w q → w ≡ whole n → n ≡ m → q ≡ r → b ≡ v
@@ -114,5 +111,5 @@ returns-in-Greater-2-clause-ok c =
     let p = c.args.part in
     let b = kept_in w p [] in
     let lt : e.first.0 < p.0 = higher _ _ _ _ _ c.cmp.ensures c.in-Greater-2.is c.revision-2.ensures c.revision-3.ensures in
-    on_ok c.put.result (λ is. ap (kept_in e.is_whole e.first) is
+    on_ok_weaker c.put.result (λ is. ap (kept_in e.is_whole e.first) is
     ∙ (comes_behind e.is_whole w e.first p e.later c.args.self.now b c.self.view_is refl c.self.invariant c.if-is_whole.false lt).1) c.put.ensures.ok

@@ -1,20 +1,17 @@
-use Rattle.std.proofs.Common.{◌≡◌, ◌∷◌, ◌++◌, List, ℕ, IfOk, Result, Ok, Err, map as map_list, sym, ap, ◌∙◌}
+use Rattle.std.proofs.Common.{◌≡◌, ◌∷◌, ◌++◌, List, ℕ, map as map_list, sym, ap, ◌∙◌}
 use Rattle.std.specs.Arc.{arc_value}
 use Rattle.memento_sets.specs.MementoSets.{Mementos}
 use Rattle.std.specs.FinMap as map
 use Rattle.harvest_lattice.specs.Knowledge.{items_of, union_all}
+use Rattle.harvest_lattice.proofs.Outcomes.{if_ok_shows}
 use Rattle.harvest_lattice.proofs.Parts.{entries_of_it}
 use Rattle.harvest_lattice.proofs.ShownLemmas.{shown_of_all}
 use Rattle.harvest_lattice.proofs.sequence.Sequence.shown.Goals as goal
 
-on_ok : {T E V : Type 0} (f : T → V) {a b : V} (r : Result T E) → a ≡ b → IfOk r (λ x. f x ≡ a) → IfOk r (λ x. f x ≡ b)
-on_ok f (Ok x) same is = is ∙ same
-on_ok f (Err e) same is = tt
-
 pub returns-in-Some : goal.returns-in-Some
 returns-in-Some c =
     let e = c.self.inside in
-    on_ok (λ x. arc_value x) c.share.result
+    if_ok_shows (λ x. arc_value x) c.share.result
     (c.in-Some.ensures ∙ (ap (λ (es : List (ℕ × Mementos)). union_all (map_list (λ (p : ℕ × Mementos). p.1) (e.first ∷ es))) c.as_slice.ensures
     ∙ ap (λ (es : List (ℕ × Mementos)). union_all (map_list (λ (p : ℕ × Mementos). p.1) es))
     (sym (entries_of_it e.is_whole e.first e.later c.args.self.now c.self.view_is c.self.invariant))))

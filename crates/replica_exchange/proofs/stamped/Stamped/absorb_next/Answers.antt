@@ -1,7 +1,8 @@
 use Rattle.std.proofs.Common.{◌≡◌, ◌+◌, ap, ◌∙◌, refl, arith}
 use Rattle.replica_exchange.specs.Stamps.{StampedState}
 use Rattle.replica_exchange.proofs.StampLemmas.{absorbed_is_stamped}
-use Rattle.replica_exchange.proofs.AbsorbLemmas.{ok_of_refused, is_not_spent, on_err}
+use Rattle.harvest_lattice.proofs.Outcomes.{on_err_always}
+use Rattle.replica_exchange.proofs.AbsorbLemmas.{ok_of_refused, is_not_spent}
 use Rattle.replica_exchange.proofs.stamped.Stamped.absorb_next.Goals as goal
 
 pub returns-in_default-clause-spent : goal.returns-in_default-clause-spent
@@ -24,7 +25,7 @@ returns-in_err-absorb_as-clause-spent c =
     (λ spent. absurd (is_not_spent c.from_residual.result c.from_residual.ensures.1 spent), λ last. absurd (omega (arith, number, last, c.in-Some.ensures.0)))
 
 pub returns-in_err-absorb_as-clause-err : goal.returns-in_err-absorb_as-clause-err
-returns-in_err-absorb_as-clause-err c = on_err c.from_residual.result c.in_err-absorb_as.ensures.err
+returns-in_err-absorb_as-clause-err c = on_err_always c.from_residual.result c.in_err-absorb_as.ensures.err
 
 pub returns-clause-ok : goal.returns-clause-ok
 returns-clause-ok c = c.in_ok-absorb_as.ensures.ok

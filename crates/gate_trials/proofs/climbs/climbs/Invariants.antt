@@ -1,5 +1,0 @@
-use Rattle.std.proofs.Common.{◌≡◌}
-use Rattle.gate_trials.proofs.climbs.climbs.Given as goal
-
-abbrev pub invariant-loop : goal.invariant-loop
-invariant-loop l = l.gate.opening ≡ l.initial.gate.opening

@@ -1,0 +1,237 @@
+//! Tests of `harvest_lattice`. What states show, whatever they take, is tried in `walks`.
+use crate::captures::{Capture, FIRST, ROOT, SECOND, THIRD, are, root};
+use crate::makers::{harvest, part_harvest};
+use anyhow::{Context, Result};
+use harvest_lattice::{Entry, Harvest, HarvestFault, Part, Row, State};
+use memento_sets::{Mementos, are_same};
+use memento_time::Memento;
+use std::alloc::Global;
+use std::test::*;
+use text_tests::makers::{archive, memento, mementos};
+
+/// All that an archive had of the root.
+fn whole(alloc: Global, name: &[u8], revision: u64, captures: &[Capture]) -> Result<Harvest> {
+    harvest(alloc, name, ROOT, revision, mementos(alloc, captures)?)
+}
+
+/// A part of what archive a1 had of the root.
+fn part(alloc: Global, revision: u64, captures: &[Capture]) -> Result<Harvest> {
+    part_harvest(alloc, b"a1", ROOT, revision, mementos(alloc, captures)?)
+}
+
+fn take(state: &mut State, harvest: &Harvest) -> Result<()> {
+    state.merge(harvest)?;
+    Ok(())
+}
+
+/// The entry of archive a1 for the root.
+fn entry_of_root(alloc: Global, state: &State) -> Result<Entry> {
+    let root = root(alloc)?;
+    let entry = state.entry(archive(b"a1")?, &root).context("no entry")?;
+    Ok(entry.try_clone()?)
+}
+
+#[test]
+fn harvests_of_one_revision_are_united(rt: HostRuntime) -> Result<()> {
+    let alloc = rt.alloc();
+    let mut state = State::new(alloc);
+    take(&mut state, &part(alloc, 5, &[SECOND])?)?;
+    take(&mut state, &part(alloc, 6, &[THIRD])?)?;
+    take(&mut state, &whole(alloc, b"a1", 5, &[FIRST])?)?;
+    take(&mut state, &part(alloc, 6, &[SECOND])?)?;
+    let entry = entry_of_root(alloc, &state)?;
+    assert!(rt; entry.whole() == Some(5) && entry.revisions() == 2);
+    assert!(rt; entry.revision(0) == 5 && are(alloc, entry.mementos(0), &[FIRST, SECOND])?);
+    assert!(rt; entry.revision(1) == 6 && are(alloc, entry.mementos(1), &[SECOND, THIRD])?);
+    Ok(())
+}
+
+/// Takes a part harvest with no mementos at each of these revisions: from the least on, or in steps that leave gaps and
+/// come back between them.
+fn take_empty_parts(alloc: Global, state: &mut State, count: u64, step: u64) -> Result<()> {
+    for k in 0..count {
+        take(state, &part(alloc, k.wrapping_mul(step) % count, &[])?)?;
+    }
+    Ok(())
+}
+
+/// Joins another state: whether this one wasn't below it, and it is below this one now.
+fn grows_above(state: &mut State, other: &State) -> Result<bool> {
+    let was_below = state.le(other);
+    state.join(other)?;
+    Ok(!was_below && other.le(state))
+}
+
+/// Joins a state of so many parts into another, which has none of their revisions between 0 and the last.
+fn joins_all(alloc: Global, count: u64, step: u64) -> Result<bool> {
+    let mut state = State::new(alloc);
+    take_empty_parts(alloc, &mut state, count, step)?;
+    let mut other = State::new(alloc);
+    take(&mut other, &part(alloc, 0, &[FIRST])?)?;
+    take(&mut other, &part(alloc, count, &[SECOND])?)?;
+    let is_news = grows_above(&mut other, &state)?;
+    let entry = entry_of_root(alloc, &other)?;
+    Ok(is_news && entry.revisions() as u64 == count.saturating_add(1))
+}
+
+#[test]
+fn ten_thousand_revisions_are_joined(rt: HostRuntime) -> Result<()> {
+    // Ascending, descending, and each between two that stand.
+    for step in [1, 9_999, 3_333] {
+        assert!(rt; joins_all(rt.alloc(), 10_000, step)?, "in steps of {step}");
+    }
+    Ok(())
+}
+
+/// Takes what another state has, and tells how many rows of it were news.
+fn take_changes(state: &mut State, other: &State) -> Result<usize> {
+    let changes = state.changes(other)?;
+    let count = changes.rows().len();
+    state.put(changes)?;
+    Ok(count)
+}
+
+fn is_news(state: &State, harvest: &Harvest) -> Result<bool> {
+    Ok(!state.changes_by(harvest)?.rows().is_empty())
+}
+
+#[test]
+fn changes_are_what_is_news(rt: HostRuntime) -> Result<()> {
+    let alloc = rt.alloc();
+    let mut here = State::new(alloc);
+    take(&mut here, &whole(alloc, b"a1", 7, &[FIRST])?)?;
+    take(&mut here, &whole(alloc, b"b1", 2, &[THIRD])?)?;
+    let mut there = State::new(alloc);
+    take(&mut there, &whole(alloc, b"a1", 7, &[FIRST, SECOND])?)?;
+    take(&mut there, &whole(alloc, b"b1", 1, &[FIRST])?)?;
+    take(&mut there, &whole(alloc, b"c1", 1, &[FIRST])?)?;
+    assert!(rt; take_changes(&mut here, &there)? == 2);
+    assert!(rt; there.le(&here) && here.len() == 3);
+    assert!(rt; !is_news(&here, &whole(alloc, b"a1", 6, &[THIRD])?)?);
+    Ok(())
+}
+
+/// Whether a copy that shares a state's lists says what the harvest says.
+fn is_copied(state: &State, harvest: &Harvest) -> Result<bool> {
+    let copy = state.share_harvest(harvest)?;
+    let is_same = are_same(copy.mementos(), harvest.mementos());
+    Ok(is_same && copy.revision() == harvest.revision() && copy.is_part() == harvest.is_part())
+}
+
+#[test]
+fn copies_that_share_lists_are_the_same(rt: HostRuntime) -> Result<()> {
+    let alloc = rt.alloc();
+    let mut state = State::new(alloc);
+    take(&mut state, &whole(alloc, b"a1", 1, &[FIRST, SECOND])?)?;
+    let again = whole(alloc, b"a1", 2, &[FIRST, SECOND])?;
+    assert!(rt; is_copied(&state, &again)?);
+    assert!(rt; is_copied(&state, &part(alloc, 2, &[FIRST, THIRD])?)?);
+    assert!(rt; is_copied(&state, &whole(alloc, b"b1", 1, &[FIRST])?)?);
+    let mut other = State::new(alloc);
+    take(&mut other, &again)?;
+    take(&mut other, &whole(alloc, b"b1", 1, &[FIRST])?)?;
+    let copy = state.share_state(&other)?;
+    assert!(rt; copy.le(&other) && other.le(&copy));
+    Ok(())
+}
+
+/// A row of one whole revision of the root.
+fn row(alloc: Global, name: &[u8], revision: u64) -> Result<Row> {
+    let parts = vec![in alloc; part_of(alloc, revision)?]?;
+    Ok(Row {
+        archive: archive(name)?,
+        original: root(alloc)?,
+        entry: Entry::with_parts(alloc, Some(revision), parts)?.context("no entry")?,
+    })
+}
+
+/// A part of an entry.
+fn part_of(alloc: Global, revision: u64) -> Result<Part> {
+    let mementos = mementos(alloc, &[FIRST])?;
+    Ok(Part::new(revision, Mementos::of(mementos))?)
+}
+
+/// Whether two parts of these revisions make an entry with this whole revision.
+fn makes_entry(alloc: Global, whole: Option<u64>, first: u64, second: u64) -> Result<bool> {
+    let first = part_of(alloc, first)?;
+    let second = part_of(alloc, second)?;
+    let parts = vec![in alloc; first, second]?;
+    Ok(Entry::with_parts(alloc, whole, parts)?.is_some())
+}
+
+#[test]
+fn parts_in_order_make_an_entry(rt: HostRuntime) -> Result<()> {
+    for (whole, first, second, is_entry) in [
+        (Some(2), 2, 3, true),
+        (None, 2, 3, true),
+        (Some(3), 2, 3, false),
+        (None, 3, 2, false),
+        (None, 2, 2, false),
+    ] {
+        assert!(rt; makes_entry(rt.alloc(), whole, first, second)? == is_entry);
+    }
+    assert!(rt; Entry::with_parts(rt.alloc(), None, Vec::new(rt.alloc()))?.is_none());
+    Ok(())
+}
+
+/// The state of these rows, of which copies are made.
+fn state_of(alloc: Global, first: &Row, second: &Row) -> Result<State> {
+    let rows = vec![in alloc; first.try_clone()?, second.try_clone()?]?;
+    State::of_rows(alloc, rows)?.context("no state")
+}
+
+/// Whether the first key of a state is of the root and this archive.
+fn begins_with(alloc: Global, state: &State, name: &[u8]) -> Result<bool> {
+    let archive = archive(name)?;
+    let root = root(alloc)?;
+    Ok(state.len() > 0 && state.key(0) == (archive, &root))
+}
+
+#[test]
+fn rows_make_states_that_are_joined(rt: HostRuntime) -> Result<()> {
+    let alloc = rt.alloc();
+    let mut state = State::new(alloc);
+    assert!(rt; state.is_empty() && state.rows().next().is_none());
+    take(&mut state, &whole(alloc, b"c1", 1, &[SECOND])?)?;
+    let other = state_of(alloc, &row(alloc, b"a1", 1)?, &row(alloc, b"b1", 1)?)?;
+    assert!(rt; other.len() == 2 && grows_above(&mut state, &other)?);
+    assert!(rt; state.len() == 3 && begins_with(alloc, &state, b"a1")?);
+    assert!(rt; state.rows().next().is_some());
+    Ok(())
+}
+
+/// Mementos of the first seconds of 1970, the first one twice.
+fn captures_of_seconds(alloc: Global, seconds: u64) -> Result<Vec<Memento>> {
+    let mut list = mementos(alloc, &[(0, FIRST.1)])?;
+    for second in 0..seconds {
+        list.push(memento(alloc, second, FIRST.1)?)?;
+    }
+    Ok(list)
+}
+
+/// A harvest of the first seconds of 1970: how many mementos it has, or why it is none.
+fn count_of_seconds(alloc: Global, seconds: u64) -> Result<Result<usize, HarvestFault>> {
+    let archive = archive(b"a1")?;
+    let root = root(alloc)?;
+    let harvest = Harvest::new(archive, &root, 1, captures_of_seconds(alloc, seconds)?);
+    Ok(harvest.map(|harvest| harvest.mementos().len()))
+}
+
+#[test]
+fn a_harvest_has_at_most_100_000_distinct_mementos(rt: HostRuntime) -> Result<()> {
+    let alloc = rt.alloc();
+    assert!(rt; count_of_seconds(alloc, 100_000)? == Ok(100_000));
+    assert!(rt; count_of_seconds(alloc, 100_001)? == Err(HarvestFault::TooMany));
+    Ok(())
+}
+
+#[test]
+fn a_harvest_keeps_each_memento_once(rt: HostRuntime) -> Result<()> {
+    let alloc = rt.alloc();
+    let copy = whole(alloc, b"a1", 7, &[SECOND, FIRST, SECOND])?.try_clone()?;
+    assert!(rt; copy.archive() == archive(b"a1")? && copy.original().as_bytes() == ROOT);
+    assert!(rt; copy.revision() == 7 && !copy.is_part());
+    assert!(rt; are(alloc, copy.mementos(), &[FIRST, SECOND])?);
+    assert!(rt; part(alloc, 7, &[FIRST])?.try_clone()?.is_part());
+    Ok(())
+}

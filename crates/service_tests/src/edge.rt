@@ -1,0 +1,312 @@
+//! Over loopback, what no whole service shows: a gate without memory for an answer, and the fault of a body that ends
+//! too early.
+use anyhow::{Context, Result};
+use crossbeam_channel::{Receiver, Sender, bounded};
+use harvester::{Answer, Fetch, FetchFault, WalkProgress};
+use hyper_edge::{
+    Agent, Answers, CarefulFetch, GateService, HyperFetch, Limits, Patience, Readiness, ReadyGate,
+    bind, serve_gate,
+};
+use knowledge_tests::makers::get;
+use memento_time::{Clean, Items, Octets};
+use published_index::GateFault;
+use std::alloc::{AllocGlobal, Global};
+use std::io::{self, BufRead, BufReader, Write};
+use std::net::{Net, TcpListener, TcpStream};
+use std::random::RandomSource;
+use std::sync::Wait;
+use std::thread::{self, Threads};
+use std::time::{Clock, Duration, Instant};
+use text_tests::makers::clean;
+use timegate::{Reply, Request};
+
+/// Has memory for no answer.
+#[derive(Drop)]
+struct Spent;
+
+impl Answers for Spent {
+    ghost use Rattle.std.specs.Prelude.{⊤};
+
+    ghost replies = { λ _ _. ⊤ };
+
+    ghost may_close = { ⊤ };
+
+    fn answer(&mut self, _request: &Request) -> Result<Reply, GateFault> {
+        Err(GateFault::NoMemory)
+    }
+}
+
+/// The URL on the server behind a port.
+fn url_at(alloc: Global, port: u16) -> Result<Clean> {
+    let url = format!(in alloc; "http://127.0.0.1:{port}/x")?;
+    clean(alloc, url.as_bytes())
+}
+
+/// Serves one connection, and counts those that ended with a fault.
+fn serve_one<R>(rt: &R, port: &Sender<u16>) -> Option<u64>
+where
+    R: Wait
+        + Clock
+        + Net<Listener = TcpListener, Stream = TcpStream>
+        + RandomSource
+        + AllocGlobal
+        + Clone
+        + Drop,
+{
+    let own = rt.clone().ok()?;
+    let mut bound = bind(rt, "127.0.0.1:0").ok()?;
+    let service = GateService::new(rt.alloc(), own, Spent).ok()?;
+    let _ = port.send(rt, bound.port());
+    serve_gate(rt, &mut bound, &service, 1).ok()
+}
+
+fn fetch_at<R>(rt: &R, port: &Receiver<u16>) -> Option<Answer>
+where
+    R: Wait + Clock + Net<Listener = TcpListener, Stream = TcpStream> + RandomSource + AllocGlobal,
+{
+    let port = port.recv(rt).ok()?;
+    let url = url_at(rt.alloc(), port).ok()?;
+    HyperFetch.fetch(rt, &url).ok()
+}
+
+#[test]
+fn fault_is_503(rt: HostRuntime) -> Result<()> {
+    let (port_to, port_from) = bounded(rt.alloc(), 1)?;
+    let rt = &rt;
+    let (served, fetched) = thread::join(
+        rt,
+        move || serve_one(rt, &port_to),
+        move || fetch_at(rt, &port_from),
+    );
+    assert_eq!(rt; served, Some(0));
+    let answer = fetched.context("no answer")?;
+    assert_eq!(rt; answer.status, 503);
+    assert_eq!(rt; answer.body.as_slice().len(), 0);
+    Ok(())
+}
+
+/// Reads the head of the request that came over a stream.
+fn skip_head(alloc: Global, stream: &TcpStream) -> io::Result<()> {
+    for line in BufReader::new(alloc, stream)?.lines(alloc) {
+        if line?.is_empty() {
+            break;
+        }
+    }
+    Ok(())
+}
+
+/// Answers one connection with a body of a byte where two are said.
+fn answer_short(alloc: Global, listener: &TcpListener) -> io::Result<()> {
+    let (mut stream, _peer) = listener.accept()?;
+    skip_head(alloc, &stream)?;
+    stream.write_all(b"HTTP/1.1 200 OK\r\nContent-Length: 2\r\n\r\nx")
+}
+
+#[test]
+fn body_that_ends_too_early_is_no_answer(rt: HostRuntime) -> Result<()> {
+    let listener = TcpListener::bind(&rt, "127.0.0.1:0")?;
+    let url = url_at(rt.alloc(), listener.local_addr()?.port())?;
+    let (answered, fetched) = thread::join(
+        &rt,
+        || answer_short(rt.alloc(), &listener),
+        || HyperFetch.fetch(&rt, &url),
+    );
+    answered?;
+    assert!(rt; matches!(fetched, Err(FetchFault::Failed)));
+    Ok(())
+}
+
+/// Answers each request alike.
+#[derive(Clone, Copy)]
+struct Steady {
+    alloc: Global,
+}
+
+impl Answers for Steady {
+    ghost use Rattle.std.specs.Prelude.{⊤};
+
+    ghost replies = { λ _ _. ⊤ };
+
+    ghost may_close = { ⊤ };
+
+    fn answer(&mut self, _request: &Request) -> Result<Reply, GateFault> {
+        Ok(Reply {
+            status: 404,
+            headers: Items::of(Vec::new(self.alloc)),
+            body: Octets::of(Vec::new(self.alloc)),
+        })
+    }
+}
+
+/// The status that a gate answers, if it answers.
+fn status_of<G: Answers>(gate: &mut ReadyGate<G>, request: &Request) -> Option<u16> {
+    match gate.answer(request) {
+        Ok(reply) => Some(reply.status),
+        Err(_) => None,
+    }
+}
+
+#[test]
+fn a_gate_answers_once_it_is_ready(rt: HostRuntime) -> Result<()> {
+    let alloc = rt.alloc();
+    let request = get(alloc, b"/timegate/http://a.example/")?;
+    let readiness = Readiness::new(alloc)?;
+    let mut gate = ReadyGate::new(Steady { alloc }, readiness.share()?);
+    assert_eq!(rt;
+        (readiness.is_set(), status_of(&mut gate, &request)),
+        (false, None)
+    );
+    let other = readiness.share()?;
+    thread::join(&rt, move || other.set(), || ());
+    assert_eq!(rt;
+        (readiness.is_set(), status_of(&mut gate, &request)),
+        (true, Some(404))
+    );
+    Ok(())
+}
+
+/// The name that a request gives its sender, if it gives one.
+fn read_agent(alloc: Global, stream: &TcpStream) -> io::Result<String> {
+    let mut agent = String::new(alloc);
+    for line in BufReader::new(alloc, stream)?.lines(alloc) {
+        let line = line?;
+        if line.is_empty() {
+            break;
+        }
+        if let Some(value) = line.as_str().strip_prefix("user-agent: ") {
+            agent.push_str(value)?;
+        }
+    }
+    Ok(agent)
+}
+
+/// Answers one connection with the name of its sender as the body.
+fn answer_agent(alloc: Global, listener: &TcpListener) -> io::Result<()> {
+    let (mut stream, _peer) = listener.accept()?;
+    let agent = read_agent(alloc, &stream)?;
+    let count = agent.len();
+    let head = format!(in alloc; "HTTP/1.1 200 OK\r\nContent-Length: {count}\r\n\r\n{agent}")?;
+    stream.write_all(head.as_bytes())
+}
+
+/// The body that a fetch gets of a server that names its client.
+fn agent_seen<R>(rt: &R, fetch: CarefulFetch<'_>) -> Result<Octets>
+where
+    R: Threads
+        + Sync
+        + Wait
+        + Clock
+        + Net<Listener = TcpListener, Stream = TcpStream>
+        + RandomSource
+        + AllocGlobal,
+{
+    let listener = TcpListener::bind(rt, "127.0.0.1:0")?;
+    let url = url_at(rt.alloc(), listener.local_addr()?.port())?;
+    let (answered, fetched) = thread::join(
+        rt,
+        || answer_agent(rt.alloc(), &listener),
+        || fetch.fetch(rt, &url),
+    );
+    answered?;
+    Ok(fetched?.body)
+}
+
+/// A fetch with a patience of a second, by these limits.
+fn limited(limits: Limits) -> CarefulFetch<'static> {
+    CarefulFetch {
+        patience: Patience::of_seconds(1),
+        hosts: None,
+        limits,
+        agent: None,
+    }
+}
+
+#[test]
+fn agents_are_sent(rt: HostRuntime) -> Result<()> {
+    let text = "Maplewrench (+mailto:you@example.org)";
+    let agent = Agent::new(rt.alloc(), text)?.context("no agent")?;
+    assert_eq!(rt; agent.as_str(), text);
+    let nameless = limited(Limits::default());
+    assert_eq!(rt; agent_seen(&rt, nameless)?.as_slice(), b"".as_slice());
+    let named = CarefulFetch {
+        patience: Patience::of_seconds(1),
+        hosts: None,
+        limits: Limits::default(),
+        agent: Some(&agent),
+    };
+    assert_eq!(rt; agent_seen(&rt, named)?.as_slice(), text.as_bytes());
+    for other in ["", " ", " a", "a ", "a\nb", "é"] {
+        assert!(rt; Agent::new(rt.alloc(), other)?.is_none(), "{other}");
+    }
+    Ok(())
+}
+
+/// Answers one connection, with the last byte of the body two seconds after the others.
+fn answer_late(rt: &(impl Clock + AllocGlobal), listener: &TcpListener) -> io::Result<()> {
+    let (mut stream, _peer) = listener.accept()?;
+    skip_head(rt.alloc(), &stream)?;
+    stream.write_all(b"HTTP/1.1 200 OK\r\nContent-Length: 2\r\n\r\nx")?;
+    thread::sleep(rt, Duration::from_secs(2));
+    let _ = stream.write_all(b"y");
+    Ok(())
+}
+
+/// Whether a page that comes late is fetched in a walk that began just now.
+fn is_fetched_late<R>(rt: &R, limits: Limits) -> Result<bool>
+where
+    R: Threads
+        + Sync
+        + Wait
+        + Clock
+        + Net<Listener = TcpListener, Stream = TcpStream>
+        + RandomSource
+        + AllocGlobal,
+{
+    let listener = TcpListener::bind(rt, "127.0.0.1:0")?;
+    let url = url_at(rt.alloc(), listener.local_addr()?.port())?;
+    let progress = WalkProgress {
+        begun: Instant::now(rt).ok(),
+        tried: 1,
+    };
+    let fetch = limited(limits);
+    let (answered, fetched) = thread::join(
+        rt,
+        || answer_late(rt, &listener),
+        || fetch.fetch_in_walk(rt, &url, progress),
+    );
+    answered?;
+    Ok(fetched.is_ok())
+}
+
+#[test]
+fn slow_bodies_are_given_up(rt: HostRuntime) -> Result<()> {
+    let mut limits = Limits::default();
+    assert!(rt; is_fetched_late(&rt, limits)?);
+    limits.rate = Some(100);
+    assert!(rt; !is_fetched_late(&rt, limits)?);
+    limits.rate = None;
+    limits.walk = Some(1);
+    assert!(rt; !is_fetched_late(&rt, limits)?);
+    Ok(())
+}
+
+#[test]
+fn a_walk_pauses_and_ends(rt: HostRuntime) -> Result<()> {
+    let url = clean(rt.alloc(), b"http://127.0.0.1:1/")?;
+    let mut limits = Limits::default();
+    limits.every = Some(200);
+    let began = Instant::now(&rt)?;
+    let mut progress = WalkProgress {
+        begun: Some(began),
+        tried: 1,
+    };
+    assert!(rt; limited(limits).fetch_in_walk(&rt, &url, progress).is_err());
+    let paused = Instant::now(&rt)?;
+    assert!(rt; paused.duration_since(began) >= Duration::from_millis(200));
+    limits.walk = Some(0);
+    limits.every = Some(3_600_000);
+    progress.begun = Some(paused);
+    assert!(rt; limited(limits).fetch_in_walk(&rt, &url, progress).is_err());
+    assert!(rt; Instant::now(&rt)?.duration_since(paused) < Duration::from_secs(60));
+    Ok(())
+}

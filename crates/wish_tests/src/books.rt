@@ -1,0 +1,198 @@
+//! Tests of the book of wishes, and of gates that note in it.
+use anyhow::{Context, Result};
+use hyper_edge::Answers;
+use knowledge_tests::makers::{get, request};
+use memento_time::{Items, Octets};
+use original_sets::OriginalSet;
+use published_index::GateFault;
+use std::alloc::{AllocGlobal, Global};
+use std::hash::RandomState;
+use std::num::NonZeroUsize;
+use std::random::RandomSource;
+use std::test::*;
+use std::time::Clock;
+use text_tests::makers::original;
+use timegate::{Reply, Request};
+use wish_list::{Decision, Limits, Outcome};
+use wishing_gates::{WishBook, WishingGate, asked_original};
+
+const A: &[u8] = b"http://a.example/";
+
+const B: &[u8] = b"http://b.example/";
+
+const FOUND: Outcome = Outcome {
+    is_found: true,
+    is_whole: true,
+    is_asked: true,
+};
+
+/// Answers each request with this status.
+#[derive(Drop)]
+struct Told {
+    alloc: Global,
+    status: u16,
+}
+
+impl Answers for Told {
+    ghost use Rattle.std.specs.Prelude.{⊤};
+
+    ghost replies = { λ _ _. ⊤ };
+
+    ghost may_close = { ⊤ };
+
+    fn answer(&mut self, _request: &Request) -> Result<Reply, GateFault> {
+        Ok(Reply {
+            status: self.status,
+            headers: Items::of(Vec::new(self.alloc)),
+            body: Octets::of(Vec::new(self.alloc)),
+        })
+    }
+}
+
+/// A book in which one wish is taken in a minute.
+fn book_in<R: RandomSource + AllocGlobal>(rt: &R) -> Result<WishBook> {
+    let limits = Limits {
+        remembered: NonZeroUsize::new(9).context("no room")?,
+        again: 1_000,
+        in_a_minute: 1,
+    };
+    Ok(WishBook::open(rt.alloc(), limits, RandomState::new(rt)?)?)
+}
+
+/// What a gate that answers with this status does with GET of a target.
+fn ask<R>(rt: &R, book: &WishBook, status: u16, target: &[u8]) -> Result<u16>
+where
+    R: Clock + AllocGlobal + Clone + Drop,
+{
+    let told = Told {
+        alloc: rt.alloc(),
+        status,
+    };
+    let mut gate = WishingGate::new(rt.clone()?, told, book.share()?);
+    let reply = gate
+        .answer(&get(rt.alloc(), target)?)
+        .ok()
+        .context("no reply")?;
+    Ok(reply.status)
+}
+
+#[test]
+fn a_closed_book_takes_nothing(rt: HostRuntime) -> Result<()> {
+    let book = WishBook::closed();
+    assert!(rt; !book.is_open());
+    assert!(rt; !book.share()?.is_open());
+    assert_eq!(rt; book.note(original(rt.alloc(), A)?, false, 60), None);
+    assert!(rt; book.grant(&rt).is_none());
+    assert_eq!(rt; ask(&rt, &book, 404, b"/timegate/http://a.example/")?, 404);
+    Ok(())
+}
+
+#[test]
+fn a_wish_goes_through_a_book(rt: HostRuntime) -> Result<()> {
+    let alloc = rt.alloc();
+    let (a, b) = (original(alloc, A)?, original(alloc, B)?);
+    let book = book_in(&rt)?;
+    assert!(rt; book.is_open());
+    let other = book.share()?;
+    assert_eq!(rt;
+        other.note(original(alloc, A)?, false, 60),
+        Some(Decision::Added)
+    );
+    assert_eq!(rt;
+        book.note(original(alloc, A)?, false, 60),
+        Some(Decision::Waits)
+    );
+    assert!(rt; book.grant(&rt).context("no wish")? == a);
+    book.put_back(&rt, &a);
+    assert!(rt; book.grant(&rt).context("no wish")? == a);
+    book.end(&rt, &a, true, FOUND, 60);
+    assert_eq!(rt;
+        book.note(original(alloc, A)?, true, 1_059),
+        Some(Decision::Fresh)
+    );
+    assert_eq!(rt;
+        book.note(original(alloc, B)?, true, 60),
+        Some(Decision::Late)
+    );
+    assert_eq!(rt;
+        book.note(original(alloc, B)?, true, 120),
+        Some(Decision::Added)
+    );
+    let spared = Outcome {
+        is_asked: false,
+        ..FOUND
+    };
+    book.end(&rt, &b, true, spared, 120);
+    assert_eq!(rt;
+        book.note(original(alloc, A)?, false, 120),
+        Some(Decision::Added),
+        "the one before asked nobody"
+    );
+    Ok(())
+}
+
+#[test]
+fn a_book_has_room_and_what_rounds_look_after(rt: HostRuntime) -> Result<()> {
+    let alloc = rt.alloc();
+    let book = book_in(&rt)?;
+    book.set_room(&rt, 0);
+    assert_eq!(rt;
+        book.note(original(alloc, A)?, false, 60),
+        Some(Decision::Full)
+    );
+    assert_eq!(rt; book.turned_away(&rt), 1);
+    let mut listed = OriginalSet::with_room(alloc, 1, RandomState::new(&rt)?)?;
+    assert!(rt; listed.insert(original_sets::Key::new(&original(alloc, A)?)?)?);
+    book.set_listed(&rt, listed);
+    assert_eq!(rt;
+        book.note(original(alloc, A)?, true, 60),
+        Some(Decision::Listed)
+    );
+    Ok(())
+}
+
+#[test]
+fn a_gate_notes_what_it_is_asked_for_in_vain(rt: HostRuntime) -> Result<()> {
+    let book = book_in(&rt)?;
+    for (status, target) in [
+        (404, b"/timemap/link/page/2/http://a.example/".as_slice()),
+        (404, b"/other/http://a.example/".as_slice()),
+        (400, b"/timegate/http://a.example/".as_slice()),
+        (405, b"/timegate/http://a.example/".as_slice()),
+    ] {
+        assert_eq!(rt; ask(&rt, &book, status, target)?, status);
+        assert!(rt; book.grant(&rt).is_none());
+    }
+    assert_eq!(rt; ask(&rt, &book, 404, b"/timegate/http://a.example/")?, 404);
+    assert!(rt; book.grant(&rt).context("no wish")? == original(rt.alloc(), A)?);
+    Ok(())
+}
+
+#[test]
+fn a_gate_notes_what_it_shows(rt: HostRuntime) -> Result<()> {
+    for (status, target) in [
+        (302, b"/timegate/http://a.example/".as_slice()),
+        (200, b"/timemap/link/http://a.example/".as_slice()),
+    ] {
+        let book = book_in(&rt)?;
+        assert_eq!(rt; ask(&rt, &book, status, target)?, status);
+        assert!(rt; book.grant(&rt).context("no wish")? == original(rt.alloc(), A)?);
+    }
+    Ok(())
+}
+
+#[test]
+fn a_request_asks_for_an_original(rt: HostRuntime) -> Result<()> {
+    let alloc = rt.alloc();
+    let a = original(alloc, A)?;
+    for target in [
+        b"/timegate/http://a.example/".as_slice(),
+        b"/timemap/link/http://a.example/".as_slice(),
+    ] {
+        let asked = asked_original(alloc, &request(alloc, b"HEAD", target, &[])?)?;
+        assert!(rt; asked.context("no original")? == a);
+        let asked = asked_original(alloc, &request(alloc, b"POST", target, &[])?)?;
+        assert!(rt; asked.is_none());
+    }
+    Ok(())
+}

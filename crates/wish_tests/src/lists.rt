@@ -1,0 +1,112 @@
+//! Tests of sets and lists of originals.
+use anyhow::{Context, Result};
+use memento_time::Original;
+use original_list::{Row, bad_entry, each_once, read_list, row_of, spellings_of};
+use original_sets::{Key, OriginalSet};
+use std::alloc::Global;
+use std::hash::RandomState;
+use std::test::*;
+use text_tests::makers::original;
+
+/// The originals of these texts.
+fn originals(alloc: Global, texts: &[&[u8]]) -> Result<Vec<Original>> {
+    let mut list = Vec::new(alloc);
+    for text in texts {
+        list.push(original(alloc, text)?)?;
+    }
+    Ok(list)
+}
+
+#[test]
+fn a_set_has_each_original_once(rt: HostRuntime) -> Result<()> {
+    let alloc = rt.alloc();
+    let a = original(alloc, b"http://a.example/")?;
+    let mut set = OriginalSet::with_room(alloc, 0, RandomState::new(&rt)?)?;
+    assert!(rt; !set.has(&Key::new(&a)?));
+    assert!(rt; set.insert(Key::new(&a)?)?);
+    assert!(rt; !set.insert(Key::new(&a)?)?);
+    assert!(rt; set.has(&Key::new(&a)?));
+    assert!(rt; !set.has(&Key::new(&original(alloc, b"http://b.example/")?)?));
+    Ok(())
+}
+
+#[test]
+fn two_lists_are_one_in_which_none_stands_twice(rt: HostRuntime) -> Result<()> {
+    let alloc = rt.alloc();
+    let first = originals(alloc, &[b"http://a.example/", b"http://b.example/"])?;
+    let second = originals(
+        alloc,
+        &[
+            b"http://c.example/",
+            b"http://a.example/",
+            b"http://c.example/",
+        ],
+    )?;
+    let list = each_once(alloc, &first, &second, RandomState::new(&rt)?)?;
+    let wanted = originals(
+        alloc,
+        &[
+            b"http://a.example/",
+            b"http://b.example/",
+            b"http://c.example/",
+        ],
+    )?;
+    assert!(rt; list == wanted);
+    Ok(())
+}
+
+#[test]
+fn a_line_names_an_original_or_none(rt: HostRuntime) -> Result<()> {
+    let alloc = rt.alloc();
+    match row_of(alloc, b" http://a.example/\r")? {
+        Row::Named(named) => assert!(rt; named == original(alloc, b"http://a.example/")?),
+        _ => assert!(rt; false, "no original"),
+    }
+    assert!(rt; matches!(row_of(alloc, b" \t\r")?, Row::Blank));
+    assert!(rt; matches!(row_of(alloc, b"nothing")?, Row::Bad));
+    Ok(())
+}
+
+#[test]
+fn a_text_has_originals_and_bad_lines(rt: HostRuntime) -> Result<()> {
+    let alloc = rt.alloc();
+    let listed = read_list(
+        alloc,
+        b"http://a.example/\n\nnothing\nhttp://b.example/\nnone",
+    )?;
+    let wanted = originals(alloc, &[b"http://a.example/", b"http://b.example/"])?;
+    assert!(rt; listed.originals == wanted);
+    assert!(rt; listed.bad.as_slice() == [3, 5].as_slice());
+    assert_eq!(rt; listed.bad_count, 2);
+    Ok(())
+}
+
+#[test]
+fn an_original_has_three_other_spellings(rt: HostRuntime) -> Result<()> {
+    let alloc = rt.alloc();
+    let list = spellings_of(alloc, &original(alloc, b"http://a.example/x")?)?;
+    let wanted = originals(
+        alloc,
+        &[
+            b"https://a.example/x",
+            b"http://www.a.example/x",
+            b"https://www.a.example/x",
+        ],
+    )?;
+    assert!(rt; list == wanted);
+    assert!(rt; spellings_of(alloc, &original(alloc, b"http://a.example:81/")?)?.is_empty());
+    Ok(())
+}
+
+#[test]
+fn the_first_bad_one_is_told_by_its_number(rt: HostRuntime) -> Result<()> {
+    let alloc = rt.alloc();
+    let text =
+        "good = [\"http://a.example/\"]\nbad = [\"http://a.example/\", \"ftp://b.example/\", 7]\nnumber = 7";
+    let table = toml::table_from_str(alloc, text)?;
+    assert_eq!(rt; bad_entry(alloc, &table, "good")?, None);
+    assert_eq!(rt; bad_entry(alloc, &table, "bad")?, Some(2));
+    assert_eq!(rt; bad_entry(alloc, &table, "number")?, None);
+    assert_eq!(rt; bad_entry(alloc, &table, "none")?, None);
+    Ok(())
+}

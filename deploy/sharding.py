@@ -1,0 +1,279 @@
+"""Cuts a large collection into shards: the settings of each program, and an nginx that leads each request to its shard.
+
+    deploy/shards ORIGINALS SHARDS FOLDER --settings FILE [--base URL] [--replicas R] [--gates G] [--port P] [--entry E]
+                  [--hosts IP[,IP..]] [--program PROGRAM] [--from OLD]
+
+ORIGINALS has an address a line; blank lines and lines that begin with `#` are left out. Each of the SHARDS (1 to 100) is served
+by R replicas (2), which pull from each other, and each replica by G gates for readers (2) and one for peers, so that no pull waits
+behind a slow reader. FILE has the settings that all have in common; its `gates`, `originals` and `peers` are written anew for
+each program, with `log = true` and `ready = true` unless FILE has those keys. Where FILE has a `snapshot`, each program has one of its
+own beside it (shard-K-replica-R.NAME). Replica r of shard k runs on host number k R + r of IP.. (127.0.0.1), round again after the
+last, with its gates on ports from P (8300) on, the one for peers last.
+
+Writes FOLDER/shard-K-replica-R.toml, FOLDER/shards.conf for nginx's `http` block, and FOLDER/programs, a line for each program:
+its host and its settings. The entry listens on 127.0.0.1:E (8200), the other servers of shards.conf on the ports behind it.
+Says for each shard how many originals it has; with `--from OLD` how many move, where there were OLD shards before.
+An original that isn't plain (see PLAIN) is read by PROGRAM (`aggregator`), so that it is filed as it will be asked for.
+"""
+import argparse
+import collections
+import pathlib
+import re
+import shutil
+import subprocess
+import sys
+import tomllib
+
+from settings_text import settings_text
+
+TOP = pathlib.Path(__file__).resolve().parent.parent
+SLOTS = 1000               # nginx splits by steps of 0.1 %
+MOST_ORIGINALS = 100_000   # of one program's settings
+MOST_BYTES = 1_048_576     # of their text
+LABEL = "[a-z0-9](?:[a-z0-9-]*[a-z0-9])?"
+
+# Spellings that the aggregator writes as they stand: a host of small letters whose last label begins with a letter (else it may be
+# an IPv4 address), no port, no user, a path without dot segments, and no byte that is written as `%` and two digits. PCRE
+# and Python read this alike. What it leaves out is led to its shard by asking all.
+PLAIN = (rf"https?://(?!\S*xn--)(?:{LABEL}\.)*[a-z](?:[a-z0-9-]*[a-z0-9])?"
+         r"(?=/)(?!\S*/(?:\.|%2[eE]){1,2}(?:[/?]|$))/[A-Za-z0-9._~!$&()*+,;=:@%/-]*(?:\?[A-Za-z0-9._~!$&()*+,;=:@%/?-]*)?")
+
+
+class Refused(Exception):
+    """What is wrong with what was given, for who gave it."""
+
+
+def murmur(data):
+    """nginx's hash of a text (MurmurHash2 of 32 bits, from 0)."""
+    factor, mask = 0x5BD1E995, 0xFFFFFFFF
+    result = len(data)
+    whole = len(data) & ~3
+    for at in range(0, whole, 4):
+        word = int.from_bytes(data[at:at + 4], "little") * factor & mask
+        word = (word ^ word >> 24) * factor & mask
+        result = (result * factor & mask) ^ word
+    rest = data[whole:]
+    if rest:
+        result = (result ^ int.from_bytes(rest, "little")) * factor & mask
+    result = (result ^ result >> 13) * factor & mask
+    return result ^ result >> 15
+
+
+def slot_of(original):
+    """The slot that nginx's split_clients gives an original among SLOTS equal ones, of which the last takes the rest."""
+    share = 10_000 // SLOTS * 0xFFFFFFFF // 10_000
+    return min(murmur(original.encode()) // share, SLOTS - 1)
+
+
+def owners(shards):
+    """The shard of each slot, from 1 on. Each shard that is added takes an equal part, always from those that have the most,
+    and no slot moves between others."""
+    owner = [1] * SLOTS
+    for new in range(2, shards + 1):
+        held = collections.defaultdict(list)
+        for slot, shard in enumerate(owner):
+            held[shard].append(slot)
+        for _ in range(SLOTS // new):
+            owner[max(held.values(), key=len).pop()] = new
+    return owner
+
+
+def read_lines(path):
+    lines = enumerate(path.read_text(encoding="utf-8").split("\n"), 1)
+    return [(number, line.strip()) for number, line in lines if line.strip() and not line.startswith("#")]
+
+
+def written_by(program, spelled):
+    """How the program writes these originals: it takes an empty page of each, and tells what it knows then."""
+    script = "replicas 1 http://a.example\n" + "".join(f"take 1 a 1 http://a.example/ 0 {text}\n\n" for _, text in spelled)
+    script += "ask 1 GET 0 /state\n"
+    try:
+        ran = subprocess.run([program, "replay"], input=script, capture_output=True, encoding="utf-8")
+    except OSError as error:
+        raise Refused(f"{program}: {error.strerror}; it is needed for line {spelled[0][0]}: {spelled[0][1]}") from error
+    if ran.returncode:
+        raise Refused(f"{program} replay: {ran.stderr.strip()}")
+    answers = ran.stdout.split("\n")
+    for (number, text), answer in zip(spelled, answers):
+        if not answer.startswith("taken"):
+            raise Refused(f"line {number} is no original ({answer}): {text}")
+    return {line.split(" ", 4)[4] for line in answers if line.startswith("entry ")}
+
+
+def read_originals(path, program):
+    """The originals of a file, as the aggregator writes them, each once."""
+    lines = read_lines(path)
+    plain = re.compile(PLAIN)
+    odd = [(number, text) for number, text in lines if len(text) > 4096 or not plain.fullmatch(text)]
+    written = {text for _, text in lines} - {text for _, text in odd}
+    return sorted(written | (written_by(program, odd) if odd else set()))
+
+
+def place_replicas(given):
+    """The host and the gates of each replica of each shard: those for readers, and then the one for peers."""
+    next_port = collections.Counter()
+    places = {}
+    for shard in range(1, given.shards + 1):
+        for replica in range(1, given.replicas + 1):
+            host = given.hosts[((shard - 1) * given.replicas + replica - 1) % len(given.hosts)]
+            first = given.port + next_port[host]
+            next_port[host] += given.gates + 1
+            bracketed = f"[{host}]" if ":" in host else host
+            places[shard, replica] = host, [f"{bracketed}:{port}" for port in range(first, first + given.gates + 1)]
+    return places
+
+
+def programs_of(given, common, places, originals_of):
+    """The name and the text of each program's settings."""
+    for (shard, replica), (_, gates) in places.items():
+        peers = [f"http://{places[shard, other][1][-1]}" for other in range(1, given.replicas + 1) if other != replica]
+        name = f"shard-{shard}-replica-{replica}"
+        own = {"gates": gates, "peers": peers, "originals": originals_of[shard]}
+        if "snapshot" in common:
+            kept = pathlib.Path(common["snapshot"])
+            own["snapshot"] = str(kept.with_name(f"{name}.{kept.name}"))
+        text = settings_text(common | own)
+        many = len(originals_of[shard]) > MOST_ORIGINALS
+        if many or len(text.encode()) > MOST_BYTES:
+            what = f"{len(originals_of[shard])} originals" if many else f"settings of {len(text.encode())} bytes"
+            raise Refused(f"shard {shard} would have {what}, where a program takes {MOST_ORIGINALS} in {MOST_BYTES} bytes: "
+                          "take more shards")
+        yield f"{name}.toml", text
+
+
+NGINX = """\
+# Written by deploy/shards for {shards} shards; to be included in nginx's `http` block. Entry: http://127.0.0.1:{entry}
+#
+# A plain spelling of an original stands for itself, so its hash names the shard. Any other is asked of each shard in turn, until
+# one knows it. A gate of a replica that knows nothing yet says 503 (`ready` of the settings), so another is asked.
+map $request_uri $shard_original {{
+    default "";
+    "~^/timegate/(?<shard_a>.*)$" $shard_a;
+    "~^/timemap/(link|json|cdxj)/page/\\d+/(?<shard_b>.*)$" $shard_b;
+    "~^/timemap/(link|json|cdxj)/(?<shard_c>.*)$" $shard_c;
+}}
+split_clients $shard_original $shard_of_plain {{
+{slots}
+}}
+map $shard_original $shard {{
+    default shards_asked;
+    "~^{plain}$" $shard_of_plain;
+}}
+{upstreams}
+upstream shards_asked {{ server 127.0.0.1:{asked}; }}
+upstream shards_all {{
+{shard_servers}
+}}
+limit_req_zone $server_port zone=shards_asked:1m rate=50r/s;
+
+# A shard that can't be asked, or knows nothing yet, may be asked later. An empty value adds no field.
+map $status $shards_retry_after {{ default ""; 503 5; }}
+
+server {{
+    listen 127.0.0.1:{entry};
+{common}
+    proxy_hide_header Retry-After;
+    add_header Retry-After $shards_retry_after always;
+    error_page 502 504 =503 @later;
+    location ~ ^/(timegate|timemap/(link|json|cdxj))/ {{ proxy_pass http://$shard$request_uri; }}
+    location @later {{
+        default_type text/plain;
+        return 503 "not now: a shard is down\\n";
+    }}
+    location / {{ return 404 "no such route\\n"; }}
+}}
+server {{
+    listen 127.0.0.1:{asked};
+{common}
+    location / {{
+        limit_req zone=shards_asked burst=100 nodelay;
+        limit_req_status 429;
+        proxy_next_upstream error timeout http_404 http_500 http_502 http_503 http_504;
+        proxy_intercept_errors on;
+        error_page 404 500 502 503 504 = @unknown;
+        proxy_pass http://shards_all$request_uri;
+    }}
+    # No shard knows it: a shard that couldn't be asked may.
+    location @unknown {{
+        default_type text/plain;
+        if ($upstream_status ~ "50") {{ return 503 "not now: a shard is down\\n"; }}
+        return 404 "no memento\\n";
+    }}
+}}
+{shard_blocks}"""
+
+COMMON = """\
+    proxy_http_version 1.1;
+    proxy_set_header Connection close;
+    proxy_set_header Host $host;
+    proxy_pass_request_body off;
+    proxy_set_header Content-Length "";
+    proxy_connect_timeout 2s;
+    proxy_read_timeout 30s;
+    large_client_header_buffers 4 8k;
+    # The longest head of a reply is a redirect's, of less than 17,140 bytes (see deploy/nginx.conf).
+    proxy_buffer_size 32k;
+    proxy_buffers 8 32k;
+    proxy_busy_buffers_size 64k;
+    proxy_next_upstream error timeout http_503;"""
+
+
+def nginx_text(given, places):
+    shards = range(1, given.shards + 1)
+    names = [f"shard_{shard}" for shard in owners(given.shards)]
+    slots = [f"    {100 / SLOTS:.1f}% {name};" for name in names[:-1]] + [f"    * {names[-1]};"]
+    upstreams = []
+    for shard in shards:
+        gates = [gate for replica in range(1, given.replicas + 1) for gate in places[shard, replica][1][:-1]]
+        upstreams += [f"upstream shard_{shard} {{", "    least_conn;", *(f"    server {gate};" for gate in gates), "}"]
+    first = given.entry + 1
+    blocks = [f"server {{\n    listen 127.0.0.1:{first + shard};\n{COMMON}\n"
+              f"    location / {{ proxy_pass http://shard_{shard}$request_uri; }}\n}}\n" for shard in shards]
+    return NGINX.format(
+        shards=given.shards, entry=given.entry, asked=first, plain=PLAIN, common=COMMON, slots="\n".join(slots),
+        upstreams="\n".join(upstreams), shard_blocks="".join(blocks),
+        shard_servers="\n".join(f"    server 127.0.0.1:{first + shard} max_fails=0;" for shard in shards))
+
+
+def write(given):
+    common = {"log": True, "ready": True} | tomllib.loads(given.settings.read_text(encoding="utf-8"))
+    common |= {"archives": common.get("archives", [])} | ({"base": given.base} if given.base else {})
+    originals = read_originals(given.originals, given.program)
+    owner, places = owners(given.shards), place_replicas(given)
+    slots = {original: slot_of(original) for original in originals}
+    originals_of = {shard: [o for o in originals if owner[slots[o]] == shard] for shard in range(1, given.shards + 1)}
+    programs = dict(programs_of(given, common, places, originals_of))
+    given.folder.mkdir(parents=True, exist_ok=True)
+    for name, text in programs.items():
+        (given.folder / name).write_text(text, encoding="utf-8")
+    (given.folder / "shards.conf").write_text(nginx_text(given, places))
+    hosts = [host for host, _ in places.values()]
+    (given.folder / "programs").write_text("".join(f"{host} {name}\n" for host, name in zip(hosts, programs)))
+    for shard, its in originals_of.items():
+        print(f"shard {shard}: {len(its)} originals")
+    if given.old:
+        before = owners(given.old)
+        moved = sum(before[slot] != owner[slot] for slot in slots.values())
+        print(f"{moved} of {len(originals)} originals move, where there were {given.old} shards")
+
+
+def main():
+    arguments = argparse.ArgumentParser(usage=__doc__)
+    arguments.add_argument("originals", type=pathlib.Path)
+    arguments.add_argument("shards", type=int, choices=range(1, 101))
+    arguments.add_argument("folder", type=pathlib.Path)
+    arguments.add_argument("--settings", type=pathlib.Path, required=True)
+    arguments.add_argument("--base")
+    arguments.add_argument("--replicas", type=int, default=2, choices=range(1, 17))
+    arguments.add_argument("--gates", type=int, default=2, choices=range(1, 64))
+    arguments.add_argument("--port", type=int, default=8300)
+    arguments.add_argument("--entry", type=int, default=8200)
+    arguments.add_argument("--hosts", type=lambda text: text.split(","), default=["127.0.0.1"])
+    built = TOP / "crates/aggregator/out/aggregator"
+    arguments.add_argument("--program", default=str(built) if built.exists() else shutil.which("aggregator") or "aggregator")
+    arguments.add_argument("--from", dest="old", type=int, choices=range(1, 101))
+    try:
+        write(arguments.parse_args())
+    except (Refused, OSError, UnicodeDecodeError, tomllib.TOMLDecodeError) as error:
+        print(f"deploy/shards: {error}", file=sys.stderr)
+        sys.exit(2)

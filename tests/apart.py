@@ -1,0 +1,92 @@
+#!/usr/bin/env python3
+"""Harvesters apart from readers' replicas, which have no archives and pull from the harvesters each second: what readers
+behind nginx see of a harvest, of a harvester's long round, and while one of either kind is restarted or down.
+
+    ./run --build && tests/apart.py          needs nginx (nginx-light)
+"""
+import contextlib
+import threading
+import time
+
+from playing import ORIGINAL, PATIENCE, Played, Service, comes_true, free_ports, get, holds, link, needs, nginx, reply, same
+
+ORIGINALS = [ORIGINAL, *(f"http://a.example/{number}" for number in range(20))]
+FIRST, LATER = "http://m.example/first", "http://m.example/later"
+QUICK = [("rate=20r/s", "rate=100000r/s"), ("limit_conn connections 20", "limit_conn connections 1000")]
+
+
+class Archive:
+    """An archive that has one memento of each original, and is as slow as it is told to be."""
+
+    def __init__(self, stack):
+        self.memento, self.go_on = FIRST, threading.Event()
+        self.go_on.set()
+        self.played = Played(stack, self.answer)
+
+    def answer(self, _):
+        self.go_on.wait(PATIENCE)
+        return reply(link(self.memento))
+
+
+def shown(front, original=ORIGINAL):
+    return get(front, "/timegate/" + original)[:2]
+
+
+def waited(front, wanted, seconds):
+    """Whether all that readers are shown comes to be `wanted` within so many seconds."""
+    return comes_true(lambda: all(shown(front, original) == wanted for original in ORIGINALS for _ in range(2)), seconds)
+
+
+def main():
+    needs("nginx")
+    with contextlib.ExitStack() as stack:
+        archive = Archive(stack)
+        places = free_ports(2)
+        harvesters = [Service(stack, archives=[("arc.example", archive.played.address)], originals=ORIGINALS, ports=(own,), workers=4, pause=3,
+                              rounds=10**9, peers=[f"http://127.0.0.1:{other}"]) for own, other in (places, places[::-1])]
+        for harvester in harvesters:
+            harvester.rounds()
+        replicas = [Service(stack, ports=free_ports(2), pause=1, rounds=10**9, peers=[harvester.address for harvester in harvesters],
+                            keys={"ready": True, "together": 64})
+                    for _ in range(2)]
+        front = nginx(stack, [port for replica in replicas for port in replica.ports], *QUICK)
+        same("a replica without archives tells of its pulls", replicas[0].line(), "round 1 jobs 0 harvests 0 pulls 2 published\n")
+        holds("readers see what the harvesters know", waited(front, (302, FIRST), 20))
+
+        archive.memento = LATER
+        harvesters[0].rounds()
+        begun = time.monotonic()
+        harvesters[0].rounds()
+        holds("and what a later round brings, once it is published", waited(front, (302, LATER), 20))
+        print(f"all of {len(ORIGINALS)} originals within {time.monotonic() - begun:.1f} s")
+
+        archive.go_on.clear()
+        replicas[0].process.terminate()
+        replicas[0].process.wait(PATIENCE)
+        holds("while the harvesters' rounds stand still and a replica is down, the other goes on",
+              {shown(front, original) for original in ORIGINALS} == {(302, LATER)})
+        begun = time.monotonic()
+        replicas[0].start()
+        replicas[0].rounds()
+        took = time.monotonic() - begun
+        same("started again it knows all from its first pull", {replicas[0].shows(original) for original in ORIGINALS}, {LATER})
+        holds(f"after {took:.1f} s, though no round of a harvester has ended", took < 20)
+
+        harvesters[1].kill()
+        time.sleep(2)
+        same("with a harvester down readers see what they saw", {shown(front, original) for original in ORIGINALS}, {(302, LATER)})
+        archive.memento = FIRST
+        archive.go_on.set()
+        holds("and what the other one brings", waited(front, (302, FIRST), 30))
+        harvesters[0].kill()
+        time.sleep(1)
+        count = len(archive.played.heads)
+        for replica in replicas:
+            replica.rounds(3)
+        same("with both down they see what came last", {shown(front, original) for original in ORIGINALS}, {(302, FIRST)})
+        same(f"and the archive, which was asked {count} times, is asked no more", len(archive.played.heads), count)
+    print("readers' replicas without archives showed what harvesters had, within seconds, and through the end of any one")
+
+
+if __name__ == "__main__":
+    main()

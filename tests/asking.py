@@ -1,0 +1,216 @@
+#!/usr/bin/env python3
+"""How archives are asked where the settings say so: dormant ones, ones that ask to be left alone, one at a time, and no faster
+than they allow. Whatever they say, each job of the round is walked in it, unless its archive is dormant at the end.
+
+    ./run --build && tests/asking.py
+"""
+import contextlib
+import email.utils
+import threading
+import time
+
+from playing import BASE, GOOD, Played, Service, holds, originals, reply, same, told
+
+BROKEN = reply(status=500)
+
+
+class Timed:
+    """Answers by the number of the request, and notes when each came and how many were open at the same time."""
+
+    def __init__(self, answer, pause=0):
+        self.answer, self.pause = answer, pause
+        self.times, self.open, self.most, self.lock = [], 0, 0, threading.Lock()
+
+    def __call__(self, _):
+        with self.lock:
+            number = len(self.times)
+            self.times.append(time.monotonic())
+            self.open += 1
+            self.most = max(self.most, self.open)
+        time.sleep(self.pause)
+        with self.lock:
+            self.open -= 1
+        return self.answer(number)
+
+
+def try_dormant():
+    """An archive that fails is asked as often as it is tolerated, in this round and not in the next."""
+    with contextlib.ExitStack() as stack:
+        bad, good = Played(stack, lambda _: BROKEN), Played(stack, lambda _: GOOD)
+        service = Service(stack, archives=[("bad.example", bad.address), ("good.example", good.address)], originals=originals(20),
+                          workers=2, rounds=2, keys={"tolerance": 3, "dormant": 600}, logged=True)
+        same("the round ends with what was walked", service.line(), told(1, 23, 20))
+        same("in the next round nothing of it is asked", service.line(), told(2, 20, 20))
+        same("an archive that fails is asked three times", len(bad.heads), 3)
+        same("and the other for all, twice", len(good.heads), 40)
+        log = "".join(service.logs_until("round 2: archive bad.example: 20 walks not begun"))
+        for line in ("round 1: archive bad.example: 3 failures in a row, not asked for 600 seconds, jobs left: 17\n",
+                     "round 1: archive bad.example: 17 walks not begun: it isn't asked\n",
+                     "round 1: archive bad.example: 3 failed: another status than 200 and 404\n",
+                     "round 2: archive bad.example: 20 walks not begun: it isn't asked\n"):
+            same(f"the log tells once: {line.strip()}", log.count("log: " + line), 1)
+
+
+def try_waking():
+    """Where a round goes on, a dormant archive is asked by one walk once its time has come, and for all once it answers."""
+    with contextlib.ExitStack() as stack:
+        asked = Timed(lambda number: BROKEN if number < 3 else GOOD)
+        slow = Timed(lambda _: GOOD, pause=0.2)
+        sick, steady = Played(stack, asked), Played(stack, slow)
+        service = Service(stack, archives=[("sick.example", sick.address), ("steady.example", steady.address)],
+                          originals=originals(12), workers=2, keys={"tolerance": 2, "dormant": 1}, logged=True)
+        same("all but the three that failed are harvests", service.line(), told(1, 24, 21))
+        holds("after two failures it isn't asked for a second", asked.times[2] - asked.times[1] >= 0.95)
+        holds("nor after the probe that failed", asked.times[3] - asked.times[2] >= 0.95)
+        log = "".join(service.logs_until("archive sick.example: 3 of"))
+        same("it is told once that it is dormant", log.count("2 failures in a row"), 1)
+        same("and once that it answers again", log.count("sick.example: answers again, jobs left: "), 1)
+
+
+def try_busy():
+    """An archive that asks to be left alone is, and its jobs come again in the same round."""
+    for what, fields in {"a number": lambda: ["Retry-After: 2"],
+                         "a date": lambda: ["Retry-After: " + email.utils.formatdate(time.time() + 3, usegmt=True)]}.items():
+        with contextlib.ExitStack() as stack:
+            asked = Timed(lambda number: reply("", *fields(), status=429 if number == 2 else 503) if number in (2, 5) else GOOD)
+            archive = Played(stack, asked)
+            service = Service(stack, archives=[("a.example", archive.address)], originals=originals(10),
+                              keys={"tolerance": 3}, patience=5)
+            same(f"where it asks by {what} none is lost", service.line(), told(1, 10, 10))
+            same("each job but two is walked once", len(archive.heads), 12)
+            same("the two that came again are the two that were refused",
+                 sorted(target for target in archive.targets() if archive.targets().count(target) == 2),
+                 sorted(2 * [archive.targets()[2], archive.targets()[5]]))
+            for refused in (2, 5):
+                gap = asked.times[refused + 1] - asked.times[refused]
+                holds(f"nothing is asked for {gap:.1f} s", gap >= 1.8)
+
+
+def try_plain_503():
+    """A 503 that names no time is a failure as any other: its job doesn't come again, and nothing waits for it."""
+    bare = reply(status=503)
+    with contextlib.ExitStack() as stack:
+        asked = Timed(lambda number: bare if number == 2 else GOOD)
+        some = Played(stack, asked)
+        service = Service(stack, archives=[("a.example", some.address)], originals=originals(6), keys={"tolerance": 3}, patience=5)
+        same("a 503 among jobs is one failure", service.line(), told(1, 6, 5))
+        same("and each job is walked once", sorted(some.targets()), sorted(BASE + one for one in originals(6)))
+    with contextlib.ExitStack() as stack:
+        dead, good = Played(stack, lambda _: bare), Played(stack, lambda _: GOOD)
+        service = Service(stack, archives=[("dead.example", dead.address), ("good.example", good.address)], originals=originals(9),
+                          workers=2, keys={"tolerance": 3}, patience=5)
+        same("an archive that says nothing else is dormant after three", service.line(), told(1, 12, 9))
+        same("and isn't asked again", len(dead.heads), 3)
+
+
+class Closing:
+    """Answers so many requests, then says 429 so many times, and counts the requests that come while it asks for patience."""
+
+    def __init__(self, good, periods, seconds):
+        self.good, self.periods, self.seconds = good, periods, seconds
+        self.closed_until, self.closed, self.early, self.lock = 0, 0, 0, threading.Lock()
+
+    def __call__(self, _):
+        with self.lock:
+            now = time.monotonic()
+            if now < self.closed_until:
+                self.early += 1
+            elif self.good > 0 or self.closed == self.periods:
+                self.good -= 1
+                return GOOD
+            else:
+                self.closed += 1
+                # The seconds count from the moment at which the walk began, which is a little earlier.
+                self.closed_until = now + self.seconds - 0.5
+            return reply("", f"Retry-After: {self.seconds}", status=429)
+
+
+def try_one_goes_first():
+    """Of an archive that may be asked four at a time, one walk finds out whether it is still busy."""
+    closing = Closing(good=6, periods=4, seconds=2)
+    with contextlib.ExitStack() as stack:
+        archive = Played(stack, closing)
+        service = Service(stack, archives=[("a.example", archive.address)], originals=originals(30), workers=4,
+                          keys={"tolerance": 9}, patience=60)
+        same("none is lost", service.line(), told(1, 30, 30))
+        same("it asked for patience four times", closing.closed, 4)
+        holds(f"and but for what was under way at the first, {closing.early}, nothing came meanwhile", closing.early <= 3)
+
+
+def try_earlier_answers():
+    """What was asked before an archive said that it is busy, and is answered after, wakes it no sooner."""
+    refused, times, refusals = threading.Event(), [], []
+
+    def answer(target):
+        times.append(time.monotonic())
+        if target.endswith("/0"):
+            refused.wait(60)
+            time.sleep(0.5)
+            return GOOD
+        if not refused.is_set():
+            refusals.append(time.monotonic())
+            refused.set()
+            return reply("", "Retry-After: 4", status=429)
+        return GOOD
+
+    with contextlib.ExitStack() as stack:
+        archive = Played(stack, answer)
+        service = Service(stack, archives=[("a.example", archive.address)], originals=originals(6), workers=2,
+                          keys={"tolerance": 3}, patience=60)
+        same("all are walked", service.line(), told(1, 6, 6))
+        gap = times[2] - refusals[0]
+        holds(f"after one of two was refused, nothing is asked for {gap:.1f} s", gap >= 3.5)
+
+
+def try_odd_patience():
+    """What is no number and no date counts as a minute, what is negative too, and whatever is further off as an hour. A 429
+    that says nothing of it counts as a minute."""
+    odd = ("soon", "-1", "Fri, 31 Dec 9999 23:59:59 GMT", "99999999999999999999999", "")
+    for status, fields in [(503, [f"Retry-After: {text}"]) for text in odd] + [(429, [])]:
+        with contextlib.ExitStack() as stack:
+            archive = Played(stack, lambda _: reply("", *fields, status=status))
+            other = Played(stack, lambda _: GOOD)
+            Service(stack, archives=[("a.example", archive.address), ("b.example", other.address)], originals=originals(4),
+                    keys={"tolerance": 9}, workers=1, patience=60)
+            while len(other.heads) < 4:
+                time.sleep(0.02)
+            time.sleep(2)
+            same(f"after {status} with {fields} it isn't asked, and the other is", (len(archive.heads), len(other.heads)), (1, 4))
+
+
+def try_paces():
+    """Keys of an archive's own, and of all."""
+    with contextlib.ExitStack() as stack:
+        slow, few, many = Timed(lambda _: GOOD), Timed(lambda _: GOOD, pause=0.1), Timed(lambda _: GOOD, pause=0.1)
+        archives = [("slow.example", Played(stack, slow).address, {"every": 200, "at_once": 9}),
+                    ("few.example", Played(stack, few).address, {"at_once": 1}),
+                    ("many.example", Played(stack, many).address)]
+        service = Service(stack, archives=archives, originals=originals(10), workers=8, keys={"at_once": 3})
+        same("all are walked", service.line(), told(1, 30, 30))
+        gaps = [later - earlier for earlier, later in zip(slow.times, slow.times[1:])]
+        holds(f"there are {min(gaps):.3f} s between two requests of one", min(gaps) >= 0.19)
+        same("it is asked one at a time, another by its own key, and the third by that of all", (slow.most, few.most), (1, 1))
+        holds(f"which are {many.most} at once", many.most <= 3)
+
+
+def try_two_names():
+    """An archive that is listed under two names is two to its limits: each of its names has its own."""
+    with contextlib.ExitStack() as stack:
+        asked = Timed(lambda _: GOOD, pause=0.1)
+        archive = Played(stack, asked)
+        service = Service(stack, archives=[("a.example", archive.address), ("b.example", archive.address)],
+                          originals=originals(6), workers=8, keys={"at_once": 1})
+        same("both names have a harvest of each", service.line(), told(1, 12, 12))
+        holds(f"it is asked {asked.most} at once, one for each name", asked.most <= 2)
+        same("for each original twice", sorted(archive.targets()), sorted(2 * [BASE + one for one in originals(6)]))
+
+
+def main():
+    for attempt in (try_dormant, try_waking, try_paces, try_two_names, try_busy, try_plain_503, try_one_goes_first,
+                    try_earlier_answers, try_odd_patience):
+        attempt()
+    print("archives are asked as often as they allow, and no job is lost")
+
+
+if __name__ == "__main__":
+    main()

@@ -1,0 +1,70 @@
+#!/usr/bin/env bash
+# Whether the documents say what stands in the repository (docs/check), and whether docs/check notices what it is for: on a copy, a
+# contract gets a premise that the README's claim leaves out, a claim or the headline leaves one out, a clause moves, a contract gets
+# another name, a planted text changes, a line is too wide, an item is public for nobody.
+set -euo pipefail
+. "$(dirname "$0")/saying.sh"
+"$top/docs/check"
+(cd "$top" && git ls-files -z --cached --others --exclude-standard | tar --null --ignore-failed-read -T - -c) | tar -x -C "$work"
+git -C "$work" init -q
+noticed=0
+
+# notices WHAT FILE OLD NEW: whether docs/check refuses the copy in which the file has a new text in the place of the old one.
+notices() {
+    local what=$1 file=$work/$2
+    cp "$file" "$work/kept"
+    OLD=$3 NEW=$4 python3 - "$file" <<'END'
+import os, sys
+text = open(sys.argv[1], encoding="utf-8").read()
+if text.count(os.environ["OLD"]) < 1:
+    sys.exit(f"{sys.argv[1]} has no {os.environ['OLD']}")
+open(sys.argv[1], "w", encoding="utf-8").write(text.replace(os.environ["OLD"], os.environ["NEW"], 1))
+END
+    if said=$("$work/docs/check" 2>&1); then
+        echo "docs/check doesn't notice that $what"
+        exit 1
+    fi
+    grep -q "$5" <<<"$said" || { echo "docs/check says of '$what': $said"; exit 1; }
+    mv "$work/kept" "$file"
+    noticed=$((noticed + 1))
+}
+
+notices 'a contract has one premise more than the claim says' crates/replica_events/src/history.rt \
+    'IsLocal x → IsLocal y →' 'IsLocal x → IsLocal y → NoRestart before 1 →' "claim 3.*NoRestart before 1"
+notices 'a premise stands in the record that a contract ends in' crates/replica_events/specs/Agreement.antt \
+    'IsOfTaken q → Gives' 'IsOfTaken q → HasReplica world i → Gives' 'claim 1.*HasReplica world i'
+notices 'a claim no longer says a premise' README.md 'same index and pages, and every request that asks for no delta' \
+    'same index and pages, and every request' \
+    "claim 1 doesn't say 'every request that asks for no delta'"
+notices 'the headline no longer says its premise' README.md 'two replicas that have learnt' 'two replicas that have taken' \
+    "claim 'the headline' doesn't say 'two replicas that have learnt the same harvests since their last restart'"
+notices 'a claim cites a contract and leaves out its premises' README.md '"redirects_name_the_nearest.timegates"' \
+    '"redirects_name_the_nearest.alone"' 'claim 2 cites redirects_name_the_nearest.alone, whose premise'
+notices 'a claim cites a clause with one premise more' README.md '"deliveries_in_any_order.again"' \
+    '"deliveries_in_any_order.repeated"' 'claim 3 cites deliveries_in_any_order.repeated, whose premise'
+notices 'a claim leaves out a premise' README.md ', with no restart of it in between' '' \
+    "claim 3 doesn't say 'with no restart of it in between'"
+notices 'a premise is waived' docs/premises.txt '= with no restart of it in between' '= -' 'deliveries_in_any_order.again waives'
+notices 'a contract is called by another name' crates/text_fields/src/decimals.rt 'pub fn write_decimal' 'pub fn put_decimal' \
+    "PROVED.md: the contracts aren't as the sources have them"
+notices 'a comment says something else' crates/memento_index/src/laws.rt 'There is exactly one last memento' 'There are two last mementos' \
+    "PROVED.md: the contracts aren't as the sources have them"
+notices 'a quoted line is another' crates/harvest_lattice/specs/Knowledge.antt \
+    'other.revision ≤ h.revision' 'other.revision < h.revision' 'has no line'
+notices 'a planted text stands no longer' crates/timemap_reader/src/role.rt \
+    '!lists(&rel, b"self")' '!lists(&rel, b"SELF")' 'stands in'
+notices 'a sentence is too long' docs/DEFINITIONS.md 'The notation: `ℕ` is a number, ' \
+    "The notation is this$(printf ', and %s' {1..20}): \`ℕ\` is a number, " 'at line .* has .* words'
+notices 'a command of scripts has another form' examples/README.md '| `sendfrom I N` |' '| `sendfrom N I` |' \
+    "the table of commands isn't as in"
+notices 'a limit of the settings is another' docs/SETTINGS.md '1 to 60,000' '1 to 6,000' 'no row says that `wishes` holds 1 to 60,000'
+notices 'an item is lent to nobody' crates/harvest_lattice/src/ordered.rt 'pub(crate) fn count_below' 'pub fn count_below' \
+    '`count_below` is pub, and no other crate reaches it'
+notices 'a module is on no map' crates/harvest_lattice/src/lib.rt '`shelves`' '`drawers`' "doesn't say what the module .shelves. is for"
+notices 'a paragraph is too wide' README.md 'Six claims, each with the contract that carries it.' \
+    'Six claims, each with the contract that carries it, which is one that the prover has to find met, whatever the input.' \
+    'over 120 columns'
+notices 'a line of a proof is too wide' crates/timegate/proofs/Replies.antt 'use ' "-- $(printf 'x%.0s' {1..200})
+use " 'is over 200 columns'
+notices 'a picture is shown nowhere' docs/OPERATING.md '![The readers' '[The readers' 'no document shows it'
+echo "the documents say what stands there, and docs/check notices $noticed of $noticed faults that were planted"

@@ -1,0 +1,258 @@
+#!/usr/bin/env python3
+"""What settings may hold: each key missing, each from both sides of its limits, and which key the program names then.
+
+    ./run --build && tests/settings.py
+
+That what is read is what is served by is shown by tests/rounds.
+"""
+import pathlib
+import subprocess
+import sys
+import tempfile
+
+from playing import PROGRAM
+
+MOST_BYTES = 1_048_576    # of settings
+OWN = {"at_once": (1, 64), "tolerance": (1, 1_000_000_000), "dormant": (1, 86_400), "walk": (1, 86_400), "rate": (1, 1_000_000),
+       "again": (1, 2_592_000), "again_none": (1, 2_592_000), "publish": (1, 86_400), "pull": (1, 86_400)}    # numbers, with their limits
+OPTIONAL = {"patience", "hosts", "log", *OWN, "agent", "ready", "wanted", "wishes", "alike", "originals_file", "snapshot", "snapshot_every", "formats", "status", "together"}
+
+SAMPLE = {
+    "base": '"http://127.0.0.1:8080"',
+    "gates": '["127.0.0.1:8080", "[::1]:8081"]',
+    "connections": "1",
+    "rounds": "1",
+    "pause": "0",
+    "workers": "4",
+    "originals": '["http://a.example/"]',
+    "peers": '["http://127.0.0.1:9080/"]',
+    "other": "true",
+    "patience": "60",
+    "hosts": '["web.archive.org", "127.0.0.1:8100"]',
+    "log": "true",
+    "archives": '[{ name = "arc.example", timemap = "http://127.0.0.1:8100/timemap/link/" }]',
+}
+
+
+def listed(count, text):
+    """A list of so many texts."""
+    return "[" + ", ".join(text(k) for k in range(count)) + "]"
+
+
+def asked(more):
+    """One archive with these keys of its own."""
+    return f'[{{ name = "a", timemap = "http://a/", {more} }}]'
+
+
+def archives(*pairs):
+    return "[" + ", ".join(f'{{ name = "{name}", timemap = "{timemap}" }}' for name, timemap in pairs) + "]"
+
+
+def gate(_):
+    return '"127.0.0.1:0"'
+
+
+def original(number):
+    return f'"http://a/{number}"'
+
+
+def peer(number):
+    return f'"http://p{number}.example"'
+
+
+def host(number):
+    return f'"h{number}.example"'
+
+
+TAKEN = {
+    "base": ['"https://agg.example/"'],
+    "gates": [listed(64, gate)],
+    "connections": ["1000000000"],
+    "rounds": ["1000000000"],
+    "pause": ["86400"],
+    "workers": ["1", "64"],
+    "originals": ["[]", '["https://a.example/"]', listed(10_000, original)],
+    "peers": ["[]", listed(15, peer)],
+    "archives": ["[]", archives(*((f"a{k}", "http://a/") for k in range(1000))), archives(("a", "http://a/" + "x" * 4087)),
+                 *map(asked, ("at_once = 1", "at_once = 64", "every = 1", "every = 3600000", "at_once = 2, every = 500"))],
+    "patience": ["1", "86400"],
+    "hosts": ["[]", listed(1000, host), '["web.archive.org"]', '["127.0.0.1:8101"]', '["a:1", "a:65535"]', '["[::1]"]',
+              '["[2001:db8::1]:8080"]', '["xn--bcher-kva.example"]', '["a.example", "a.example"]'],
+    "log": ["true", "false"],
+    **{key: [str(least), str(most)] for key, (least, most) in OWN.items()},
+    "agent": ['"m"', '"maplewrench (http://agg.example; mail@agg.example)"', f'"{"m" * 256}"'],
+    "ready": ["true", "false"],
+    "wanted": ["0", "1000000"],
+    "wishes": ["1", "60000"],
+    "alike": ["true", "false"],
+    "originals_file": ['"o"', '"/etc/maplewrench/originals"', f'"{"o" * 4_096}"'],
+    "snapshot": ['"k"', '"/var/lib/maplewrench/known"', f'"{"k" * 4_096}"'],
+    "snapshot_every": ["1", "86400"],
+    "formats": ["[]", '["json"]', '["cdxj"]', '["json", "cdxj"]', '["cdxj", "json"]'],
+    "status": ['"127.0.0.1:9090"', '"[::1]:0"', '"127.0.0.1:8080"'],
+    "together": ["1", "256"],
+}
+
+REFUSED = {
+    "base": ['"http://agg.example/x"', '"ftp://agg.example"', "1"],
+    "gates": ["[]", '["localhost:80"]', '["127.0.0.1"]', "[80]", listed(65, gate)],
+    "connections": ["0", "1000000001", '"1"'],
+    "rounds": ["0", "1000000001"],
+    "pause": ["-1", "86401"],
+    "workers": ["0", "65", "4.0"],
+    "originals": ['["ftp://a.example/"]', "[7]", '"http://a.example/"'],
+    "peers": ['["http://p.example/state"]', "[7]", listed(16, peer)],
+    "archives": [
+        archives(("arc.example", "https://arc.example/")),
+        archives(("arc.example", "http://arc example/")),
+        *map(asked, ("at_once = 0", "at_once = 65", 'at_once = "1"', "every = 0", "every = 3600001", 'every = "1"')),
+        archives(("arc.example", "http://a/"), ("arc.example", "http://b/")),
+        archives(("A", "http://a/")),
+        archives(("a", "http://a/" + "x" * 4088)),
+        archives(*((f"a{k}", "http://a/") for k in range(1001))),
+        '[{ name = "arc.example" }]',
+        '[{ timemap = "http://a/" }]',
+        '["http://a/"]',
+    ],
+    "patience": ["0", "86401", "-1", "60.0", '"60"', "true"],
+    "hosts": [
+        listed(1001, host), '"a.example"', "[7]", '[["a.example"]]', '[""]', '[" "]', '["/"]', '["a.example/"]', '["a.example/x"]',
+        '["a/b"]', '["a.example?x"]', '["a.example#x"]', '["user@a.example"]', '["user:word@a.example"]', '["@a.example"]',
+        '["A.example"]', '["a.example:80"]', '["a.example:"]', '["a.example:65536"]', '["a.example:080"]', '["a.example:x"]', '[":8100"]',
+        '["http://a.example"]', '["a b"]', '["a\\texample"]', '["a.example\\n"]', '["a%2eexample"]', '["b\u00fccher.example"]',
+        '["127.1"]', '["2130706433"]', '["0x7f000001"]', '["256.1.1.1"]', '["::1"]', '["[::1"]', '["[0:0:0:0:0:0:0:1]"]',
+    ],
+    "log": ["1", "0", '"true"', "[true]"],
+    **{key: [str(least - 1), str(most + 1), "-1", '"1"', "1.5", "true"] for key, (least, most) in OWN.items()},
+    "agent": ["7", '""', '" m"', '"m "', '"m\\u00e9"', f'"{"m" * 257}"', '"m\\u0000"'],
+    "ready": ["1", '"true"'],
+    "wanted": ["-1", "1000001", '"1"', "1.5", "true"],
+    "wishes": ["0", "60001", "-1", '"1"', "1.5", "true"],
+    "alike": ["1", '"true"'],
+    "originals_file": ["7", '""', "true", '["o"]', f'"{"o" * 4_097}"'],
+    "snapshot": ["7", '""', "true", '["k"]', f'"{"k" * 4_097}"'],
+    "snapshot_every": ["0", "86401", "-1", '"1"', "1.5", "true"],
+    "formats": ['"json"', "7", '["link"]', '["JSON"]', '[""]', "[7]", '["json", "cdxj", "json"]', '[["json"]]'],
+    "status": ['""', '"localhost:9090"', '"127.0.0.1"', "9090", "true", '["127.0.0.1:9090"]', '"127.0.0.1:65536"'],
+    "together": ["0", "257", "-1", '"1"', "1.5", "true"],
+}
+
+
+def text_with(**changed):
+    """The sample with these values, or without a key where it is None."""
+    return "".join(f"{key} = {value}\n" for key, value in {**SAMPLE, **changed}.items() if value is not None)
+
+
+def check_in(folder, text):
+    """Status and standard output of `check` for these settings, which may name files of the folder."""
+    (folder / "settings.toml").write_text(text)
+    ran = subprocess.run([PROGRAM, "check", folder / "settings.toml"], capture_output=True, text=True, check=False, cwd=folder)
+    return ran.returncode, ran.stdout
+
+
+def check(text):
+    """Status, standard output and standard error of `check` for these settings."""
+    with tempfile.NamedTemporaryFile() as file:
+        file.write(text if isinstance(text, bytes) else text.encode())
+        file.flush()
+        ran = subprocess.run([PROGRAM, "check", file.name], capture_output=True, text=True, check=False)
+    return ran.returncode, ran.stdout, ran.stderr
+
+
+def expect(what, text, wanted):
+    told = check(text)
+    if told != wanted:
+        print(f"{what}: {told}, not {wanted}")
+        sys.exit(1)
+
+
+def fault_of(key):
+    return 2, "", f"bad settings: {key}\n"
+
+
+def entry_of(number):
+    """What is said of settings of which this entry of `originals` is the first that is none, if they say that more is told."""
+    return 2, "", f"bad settings: originals\noriginals: entry {number} is no original\n"
+
+
+def expect_entries():
+    """Which entry of `originals` is none is told by its number where a key of this service's own says that more is told."""
+    bad = '["http://a.example/", "https://b.example/", "ftp://c.example/", "http://d.example/", "x"]'
+    own = {"tolerance": "5", "again": "60", "publish": "1", "pull": "1", "originals_file": '"o"'}
+    expect("a bad entry as it is specified", text_with(originals=bad), fault_of("originals"))
+    for key, value in own.items():
+        expect(f"a bad entry with {key}", text_with(originals=bad, **{key: value}), entry_of(3))
+    for key, value in {"at_once": "1", "wanted": "9", "status": '"127.0.0.1:9090"'}.items():
+        expect(f"a bad entry with {key}", text_with(originals=bad, **{key: value}), fault_of("originals"))
+    expect("the first of all", text_with(originals="[7]", again="60"), entry_of(1))
+    expect("the last of all", text_with(originals=listed(2_000, lambda k: original(k) if k < 1_999 else '""'), again="60"), entry_of(2_000))
+    expect("of two faults the first", text_with(originals="[{}]", again="0"), entry_of(1))
+    expect("no list has no entry", text_with(originals='"http://a.example/"', again="60"), fault_of("originals"))
+    expect("no key has none either", text_with(originals=None, again="60"), fault_of("originals"))
+    expect("nor is one of an earlier key told", text_with(originals=bad, workers="0", again="60"), fault_of("workers"))
+    expect("nor one of a later", text_with(peers='["x"]', again="60"), fault_of("peers"))
+
+
+def expect_lines():
+    """Which lines of the file of originals are none is told by their numbers."""
+    good = summary()[:2]
+    with tempfile.TemporaryDirectory() as name:
+        folder = pathlib.Path(name)
+        for what, text, said in (
+            ("good lines", "http://b.example/\n\n  http://c.example/\r\n", ""),
+            ("bad lines", "x\nhttp://b.example/\n\nftp://c.example/", "list: line 1 is no original\nlist: line 4 is no original\n"),
+            ("many bad lines", "x\n" * 23, "".join(f"list: line {k} is no original\n" for k in range(1, 21))
+             + "list: 3 more lines are no originals\n"),
+        ):
+            (folder / "list").write_text(text)
+            came = check_in(folder, text_with(originals_file='"list"'))
+            if came != (good[0], good[1] + said):
+                print(f"{what}: {came}")
+                sys.exit(1)
+        for what, path in (("no file", '"none"'), ("a folder", '"."')):
+            came = check_in(folder, text_with(originals_file=path))
+            if came != (good[0], good[1] + "list: not read\n"):
+                print(f"{what}: {came}")
+                sys.exit(1)
+
+
+def summary(gates=2, archives=1, originals=1, peers=1):
+    return 0, f"settings ok: gates {gates} archives {archives} originals {originals} peers {peers}\n", ""
+
+
+def main():
+    expect("the sample", text_with(), summary())
+    expect("a list of each length", text_with(gates=listed(3, gate), originals=listed(5, original), peers=listed(7, peer),
+                                              archives=archives(("a", "http://a/"), ("b", "http://a/"))), summary(3, 2, 5, 7))
+    for key in TAKEN:
+        expect(f"no {key}", text_with(**{key: None}), summary() if key in OPTIONAL else fault_of(key))
+        for value in TAKEN[key]:
+            status, _, said = check(text_with(**{key: value}))
+            if (status, said) != (0, ""):
+                print(f"{key} = {value[:80]}: {status}, {said}")
+                sys.exit(1)
+        for value in REFUSED[key]:
+            expect(f"{key} = {value[:80]}", text_with(**{key: value}), fault_of(key))
+    expect("no text", "", fault_of("base"))
+    expect("of two faults the first in the order of the keys", text_with(workers="0", rounds="0"), fault_of("rounds"))
+    expect("an optional key is looked for last", text_with(patience="0", archives="7"), fault_of("archives"))
+    expect("the optional keys in their order", text_with(patience="0", hosts="7", log="7"), fault_of("patience"))
+    expect("of the last two the first", text_with(hosts="7", log="7"), fault_of("hosts"))
+    keys = [*OWN, "agent", "ready", "snapshot", "snapshot_every", "formats", "status", "together"]
+    for key, later in zip(keys, keys[1:]):
+        expect(f"of {key} and {later} the first", text_with(**{key: "{}", later: "{}"}), fault_of(key))
+    expect("the specified keys before all others", text_with(log="7", at_once="0"), fault_of("log"))
+    expect("no TOML", "base =", fault_of("text"))
+    expect("a key twice", text_with() + "pause = 1\n", fault_of("text"))
+    expect("no UTF-8", b"# \xff\n" + text_with().encode(), fault_of("text"))
+    most = text_with() + "#" * (MOST_BYTES - len(text_with()))
+    expect("as many bytes as may be", most, summary())
+    expect("a byte more", most + "#", fault_of("text"))
+    expect_entries()
+    expect_lines()
+    rows = sum(len(rows[key]) for rows in (TAKEN, REFUSED) for key in rows)
+    print(f"each key but the optional ones is missed by its name, and {rows} values stand on the right side of their limits")
+
+
+if __name__ == "__main__":
+    main()

@@ -1,0 +1,138 @@
+#!/usr/bin/env python3
+"""What replicas tell each other while their rounds go on: what came is shown at once, what a peer knows isn't asked for again,
+and what was looked at later wins.
+
+    ./run --build && tests/sharing.py
+"""
+import contextlib
+import email.utils
+import itertools
+import re
+import threading
+import time
+
+from playing import (GOOD, MEMENTO, ORIGINAL, Played, Service, delta, entry, free_ports, holds, link, originals, reply, same, silent, slow, told,
+                     until)
+
+
+def try_publish():
+    """What came is shown while the round goes on."""
+    with contextlib.ExitStack() as stack:
+        archive = Played(stack, slow(0.3))
+        service = Service(stack, archives=[("a.example", archive.address)], originals=originals(40), keys={"publish": 1})
+        until("the first harvest is shown", lambda: service.shows(originals(1)[0]) == MEMENTO, 10)
+        holds(f"when {len(archive.heads)} of 40 are asked for", len(archive.heads) < 20)
+
+
+def try_ready():
+    """A gate that says that it isn't ready until something is published."""
+    with contextlib.ExitStack() as stack:
+        archive = Played(stack, slow(1))
+        service = Service(stack, archives=[("a.example", archive.address)], originals=[ORIGINAL], keys={"ready": True})
+        same("nothing is published yet", service.get("/timegate/" + ORIGINAL)[0], 503)
+        same("the round is told of", service.line(), told(1, 1, 1))
+        same("and then it answers", service.shows(), MEMENTO)
+        same("without the key it answers at once", Service(stack, archives=[("a.example", archive.address)], originals=[ORIGINAL])
+             .get("/timegate/" + ORIGINAL)[0], 404)
+
+
+def try_warm_start():
+    """Peers are pulled before the first walk, all at the same time; a silent one is told of once a round, and an empty delta
+    isn't appended."""
+    text = delta(7, 0, 1, entry(ORIGINAL, MEMENTO))
+    first = itertools.count()
+    with contextlib.ExitStack() as stack:
+        knowing = Played(stack, lambda _: reply(text if next(first) == 0 else delta(7, 1, 1)))
+        dead = Played(stack, silent)
+        archive = Played(stack, slow(0.5))
+        service = Service(stack, archives=[("a.example", archive.address)], originals=originals(12), patience=1,
+                          peers=[dead.address, knowing.address], keys={"publish": 1, "pull": 1}, logged=True)
+        until("what a peer knows is shown", lambda: service.shows() == MEMENTO, 10)
+        same("before an archive is asked", len(archive.heads), 0)
+        same("one delta counts, the empty ones don't", service.line(), told(1, 12, 12, 1))
+        holds(f"the peer was pulled {len(knowing.heads)} times meanwhile", len(knowing.heads) >= 4)
+        same("each time from where it was known", {head[0].split()[1] for head in knowing.heads[1:]}, {"/delta/7/1"})
+        service.kill()
+        log = service.process.stderr.read()
+        same("it is told what peers gave", log.count("log: start: 1 of 2 peers gave what they know\n"), 1)
+        same("the silent one is told of once", log.count(f"peer {dead.address}: "), 1)
+
+
+def try_known():
+    """What a peer has just harvested isn't asked for; once it is old enough it is."""
+    now = int(time.time())
+    text = delta(7, 0, 3, "".join(entry(one, MEMENTO, "a.example", revision)
+                                  for one, revision in zip(originals(3), (now, now - 500, now + 10 ** 9))))
+    with contextlib.ExitStack() as stack:
+        knowing = Played(stack, lambda _: reply(text))
+        archive = Played(stack, lambda _: GOOD)
+        service = Service(stack, archives=[("a.example", archive.address)], originals=originals(3), patience=5,
+                          peers=[knowing.address], keys={"publish": 1, "pull": 60, "again": 300})
+        same("of three one is passed over: one is old, and one is far ahead of the clock", service.line(), told(1, 2, 2, 1))
+        same("and the others are asked for", {target.rpartition("/")[2] for target in archive.targets()}, {"1", "2"})
+
+
+def number_shown(service, original):
+    """The number of the memento that is shown; 0 where nothing is."""
+    where = service.shows(original)
+    return int(where.rpartition("/")[2]) if where else 0
+
+
+def try_overlap():
+    """Two replicas that pull from each other, whose rounds overlap: no list falls back to one that was made earlier."""
+    made, lock = itertools.count(1), threading.Lock()
+
+    def answer(_):
+        with lock:
+            number = next(made)
+        time.sleep(0.05)
+        # each is of a later datetime, so that the latest of what is shown is the one that was made last
+        return reply(link(f"http://m.example/{number}", email.utils.formatdate(946_684_800 + number, usegmt=True)))
+
+    ports = free_ports(2)
+    with contextlib.ExitStack() as stack:
+        archive = Played(stack, answer)
+        keys = {"publish": 1, "pull": 1, "again": 1}
+        services = [Service(stack, archives=[("a.example", archive.address)], originals=originals(30), patience=5, rounds=1000,
+                            ports=[port], peers=[f"http://127.0.0.1:{other}"], keys=keys)
+                    for port, other in (ports, reversed(ports))]
+        seen, end = {}, time.monotonic() + 15
+        while time.monotonic() < end:
+            for place, service in enumerate(services):
+                for original in originals(30)[::5]:
+                    number = number_shown(service, original)
+                    before = seen.get((place, original), 0)
+                    if number < before:
+                        holds(f"replica {place} showed list {before} of {original}, and then {number}", False)
+                    seen[place, original] = number
+        holds(f"no list fell back in {next(made)} lists", min(seen.values()) > 0)
+
+
+def try_shared_work():
+    """Two replicas that pull from each other ask an archive hardly more often than one does. What both ask for is what one has
+    asked for and the other doesn't know yet: some four walks, which of so few jobs are nearly a fifth (docs/OPERATING.md). Without
+    what is shared all would be asked for twice."""
+    count = 100
+    ports = free_ports(2)
+    with contextlib.ExitStack() as stack:
+        archive = Played(stack, slow(0.5))
+        keys = {"publish": 1, "pull": 1, "again": 3600}
+        services = [Service(stack, archives=[("a.example", archive.address)], originals=originals(count), patience=60,
+                            ports=[port], peers=[f"http://127.0.0.1:{other}"], keys=keys)
+                    for port, other in (ports, reversed(ports))]
+        for service in services:
+            line = service.line()
+            holds(f"a replica ends its round: {line.strip()}", bool(re.match(r"round 1 jobs \d+ harvests \d+", line)))
+        asked = len(archive.heads)
+        holds(f"{asked} requests for {count} originals", count <= asked <= count * 8 // 5)
+        same("each was asked for", len(set(archive.targets())), count)
+
+
+def main():
+    for attempt in (try_publish, try_ready, try_warm_start, try_known, try_overlap, try_shared_work):
+        attempt()
+    print("what came is shown at once, and what is known isn't asked for again")
+
+
+if __name__ == "__main__":
+    main()
