@@ -283,7 +283,7 @@ def try_few_connections(stack, folder):
         time.sleep(0.1)
         with lock:
             now[0] -= 1
-        return reply(link("http://m.example/1"), "Connection: close")
+        return reply(link("http://m.example/1"))
 
     archive = Played(stack, answer)
     entry = f'[[archives]]\nname = "few.test"\ntimemap = "{archive.address}/timemap/link/"\nchecked = true\n'

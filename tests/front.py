@@ -28,7 +28,7 @@ def redirect(original, memento):
     """A gate's redirect to a memento, with all that it says of the original."""
     link = (f'<{original}>; rel="original", <{BASE}/timemap/link/{original}>; rel="timemap"; type="application/link-format"; '
             f'from="{DATETIME}"; until="{DATETIME}"')
-    return reply("", "Vary: accept-datetime", f"Location: {memento}", f"Link: {link}", f"Date: {DATETIME}", "Connection: close", status=302)
+    return reply("", "Vary: accept-datetime", f"Location: {memento}", f"Link: {link}", f"Date: {DATETIME}", status=302)
 
 
 def knows(*originals):

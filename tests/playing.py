@@ -137,9 +137,10 @@ def link(uri, datetime="Sat, 01 Jan 2000 00:00:00 GMT"):
 
 
 def reply(text="", *fields, status=200, length=None):
-    """A whole answer with this body."""
+    """A whole answer with this body. It says what `Played` does: a connection is answered once. Who keeps connections, as nginx does,
+    could else ask over one that is closing."""
     body = text.encode()
-    head = [f"HTTP/1.1 {status} Said", *fields, f"Content-Length: {len(body) if length is None else length}"]
+    head = [f"HTTP/1.1 {status} Said", *fields, f"Content-Length: {len(body) if length is None else length}", "Connection: close"]
     return "\r\n".join([*head, "", ""]).encode() + body
 
 
