@@ -1,4 +1,5 @@
-"""Where the tests of a crate are: in crates of tests, or else in the crate itself. And which planted bugs were tried.
+"""What `run` and `both` share: lists of what is planted, copies of the repository in which rt runs, where the tests of a crate are
+(in crates of tests, or else in the crate itself), and which planted bugs were tried.
 
 `aggregator_service` has no tests in Rattle: `tests/rounds` and `tests/settings` try it as it runs."""
 import contextlib
@@ -11,6 +12,8 @@ import shutil
 import subprocess
 
 HERE = pathlib.Path(__file__).resolve().parent
+TOP = str(HERE.parent.parent)
+RT = os.environ.get("RT", "rt")
 
 # The crates of tests, and the crates whose tests they have.
 TESTS = {
@@ -32,12 +35,65 @@ SLOW_TESTS = (
 # The planted bugs that were tried and refused by what their blocks name, a line each: COMMIT LIST CHECKSUM.
 TRIED = HERE / "tried"
 
-
 # The status of a test that needs what this machine lacks.
 LACKS = 77
 
 # How many seconds the tests of a crate may take without a proof: more than they do on a busy machine.
 PATIENCE = "900"
+
+
+# ---- texts ----
+
+
+def read_text(path):
+    with open(path, encoding="utf-8") as it:
+        return it.read()
+
+
+def write_texts(texts):
+    for path, text in texts.items():
+        with open(path, "w", encoding="utf-8") as it:
+            it.write(text)
+
+
+def replaced(text, old, new, what):
+    """The text with another in place of this one. A ValueError where that doesn't stand there just once."""
+    if text.count(old) != 1:
+        raise ValueError(f"{what}: {old!r} stands there {text.count(old)} times")
+    return text.replace(old, new)
+
+
+# ---- lists ----
+
+
+def lists_of(words, ending):
+    """The lists that a command line names, or all with this ending."""
+    named = [it for it in words if not it.startswith("--")]
+    return named or sorted(it.stem for it in HERE.glob(f"*{ending}"))
+
+
+def rows_of(list_name):
+    """The lines of a list, each as its word and its text."""
+    for line in read_text(HERE / list_name).split("\n"):
+        if line and not line.startswith("#"):
+            word, _, text = line.partition(": ")
+            yield word.rstrip(":"), text
+
+
+def do_texts_stand(name, planted, plant):
+    """Whether each old text of what a list plants stands just once in its file, telling those that don't."""
+    lost = 0
+    for each in planted:
+        try:
+            plant(each)
+        except (OSError, ValueError) as fault:
+            lost += 1
+            print(fault)
+    print(f"{name}: {len(planted)} planted, of {lost} a text doesn't stand")
+    return lost == 0
+
+
+# ---- tests ----
 
 
 def failed_test(said):
@@ -53,12 +109,26 @@ def crates_of_tests(crate):
     return [tests for tests, tested in TESTS.items() if crate in tested] or [crate]
 
 
-def copy_repository(top, room):
+def judge_by_tests(crate, run):
+    """That a test of the crate fails as `run` runs rt with these words in a folder of tests, and the line that says so; None if
+    all pass, or there is none."""
+    for tests in crates_of_tests(crate):
+        is_passed, said = run(tests, "try", "--test", "--seconds", PATIENCE)
+        if not is_passed and "no #[test] function" not in said:
+            failed = failed_test(said)
+            return ("test", failed) if failed else ("nobody (its tests don't run)", said[-300:])
+    return None
+
+
+# ---- copies ----
+
+
+def copy_repository(room):
     """Copies what rt reads. The work of checks stays behind: rt begins with what those of the same text kept on this machine,
     which takes no room on the disk."""
     for part in ("crates.txt", "HANDLES"):
-        shutil.copy(f"{top}/{part}", room)
-    shutil.copytree(f"{top}/crates", f"{room}/crates", ignore=shutil.ignore_patterns("out"))
+        shutil.copy(f"{TOP}/{part}", room)
+    shutil.copytree(f"{TOP}/crates", f"{room}/crates", ignore=shutil.ignore_patterns("out"))
     leave_out_slow_tests(f"{room}/crates")
 
 
@@ -73,10 +143,19 @@ def leave_out_slow_tests(crates):
         path.write_text(text.replace(found[0], ""), encoding="utf-8")
 
 
+def run_rt(folder, *words):
+    """Whether rt with these words passes in this folder, and what it says."""
+    ran = subprocess.run([RT, *words], cwd=folder, stdin=subprocess.DEVNULL, text=True, errors="replace",
+                         stdout=subprocess.PIPE, stderr=subprocess.STDOUT)
+    return ran.returncode == 0, ran.stdout
+
+
+# ---- what was tried ----
+
+
 def checksums(list_name):
     """The blocks of a list by their titles, each as its checksum, which another text of the block would change."""
-    lines = (HERE / list_name).read_text(encoding="utf-8").split("\n")
-    text = "\n".join(line for line in lines if not line.startswith("#"))
+    text = "\n".join(line for line in read_text(HERE / list_name).split("\n") if not line.startswith("#"))
     blocks = [block.strip() for block in re.split(r"^(?=(?:bug|slip): )", text, flags=re.M)]
     titled = {re.match(r"\w+: (.*)", block)[1]: block for block in blocks if block.startswith(("bug: ", "slip: "))}
     return {title: hashlib.sha256(block.encode()).hexdigest()[:10] for title, block in titled.items()}
@@ -84,7 +163,7 @@ def checksums(list_name):
 
 def tried():
     """Of each list and checksum the commit on which the block was tried last."""
-    lines = TRIED.read_text(encoding="utf-8").split("\n") if TRIED.exists() else []
+    lines = read_text(TRIED).split("\n") if TRIED.exists() else []
     rows = (line.split() for line in lines if line and not line.startswith("#"))
     return {(name, checksum): commit for commit, name, checksum in rows}
 

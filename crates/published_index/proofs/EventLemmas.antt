@@ -14,10 +14,10 @@ use Rattle.timegate.specs.declared.request.Request.{Request}
 use Rattle.timegate.specs.Reply.{reply_of}
 use Rattle.replica_events.specs.declared.event.Event.TheVariants.{Ask}
 use Rattle.replica_events.specs.declared.event.Said.TheVariants.{Replied}
-use Rattle.replica_events.specs.World.{World, Replica, Step, Run, Knowledge, replica, with_replica, taking, last_number, replica_reply}
+use Rattle.replica_events.specs.World.{World, Replica, Step, Run, Knowledge, replica, with_replica, after_merge, last_number, replica_reply}
 use Rattle.published_index.specs.Batches.{Batch, fold_of, harvests_of, merges_of}
 use Rattle.published_index.specs.Cursors.{with_publish}
-use Rattle.published_index.specs.Events.{AreNumbered, RunsAsEvents, event_of, answer_to, IsReceivable, merging}
+use Rattle.published_index.specs.Events.{AreNumbered, RunsAsEvents, event_of, answer_to, IsReceivable, after_batch}
 use Rattle.published_index.specs.Views.{MergerView}
 use Rattle.published_index.specs.Replies.{IsReplyFrom}
 use Rattle.published_index.proofs.Folding.{fold-batch, merges-append}
@@ -46,13 +46,13 @@ put_twice : (w : World) (i : ℕ) (one other : Replica) → with_replica (with_r
 put_twice w zero one other = refl
 put_twice w (suc p) one other = ap (λ (rs : List Replica). record w { replicas = rs }) (set-set w.replicas p one other)
 
-merge_nothing : (r : Replica) → merging r [] ≡ r
+merge_nothing : (r : Replica) → after_batch r [] ≡ r
 merge_nothing r =
     let taken : r.taken ++ [] ≡ r.taken = append-nil r.taken in
     let merges : r.merges ++ [] ≡ r.merges = append-nil r.merges in
     λ i. record r { taken = taken i; merges = merges i }
 
-merge_more : (r : Replica) (m : Merge) (batch : Batch) → merging (taking r (adds_of m) m) batch ≡ merging r (m ∷ batch)
+merge_more : (r : Replica) (m : Merge) (batch : Batch) → after_batch (after_merge r (adds_of m) m) batch ≡ after_batch r (m ∷ batch)
 merge_more r m batch =
     let taken : (r.taken ++ adds_of m) ++ harvests_of batch ≡ r.taken ++ (adds_of m ++ harvests_of batch) = append_assoc r.taken (adds_of m) (harvests_of batch) in
     let merges : (r.merges ++ m ∷ []) ++ batch ≡ r.merges ++ m ∷ batch = append_assoc r.merges (m ∷ []) batch in
@@ -64,18 +64,18 @@ at_replica w i r happens otherwise there is = let At : Option Replica → Type 0
 
 -- a merge is one event
 takes : (base : List ℕ) (w : World) (i : ℕ) (r : Replica) (m : Merge) → replica w i ≡ Some r → IsReceivable m → ¬ (length r.merges ≡ last_number)
-    → Step base w (event_of i m) (answer_to m) (with_replica w i (taking r (adds_of m) m))
+    → Step base w (event_of i m) (answer_to m) (with_replica w i (after_merge r (adds_of m) m))
 takes base w i r (Harvest h) there fits left = inl (at_replica w i r _ _ there (inl (left, (refl, refl))))
 takes base w i r (State s) there fits left = inl (at_replica w i r _ _ there (inl (s, record { text = record { state = fits.0; text = inl refl }; within = fits.1 }, inl (left, (refl, refl)))))
 
 -- a batch is its events, one after the other
 batch_runs : (base : List ℕ) (w : World) (i : ℕ) (r : Replica) (batch : Batch) → replica w i ≡ Some r → All IsReceivable batch → length r.merges + length batch ≤ last_number
-    → Run base w (map (event_of i) batch) (map answer_to batch) (with_replica w i (merging r batch))
+    → Run base w (map (event_of i) batch) (map answer_to batch) (with_replica w i (after_batch r batch))
 batch_runs base w i r [] there fits left = ap (with_replica w i) (merge_nothing r) ∙ put_same w i r there
 batch_runs base w i r (m ∷ ms) there fits left =
-    let next = taking r (adds_of m) m in
+    let next = after_merge r (adds_of m) m in
     let mid = with_replica w i next in
-    let end : with_replica mid i (merging next ms) ≡ with_replica w i (merging r (m ∷ ms)) = put_twice w i next _ ∙ ap (with_replica w i) (merge_more r m ms) in
+    let end : with_replica mid i (after_batch next ms) ≡ with_replica w i (after_batch r (m ∷ ms)) = put_twice w i next _ ∙ ap (with_replica w i) (merge_more r m ms) in
     let count = length_push r.merges m in
     let first : ¬ (length r.merges ≡ last_number) = (λ spent. omega (arith, spent, left)) in
     let later : length next.merges + length ms ≤ last_number = omega (arith, count, left) in (
@@ -90,10 +90,10 @@ publish_runs m numbered base w i r there merges fits =
     batch_runs base w i r m.pending there fits (omega (arith, ap length merges, ap length (merges-append m.published m.pending), length-append (merges_of m.published) m.pending, numbered))
 
 -- and takes what the published list has with it
-pub publish_taken : (m : MergerView) (r : Replica) → r.taken ≡ fold_of m.published → (merging r m.pending).taken ≡ fold_of (with_publish m).published
+pub publish_taken : (m : MergerView) (r : Replica) → r.taken ≡ fold_of m.published → (after_batch r m.pending).taken ≡ fold_of (with_publish m).published
 publish_taken m r is = ap (λ (k : Knowledge). k ++ harvests_of m.pending) is ∙ sym (fold-batch m.published m.pending)
 
-pub publish_merged : (m : MergerView) (r : Replica) → r.merges ≡ merges_of m.published → (merging r m.pending).merges ≡ merges_of (with_publish m).published
+pub publish_merged : (m : MergerView) (r : Replica) → r.merges ≡ merges_of m.published → (after_batch r m.pending).merges ≡ merges_of (with_publish m).published
 publish_merged m r is = ap (λ (ms : Batch). ms ++ m.pending) is ∙ sym (merges-append m.published m.pending)
 
 -- an entry is an Ask at its front

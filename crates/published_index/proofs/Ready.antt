@@ -9,7 +9,7 @@ use Rattle.published_index.specs.declared.marks.Mark.{Mark}
 use Rattle.published_index.specs.declared.marks.LogEntry.{LogEntry}
 use Rattle.published_index.specs.declared.marks.LogEntry.TheVariants.{Attempt}
 use Rattle.published_index.specs.Batches.{Batch, merges_of}
-use Rattle.published_index.specs.Stamping.{unmerged, stamped_with}
+use Rattle.published_index.specs.Stamping.{nothing_merged, stamped_with}
 use Rattle.published_index.specs.Changes.{after_change, merges_in, batches_of, book_of, IsWhole}
 use Rattle.published_index.specs.Marks.{successes, successes_with_last}
 use Rattle.published_index.specs.Rule.{IsReady}
@@ -35,6 +35,6 @@ ready x log cs mark book all is =
     })
 
 -- with no tries a copy that absorbed nothing is what its batches made
-pub nothing_whole : (x : Edition) (mark : Mark) (incarnation : ℕ) → x ≡ record { stamped = unmerged incarnation; mark = mark } → mark.seen.log ≡ [] → IsWhole x
+pub nothing_whole : (x : Edition) (mark : Mark) (incarnation : ℕ) → x ≡ record { stamped = nothing_merged incarnation; mark = mark } → mark.seen.log ≡ [] → IsWhole x
 nothing_whole x mark incarnation is log =
-    subst IsWhole (sym is) (subst (λ (l : List LogEntry). IsStamped (merges_of (successes_with_last l)) (unmerged incarnation)) (sym log) (stamped_at_first incarnation))
+    subst IsWhole (sym is) (subst (λ (l : List LogEntry). IsStamped (merges_of (successes_with_last l)) (nothing_merged incarnation)) (sym log) (stamped_at_first incarnation))

@@ -11,8 +11,8 @@ use Rattle.memento_index.specs.Merges.{adds_of}
 use Rattle.replica_exchange.specs.Stamps.{Stamps, StampedState}
 
 -- the state with stamps that no merge made
-abbrev pub unmerged : ℕ → StampedState
-unmerged incarnation = record { entries = map.empty; stamps = map.empty; number = 0; incarnation = incarnation }
+abbrev pub nothing_merged : ℕ → StampedState
+nothing_merged incarnation = record { entries = map.empty; stamps = map.empty; number = 0; incarnation = incarnation }
 
 -- two codes of values are the same
 abbrev pub same_code : Gv → Gv → Bool

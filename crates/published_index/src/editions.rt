@@ -1,6 +1,6 @@
 //! The two copies of what is published, and the changes to them.
 ghost use Rattle.std.specs.Prelude.{◌≡◌};
-ghost use Rattle.published_index.specs.Stamping.{unmerged};
+ghost use Rattle.published_index.specs.Stamping.{nothing_merged};
 
 use crate::marks::Mark;
 use left_right::Absorb;
@@ -27,7 +27,7 @@ pub struct Edition {
 
 impl Edition {
     pub fn new(alloc: Global, incarnation: u64, mark: &Mark) -> Edition
-        ensures { result ≡ record { stamped = unmerged incarnation; mark = mark.now } }
+        ensures { result ≡ record { stamped = nothing_merged incarnation; mark = mark.now } }
     {
         Edition {
             stamped: Stamped::new(alloc, incarnation),

@@ -22,7 +22,7 @@ ghost use Rattle.published_index.specs.Calls.{Call, Learn, Answer, Calls};
 ghost use Rattle.published_index.specs.Cursors.{Histories, HasReached, IsDeltaOf};
 ghost use Rattle.published_index.specs.Cursors.{MergerCall, Publish, after_call, handed_by, merges_with_pending};
 ghost use Rattle.published_index.specs.Cursors.{receipt_of, with_delta, with_merge, with_publish};
-ghost use Rattle.published_index.specs.Events.{AreNumbered, RunsAsEvents, merging};
+ghost use Rattle.published_index.specs.Events.{AreNumbered, RunsAsEvents, after_batch};
 ghost use Rattle.published_index.specs.Replies.{IsReplyFrom};
 ghost use Rattle.published_index.specs.Passes.{Pass};
 ghost use Rattle.published_index.specs.Views.{MergerView};
@@ -73,9 +73,9 @@ pub fn a_publish_adds_its_batch()
 pub fn a_publish_is_events()
     ensures run { (m : MergerView) → AreNumbered (with_publish m).published → RunsAsEvents m.published m.pending }
     ensures taken { (m : MergerView) (r : Replica) → r.taken ≡ fold_of m.published
-        → (merging r m.pending).taken ≡ fold_of (with_publish m).published }
+        → (after_batch r m.pending).taken ≡ fold_of (with_publish m).published }
     ensures merges { (m : MergerView) (r : Replica) → r.merges ≡ merges_of m.published
-        → (merging r m.pending).merges ≡ merges_of (with_publish m).published }
+        → (after_batch r m.pending).merges ≡ merges_of (with_publish m).published }
 {}
 
 /// An entry is an `Ask` of this replica, if the replica has taken what the front holds, by the front's merges.

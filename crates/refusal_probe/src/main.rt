@@ -20,7 +20,7 @@ use crate::exchange::{Exchange, begin};
 use crate::replies::{is_same, replies_of_all};
 use anyhow::{Result, bail};
 use refused_calls::insist as insist_call;
-use replica_world::{Answer, Event, Refused, Said, World};
+use replica_world::{Event, EventAnswer, Refused, Said, World};
 use std::alloc::Global;
 use std::env;
 use std::io::Write;
@@ -32,7 +32,7 @@ fn insist(
     world: &mut World,
     event: &Event,
     questions: &[Request],
-) -> Result<Answer> {
+) -> Result<EventAnswer> {
     let before = replies_of_all(alloc, world, questions)?;
     let answer = world.step(event);
     if !matches!(answer, Err(Refused::NoMemory)) {
@@ -44,7 +44,7 @@ fn insist(
     Ok(world.step(event))
 }
 
-fn print_answer(rt: &HostRuntime, answer: &Answer) -> Result<()> {
+fn print_answer(rt: &HostRuntime, answer: &EventAnswer) -> Result<()> {
     match answer {
         Ok(Said::Taken) => println!(rt; "taken")?,
         Ok(Said::Sent(number)) => println!(rt; "sent {number}")?,

@@ -17,9 +17,9 @@ use Rattle.replica_events.specs.declared.event.Said.{Said}
 use Rattle.replica_events.specs.declared.event.Said.TheVariants.{Taken, Sent, Joined, Restarted, Replied}
 use Rattle.replica_events.specs.declared.event.Refused.{Refused}
 use Rattle.replica_events.specs.declared.event.Refused.TheVariants.{NoReplica, NoMessage, BadState, NoMemory, Gap, NumbersSpent}
-use Rattle.replica_events.specs.World.{World, Replica, Message, Answer, Outcome, Effect, Step, Accepts, Refuses, WithMessage, WithStamped}
+use Rattle.replica_events.specs.World.{World, Replica, Message, EventAnswer, Outcome, Effect, Step, Accepts, Refuses, WithMessage, WithStamped}
 use Rattle.replica_events.specs.World.{TakesMemory, IfWithinLimit, IfNumberLeft, IfText, Merges, Joins, last_number, with_replica, with_message}
-use Rattle.replica_events.specs.World.{taking, joining, sent_by, own_cursor, restarting, replica_reply, replica, message}
+use Rattle.replica_events.specs.World.{after_merge, after_join, sent_by, own_cursor, after_restart, replica_reply, replica, message}
 use Rattle.replica_events.specs.Refusals.{IsCause, IsResult, IsDelivered, LeavesGap, replica_of}
 
 -- ---- gaps
@@ -67,10 +67,10 @@ record IsFair (w : World) (event : Event) (why : Refused) (next : World) : Type 
   pub cause : IsCause w event why
   pub unchanged : next ≡ w
 
-same_refusal : (why other : Refused) → (let answer : Answer = Err why in answer) ≡ Err other → why ≡ other
+same_refusal : (why other : Refused) → (let answer : EventAnswer = Err why in answer) ≡ Err other → why ≡ other
 same_refusal why other is = cc
 
-not_refused : (said : Said) (why : Refused) → (let answer : Answer = Err why in answer) ≡ Ok said → ⊥
+not_refused : (said : Said) (why : Refused) → (let answer : EventAnswer = Err why in answer) ≡ Ok said → ⊥
 not_refused said why is = cc
 
 fair : (w : World) (event : Event) (why other : Refused) (next : World) → Refuses other w (Err why) next → IsCause w event other → IsFair w event why next
@@ -99,7 +99,7 @@ module _ (w : World) (i k : ℕ) (r : Replica) (there : replica w i ≡ Some r) 
   fair_joining : (m : Message) (why : Refused) (next : World) → message w k ≡ Some m → length m.bytes ≤ 268435456 → Joins w i r m (Err why) next → IsFair w (Deliver i k) why next
   fair_joining m why next found few (inl (fit, p)) =
       let no_gap : ¬ LeavesGap (map.get r.cursors m.sender) m.delta = fits_no_gap (map.get r.cursors m.sender) m.delta fit in
-      fair_left w (Deliver i k) (length r.merges) Joined (with_replica w i (joining r m)) why next p
+      fair_left w (Deliver i k) (length r.merges) Joined (with_replica w i (after_join r m)) why next p
       (λ last. ((r, there, last), (r, m, map.get r.cursors m.sender, delivered m found few, no_gap)))
   fair_joining m why next found few (inr (gap, p)) =
       fair w (Deliver i k) why (Gap (map.get r.cursors m.sender)) next p (r, m, delivered m found few, gap_of_unfit (map.get r.cursors m.sender) m.delta gap)
@@ -120,8 +120,8 @@ fair_receipt w i bytes r after why next there (inr (none, p)) =
 
 fair_effect : (base : List ℕ) (w : World) (event : Event) (why : Refused) (next : World) → Effect base w event (Err why) next → IsFair w event why next
 fair_effect base w (Take i h) why next effect =
-    fair_at w (Take i h) (λ r. Merges w r Taken (with_replica w i (taking r (h ∷ []) (merge.Harvest h)))) why next (replica w i) refl effect
-    (λ r there p. fair_left w (Take i h) (length r.merges) Taken (with_replica w i (taking r (h ∷ []) (merge.Harvest h))) why next p (λ last. (r, there, last)))
+    fair_at w (Take i h) (λ r. Merges w r Taken (with_replica w i (after_merge r (h ∷ []) (merge.Harvest h)))) why next (replica w i) refl effect
+    (λ r there p. fair_left w (Take i h) (length r.merges) Taken (with_replica w i (after_merge r (h ∷ []) (merge.Harvest h))) why next p (λ last. (r, there, last)))
 fair_effect base w (Send i) why next effect =
     fair_at w (Send i) (λ r. WithStamped r (λ s. Accepts (Sent (length w.messages + 1)) (with_message w (sent_by i r (delta_from s None))))) why next (replica w i) refl effect
     (λ r there p. fair_sending w (Send i) r None why next p)
@@ -132,11 +132,11 @@ fair_effect base w (Deliver i k) why next effect =
     fair_at w (Deliver i k) (λ r. WithMessage w k (λ m. IfWithinLimit m.bytes (Joins w i r m) (Refuses BadState w))) why next (replica w i) refl effect
     (λ r there p. fair_delivery w i k r there why next (message w k) refl p)
 fair_effect base w (Receive i bytes) why next effect =
-    fair_at w (Receive i bytes) (λ r. IfText bytes (λ s. Merges w r Joined (with_replica w i (taking r (adds s) (merge.State s)))) (Refuses BadState w)) why next (replica w i) refl effect
-    (λ r there p. fair_receipt w i bytes r (λ s. with_replica w i (taking r (adds s) (merge.State s))) why next there p)
+    fair_at w (Receive i bytes) (λ r. IfText bytes (λ s. Merges w r Joined (with_replica w i (after_merge r (adds s) (merge.State s)))) (Refuses BadState w)) why next (replica w i) refl effect
+    (λ r there p. fair_receipt w i bytes r (λ s. with_replica w i (after_merge r (adds s) (merge.State s))) why next there p)
 fair_effect base w (Restart i) why next effect =
-    fair_at w (Restart i) (λ r. IfNumberLeft w.last (Accepts Restarted (restarting w i)) (Refuses NumbersSpent w)) why next (replica w i) refl effect
-    (λ r there p. fair_left w (Restart i) w.last Restarted (restarting w i) why next p (λ last. ((r, there), last)))
+    fair_at w (Restart i) (λ r. IfNumberLeft w.last (Accepts Restarted (after_restart w i)) (Refuses NumbersSpent w)) why next (replica w i) refl effect
+    (λ r there p. fair_left w (Restart i) w.last Restarted (after_restart w i) why next p (λ last. ((r, there), last)))
 fair_effect base w (Ask i q) why next effect =
     fair_at w (Ask i q) (λ r. WithStamped r (λ s. Accepts (Replied (replica_reply base r s q)) w)) why next (replica w i) refl effect
     (λ r there p. absurd (not_refused (Replied (replica_reply base r p.0 q)) why p.3.0))
@@ -228,10 +228,10 @@ cause_refused base w event NoMemory cause other = absurd (other refl)
 
 -- ---- results
 
-same_result : (said other : Said) → (let answer : Answer = Ok said in answer) ≡ Ok other → said ≡ other
+same_result : (said other : Said) → (let answer : EventAnswer = Ok said in answer) ≡ Ok other → said ≡ other
 same_result said other is = cc
 
-not_accepted : (said : Said) (why : Refused) → (let answer : Answer = Ok said in answer) ≡ Err why → ⊥
+not_accepted : (said : Said) (why : Refused) → (let answer : EventAnswer = Ok said in answer) ≡ Err why → ⊥
 not_accepted said why is = cc
 
 accepted_at : (w : World) (event : Event) (happens : Replica → Outcome) (said : Said) (next : World) (o : Option Replica)
@@ -245,7 +245,7 @@ left_result n same w next said new (inl (few, p)) = same_result said same p.0
 left_result n same w next said new (inr (last, p)) = absurd (not_accepted said NumbersSpent p.0)
 
 joining_result : (w : World) (i : ℕ) (r : Replica) (m : Message) (said : Said) (next : World) → Joins w i r m (Ok said) next → said ≡ Joined
-joining_result w i r m said next (inl (fit, p)) = left_result (length r.merges) Joined w (with_replica w i (joining r m)) said next p
+joining_result w i r m said next (inl (fit, p)) = left_result (length r.merges) Joined w (with_replica w i (after_join r m)) said next p
 joining_result w i r m said next (inr (gap, p)) = absurd (not_accepted said (Gap (map.get r.cursors m.sender)) p.0)
 
 delivery_result : (w : World) (i : ℕ) (r : Replica) (said : Said) (next : World) (o : Option Message)
@@ -271,8 +271,8 @@ sending_result w i r cursor said next (s, is, own, p) =
 
 effect_result : (base : List ℕ) (w : World) (event : Event) (said : Said) (next : World) → Effect base w event (Ok said) next → IsResult w event said next
 effect_result base w (Take i h) said next effect =
-    accepted_at w (Take i h) (λ r. Merges w r Taken (with_replica w i (taking r (h ∷ []) (merge.Harvest h)))) said next (replica w i) effect
-    (λ r p. left_result (length r.merges) Taken w (with_replica w i (taking r (h ∷ []) (merge.Harvest h))) said next p)
+    accepted_at w (Take i h) (λ r. Merges w r Taken (with_replica w i (after_merge r (h ∷ []) (merge.Harvest h)))) said next (replica w i) effect
+    (λ r p. left_result (length r.merges) Taken w (with_replica w i (after_merge r (h ∷ []) (merge.Harvest h))) said next p)
 effect_result base w (Send i) said next effect =
     accepted_at w (Send i) (λ r. WithStamped r (λ s. Accepts (Sent (length w.messages + 1)) (with_message w (sent_by i r (delta_from s None))))) said next (replica w i) effect
     (λ r p. sending_result w i r None said next p)
@@ -283,11 +283,11 @@ effect_result base w (Deliver i k) said next effect =
     accepted_at w (Deliver i k) (λ r. WithMessage w k (λ m. IfWithinLimit m.bytes (Joins w i r m) (Refuses BadState w))) said next (replica w i) effect
     (λ r p. delivery_result w i r said next (message w k) p)
 effect_result base w (Receive i bytes) said next effect =
-    accepted_at w (Receive i bytes) (λ r. IfText bytes (λ s. Merges w r Joined (with_replica w i (taking r (adds s) (merge.State s)))) (Refuses BadState w)) said next (replica w i) effect
-    (λ r p. receipt_result w bytes r (λ s. with_replica w i (taking r (adds s) (merge.State s))) said next p)
+    accepted_at w (Receive i bytes) (λ r. IfText bytes (λ s. Merges w r Joined (with_replica w i (after_merge r (adds s) (merge.State s)))) (Refuses BadState w)) said next (replica w i) effect
+    (λ r p. receipt_result w bytes r (λ s. with_replica w i (after_merge r (adds s) (merge.State s))) said next p)
 effect_result base w (Restart i) said next effect =
-    accepted_at w (Restart i) (λ r. IfNumberLeft w.last (Accepts Restarted (restarting w i)) (Refuses NumbersSpent w)) said next (replica w i) effect
-    (λ r p. left_result w.last Restarted w (restarting w i) said next p)
+    accepted_at w (Restart i) (λ r. IfNumberLeft w.last (Accepts Restarted (after_restart w i)) (Refuses NumbersSpent w)) said next (replica w i) effect
+    (λ r p. left_result w.last Restarted w (after_restart w i) said next p)
 effect_result base w (Ask i q) said next effect =
     accepted_at w (Ask i q) (λ r. WithStamped r (λ s. Accepts (Replied (replica_reply base r s q)) w)) said next (replica w i) effect
     (λ r p. ((replica_reply base r p.0 q, same_result said (Replied (replica_reply base r p.0 q)) p.3.0), p.3.1))

@@ -15,7 +15,8 @@ use Rattle.replica_exchange.specs.Stamps.{StampedState, IsStamped}
 use Rattle.replica_events.specs.declared.event.Event.{Event}
 use Rattle.replica_events.specs.declared.event.Event.TheVariants.{Take, Send, SendFrom, Deliver, Receive, Restart, Ask}
 use Rattle.replica_events.specs.declared.event.Said.TheVariants.{Taken, Sent, Joined, Restarted}
-use Rattle.replica_events.specs.World.{World, Replica, Message, Answer, Course, numbered, replica, message, with_replica, with_message, taking, joining, sent_by, fresh, start, restarting}
+use Rattle.replica_events.specs.World.{World, Replica, Message, EventAnswer, Course, at_number, replica, message, with_replica, with_message}
+use Rattle.replica_events.specs.World.{after_merge, after_join, sent_by, new_replica, start, after_restart}
 use Rattle.replica_events.specs.History.{Happened, History, NoRestart, history_of, sender_of}
 use Rattle.replica_events.specs.Cursors.{GoesOn}
 use Rattle.replica_events.specs.Incarnations.{is_restart, is_merge_of, restarts, merges_of, IsIn, first, restarted, WasSentIn}
@@ -28,19 +29,19 @@ use Rattle.replica_events.proofs.Changes.{IsIdle, idle_not_restarted, Change, ha
 -- ---- one event more
 
 -- what the event counts for
-abbrev restart_of : Event → Answer → ℕ
+abbrev restart_of : Event → EventAnswer → ℕ
 restart_of event answer = cond (is_restart event && is_ok answer) 1 0
 
-abbrev merge_of : ℕ → Event → Answer → ℕ
+abbrev merge_of : ℕ → Event → EventAnswer → ℕ
 merge_of i event answer = cond (is_merge_of i event && is_ok answer) 1 0
 
-restarts_push : (history : History) (event : Event) (answer : Answer) → restarts (history ++ (event, answer) ∷ []) ≡ restarts history + restart_of event answer
+restarts_push : (history : History) (event : Event) (answer : EventAnswer) → restarts (history ++ (event, answer) ∷ []) ≡ restarts history + restart_of event answer
 restarts_push history event answer = sum_by_push (λ (x : Happened). cond (is_restart x.0 && is_ok x.1) 1 0) history (event, answer)
 
-merges_push : (i : ℕ) (history : History) (event : Event) (answer : Answer) → merges_of i (history ++ (event, answer) ∷ []) ≡ merges_of i history + merge_of i event answer
+merges_push : (i : ℕ) (history : History) (event : Event) (answer : EventAnswer) → merges_of i (history ++ (event, answer) ∷ []) ≡ merges_of i history + merge_of i event answer
 merges_push i history event answer = sum_by_push (λ (x : Happened). cond (is_merge_of i x.0 && is_ok x.1) 1 0) history (event, answer)
 
-is_in_still : (count : ℕ) (history : History) (event : Event) (answer : Answer) (i incarnation merges : ℕ) → IsIn count history i incarnation merges → ¬ IsRestart event answer i
+is_in_still : (count : ℕ) (history : History) (event : Event) (answer : EventAnswer) (i incarnation merges : ℕ) → IsIn count history i incarnation merges → ¬ IsRestart event answer i
     → IsIn count (history ++ (event, answer) ∷ []) i incarnation (merges + merge_of i event answer)
 is_in_still count history event answer i incarnation merges (first none number so_often) other =
     first (no_restart_push history event answer i none other) number (ap (λ (n : ℕ). n + merge_of i event answer) so_often ∙ sym (merges_push i history event answer))
@@ -51,7 +52,7 @@ is_in_still count history event answer i incarnation merges (restarted before af
 is_in_new : (count : ℕ) (history : History) (i : ℕ) → IsIn count (history ++ (Restart i, Ok Restarted) ∷ []) i (count + restarts history + 1) 0
 is_in_new count history i = restarted history [] refl (no_restart_yet i) refl refl
 
-sent_still : (count : ℕ) (history : History) (event : Event) (answer : Answer) (sender number incarnation merges : ℕ) → WasSentIn count history sender number incarnation merges
+sent_still : (count : ℕ) (history : History) (event : Event) (answer : EventAnswer) (sender number incarnation merges : ℕ) → WasSentIn count history sender number incarnation merges
     → WasSentIn count (history ++ (event, answer) ∷ []) sender number incarnation merges
 sent_still count history event answer sender number incarnation merges s = record {
   sending = s.sending;
@@ -73,15 +74,15 @@ refused_counts : (b : Bool) → cond {A = ℕ} (b && false) 1 0 ≡ 0
 refused_counts true = refl
 refused_counts false = refl
 
-idle_restarts : (event : Event) (answer : Answer) → IsIdle event answer → restart_of event answer ≡ 0
+idle_restarts : (event : Event) (answer : EventAnswer) → IsIdle event answer → restart_of event answer ≡ 0
 idle_restarts event answer (inl (why, answer_is)) = ap (restart_of event) answer_is ∙ refused_counts (is_restart event)
 idle_restarts event answer (inr (i, q, reply, event_is, answer_is)) = ap (λ (e : Event). restart_of e answer) event_is
 
-idle_unsent : (event : Event) (answer : Answer) → IsIdle event answer → (k : ℕ) → ¬ (answer ≡ Ok (Sent k))
+idle_unsent : (event : Event) (answer : EventAnswer) → IsIdle event answer → (k : ℕ) → ¬ (answer ≡ Ok (Sent k))
 idle_unsent event answer (inl (why, answer_is)) k other = cc
 idle_unsent event answer (inr (i, q, reply, event_is, answer_is)) k other = cc
 
-idle_merges : (event : Event) (answer : Answer) → IsIdle event answer → (i : ℕ) → merge_of i event answer ≡ 0
+idle_merges : (event : Event) (answer : EventAnswer) → IsIdle event answer → (i : ℕ) → merge_of i event answer ≡ 0
 idle_merges event answer (inl (why, answer_is)) i = ap (merge_of i event) answer_is ∙ refused_counts (is_merge_of i event)
 idle_merges event answer (inr (j, q, reply, event_is, answer_is)) i = ap (λ (e : Event). merge_of i e answer) event_is
 
@@ -128,11 +129,11 @@ pub record EndsAt (m : Message) (sender incarnation merges : ℕ) : Type 0 where
 
 -- each message was sent as it says, and each that was sent is there
 pub record Sends (count : ℕ) (history : History) (messages : List Message) : Type 0 where
-  pub was_sent : (k : ℕ) (m : Message) → numbered messages k ≡ Some m → WasSentIn count history m.sender k m.delta.incarnation m.delta.end
-  pub is_there : (sender k incarnation merges : ℕ) → WasSentIn count history sender k incarnation merges → (m : Message) × (numbered messages k ≡ Some m) × EndsAt m sender incarnation merges
+  pub was_sent : (k : ℕ) (m : Message) → at_number messages k ≡ Some m → WasSentIn count history m.sender k m.delta.incarnation m.delta.end
+  pub is_there : (sender k incarnation merges : ℕ) → WasSentIn count history sender k incarnation merges → (m : Message) × (at_number messages k ≡ Some m) × EndsAt m sender incarnation merges
 
 -- the message was sent before, or by this event
-sent_before : (count : ℕ) (history : History) (event : Event) (answer : Answer) (sender k incarnation merges : ℕ) → WasSentIn count (history ++ (event, answer) ∷ []) sender k incarnation merges
+sent_before : (count : ℕ) (history : History) (event : Event) (answer : EventAnswer) (sender k incarnation merges : ℕ) → WasSentIn count (history ++ (event, answer) ∷ []) sender k incarnation merges
     → WasSentIn count history sender k incarnation merges ⊎ ((sender_of event ≡ Some sender) × (answer ≡ Ok (Sent k)) × IsIn count history sender incarnation merges)
 sent_before count history event answer sender k incarnation merges s = from (stood history s.before s.after (event, answer) (s.sending, Ok (Sent k)) s.sent)
   where
@@ -145,7 +146,7 @@ sent_before count history event answer sender k incarnation merges s = from (sto
     )
     from (inr (rest, front, back)) = inl (record { sending = s.sending; sends = s.sends; before = s.before; after = rest; sent = front; was_in = s.was_in })
 
-sends_still : (count : ℕ) (history : History) (event : Event) (answer : Answer) (messages : List Message) → Sends count history messages → ((k : ℕ) → ¬ (answer ≡ Ok (Sent k)))
+sends_still : (count : ℕ) (history : History) (event : Event) (answer : EventAnswer) (messages : List Message) → Sends count history messages → ((k : ℕ) → ¬ (answer ≡ Ok (Sent k)))
     → Sends count (history ++ (event, answer) ∷ []) messages
 sends_still count history event answer messages sends unsent = record {
   was_sent = λ k m found. sent_still count history event answer m.sender k m.delta.incarnation m.delta.end (sends.was_sent k m found);
@@ -154,7 +155,7 @@ sends_still count history event answer messages sends unsent = record {
   where
     at : (sender k incarnation merges : ℕ) → WasSentIn count history sender k incarnation merges
         ⊎ ((sender_of event ≡ Some sender) × (answer ≡ Ok (Sent k)) × IsIn count history sender incarnation merges)
-        → (m : Message) × (numbered messages k ≡ Some m) × EndsAt m sender incarnation merges
+        → (m : Message) × (at_number messages k ≡ Some m) × EndsAt m sender incarnation merges
     at sender k incarnation merges (inl before) = sends.is_there sender k incarnation merges before
     at sender k incarnation merges (inr (_, answer_is, _)) = absurd (unsent k answer_is)
 
@@ -165,7 +166,7 @@ sends_more count history event messages i m sends by_event sender is_in = record
   is_there = λ sender k incarnation merges s. at sender k incarnation merges (sent_before count history event answer sender k incarnation merges s);
 }
   where
-    answer : Answer
+    answer : EventAnswer
     answer = Ok (Sent (length messages + 1))
 
     all : History
@@ -183,14 +184,14 @@ sends_more count history event messages i m sends by_event sender is_in = record
 
     at : (sender k incarnation merges : ℕ) → WasSentIn count history sender k incarnation merges
         ⊎ ((sender_of event ≡ Some sender) × (answer ≡ Ok (Sent k)) × IsIn count history sender incarnation merges)
-        → (n : Message) × (numbered (messages ++ m ∷ []) k ≡ Some n) × EndsAt n sender incarnation merges
+        → (n : Message) × (at_number (messages ++ m ∷ []) k ≡ Some n) × EndsAt n sender incarnation merges
     at j k incarnation merges (inl before) = let was = sends.is_there j k incarnation merges before in (was.0, numbered_push messages m k was.0 was.1, was.2)
     at j k incarnation merges (inr (by, answer_is, is)) =
         let k_is : length messages + 1 ≡ k = cc in
         let j_is : i ≡ j = same_Some i j (sym by_event ∙ by) in
         let same = one_number count history j m.delta.incarnation m.delta.end incarnation merges (subst (λ (j : ℕ). IsIn count history j m.delta.incarnation m.delta.end) j_is is_in) is in (
           m,
-          subst (λ (k : ℕ). numbered (messages ++ m ∷ []) k ≡ Some m) k_is (numbered_last messages m),
+          subst (λ (k : ℕ). at_number (messages ++ m ∷ []) k ≡ Some m) k_is (numbered_last messages m),
           record { sender_is = sender ∙ j_is; incarnation_is = same.0; end_is = same.1 },
         )
 
@@ -204,7 +205,7 @@ pub record Counts (count : ℕ) (history : History) (w : World) : Type 0 where
 
 module _ (count : ℕ) (history : History) (w : World) (counts : Counts count history w) where
   -- an event that is no restart, and by which each replica merges as often as it counts for
-  steady : (event : Event) (answer : Answer) (new : World) → new.last ≡ w.last → restart_of event answer ≡ 0 → ((i : ℕ) → ¬ IsRestart event answer i)
+  steady : (event : Event) (answer : EventAnswer) (new : World) → new.last ≡ w.last → restart_of event answer ≡ 0 → ((i : ℕ) → ¬ IsRestart event answer i)
       → ((i : ℕ) (s : Replica) → replica new i ≡ Some s → (r : Replica) × (replica w i ≡ Some r) × (s.incarnation ≡ r.incarnation) × (length s.merges ≡ length r.merges + merge_of i event answer))
       → Sends count (history ++ (event, answer) ∷ []) new.messages → Counts count (history ++ (event, answer) ∷ []) new
   steady event answer new last none other replicas messages = record {
@@ -218,11 +219,11 @@ module _ (count : ℕ) (history : History) (w : World) (counts : Counts count hi
   }
 
   -- the event sends nothing, and the messages are those that were
-  unsent : (event : Event) (answer : Answer) (new : World) → new.messages ≡ w.messages → ((k : ℕ) → ¬ (answer ≡ Ok (Sent k))) → Sends count (history ++ (event, answer) ∷ []) new.messages
+  unsent : (event : Event) (answer : EventAnswer) (new : World) → new.messages ≡ w.messages → ((k : ℕ) → ¬ (answer ≡ Ok (Sent k))) → Sends count (history ++ (event, answer) ∷ []) new.messages
   unsent event answer new same none = subst (Sends count (history ++ (event, answer) ∷ [])) (sym same) (sends_still count history event answer w.messages counts.messages none)
 
   -- a replica merges once
-  merges_once : (event : Event) (answer : Answer) (i : ℕ) (r next : Replica) → replica w i ≡ Some r → next.incarnation ≡ r.incarnation → length next.merges ≡ length r.merges + 1
+  merges_once : (event : Event) (answer : EventAnswer) (i : ℕ) (r next : Replica) → replica w i ≡ Some r → next.incarnation ≡ r.incarnation → length next.merges ≡ length r.merges + 1
       → restart_of event answer ≡ 0 → ((j : ℕ) → ¬ IsRestart event answer j) → ((k : ℕ) → ¬ (answer ≡ Ok (Sent k)))
       → merge_of i event answer ≡ 1 → ((j : ℕ) → ¬ (j ≡ i) → merge_of j event answer ≡ 0) → Counts count (history ++ (event, answer) ∷ []) (with_replica w i next)
   merges_once event answer i r next there own more none no_restart no_message here elsewhere =
@@ -238,22 +239,22 @@ module _ (count : ℕ) (history : History) (w : World) (counts : Counts count hi
       at j s (inr (other, found)) = let none_here = elsewhere j other in (s, found, refl, omega (arith, none_here))
 
   -- an event by which no replica merges, and none restarts
-  no_merge : (event : Event) (answer : Answer) (new : World) → new.last ≡ w.last → new.replicas ≡ w.replicas → restart_of event answer ≡ 0 → ((j : ℕ) → ¬ IsRestart event answer j)
+  no_merge : (event : Event) (answer : EventAnswer) (new : World) → new.last ≡ w.last → new.replicas ≡ w.replicas → restart_of event answer ≡ 0 → ((j : ℕ) → ¬ IsRestart event answer j)
       → ((j : ℕ) → merge_of j event answer ≡ 0) → Sends count (history ++ (event, answer) ∷ []) new.messages
       → Counts count (history ++ (event, answer) ∷ []) new
   no_merge event answer new last replicas none no_restart no_merges messages =
       steady event answer new last none no_restart
-      (λ j s is. let idle = no_merges j in (s, subst (λ (rs : List Replica). numbered rs j ≡ Some s) replicas is, refl, omega (arith, idle)))
+      (λ j s is. let idle = no_merges j in (s, subst (λ (rs : List Replica). at_number rs j ≡ Some s) replicas is, refl, omega (arith, idle)))
       messages
 
-  restarts_once : (i : ℕ) (r : Replica) → replica w i ≡ Some r → Counts count (history ++ (Restart i, Ok Restarted) ∷ []) (restarting w i)
+  restarts_once : (i : ℕ) (r : Replica) → replica w i ≡ Some r → Counts count (history ++ (Restart i, Ok Restarted) ∷ []) (after_restart w i)
   restarts_once i r there = record {
     last = let more = restarts_push history (Restart i) (Ok Restarted) in let was = counts.last in omega (arith, more, was);
-    replicas = λ j s is. at j s (replica_placed w i r (fresh (w.last + 1)) j s there is);
-    messages = unsent (Restart i) (Ok Restarted) (restarting w i) (messages_stay w i (fresh (w.last + 1))) (λ k answer_is. cc);
+    replicas = λ j s is. at j s (replica_placed w i r (new_replica (w.last + 1)) j s there is);
+    messages = unsent (Restart i) (Ok Restarted) (after_restart w i) (messages_stay w i (new_replica (w.last + 1))) (λ k answer_is. cc);
   }
     where
-      at : (j : ℕ) (s : Replica) → IsPlaced w i (fresh (w.last + 1)) j s → IsIn count (history ++ (Restart i, Ok Restarted) ∷ []) j s.incarnation (length s.merges)
+      at : (j : ℕ) (s : Replica) → IsPlaced w i (new_replica (w.last + 1)) j s → IsIn count (history ++ (Restart i, Ok Restarted) ∷ []) j s.incarnation (length s.merges)
       at j s (inl (same, is)) =
           subst (λ (s : Replica). IsIn count (history ++ (Restart i, Ok Restarted) ∷ []) j s.incarnation (length s.merges)) (sym is)
           (subst (λ (j : ℕ). IsIn count (history ++ (Restart i, Ok Restarted) ∷ []) j (w.last + 1) 0) (sym same)
@@ -268,7 +269,7 @@ module _ (count : ℕ) (history : History) (w : World) (counts : Counts count hi
       no_merge event answer (with_message w (sent_by i r (delta_from s cursor))) refl refl (no_restart_counted event sends) (λ j restarts. let other = restarts.1 in cc) (none_merged event sends)
       (sends_more count history event w.messages i (sent_by i r (delta_from s cursor)) counts.messages sends refl was_in)
     where
-      answer : Answer
+      answer : EventAnswer
       answer = Ok (Sent (length w.messages + 1))
 
       no_restart_counted : (event : Event) → sender_of event ≡ Some i → restart_of event answer ≡ 0
@@ -294,21 +295,21 @@ module _ (count : ℕ) (history : History) (w : World) (counts : Counts count hi
           subst (λ (n : ℕ). IsIn count history i n s.number) (sym own)
           (subst (IsIn count history i r.incarnation) (sym stamped.number) (counts.replicas i r there))
 
-  change_counts : (event : Event) (answer : Answer) (new : World) → Change w event answer new → Counts count (history ++ (event, answer) ∷ []) new
+  change_counts : (event : Event) (answer : EventAnswer) (new : World) → Change w event answer new → Counts count (history ++ (event, answer) ∷ []) new
   change_counts event answer new (change.idle idle is) =
       no_merge event answer new (ap (λ (w : World). w.last) is) (ap (λ (w : World). w.replicas) is) (idle_restarts event answer idle) (idle_not_restarted event answer idle)
       (idle_merges event answer idle) (unsent event answer new (ap (λ (w : World). w.messages) is) (idle_unsent event answer idle))
   change_counts event answer new (change.took i h r there event_is answer_is is) =
       happened_as (Counts count) history event (Take i h) answer (Ok Taken) new _ event_is answer_is is
-      (merges_once (Take i h) (Ok Taken) i r (taking r (h ∷ []) (merge.Harvest h)) there refl (length_push r.merges (merge.Harvest h)) refl (λ j restarts. let other = restarts.1 in cc)
+      (merges_once (Take i h) (Ok Taken) i r (after_merge r (h ∷ []) (merge.Harvest h)) there refl (length_push r.merges (merge.Harvest h)) refl (λ j restarts. let other = restarts.1 in cc)
       (λ k answer_is. cc) (counted i) (not_counted i))
   change_counts event answer new (change.received i bytes s r there text event_is answer_is is) =
       happened_as (Counts count) history event (Receive i bytes) answer (Ok Joined) new _ event_is answer_is is
-      (merges_once (Receive i bytes) (Ok Joined) i r (taking r (adds s) (merge.State s)) there refl (length_push r.merges (merge.State s)) refl (λ j restarts. let other = restarts.1 in cc)
+      (merges_once (Receive i bytes) (Ok Joined) i r (after_merge r (adds s) (merge.State s)) there refl (length_push r.merges (merge.State s)) refl (λ j restarts. let other = restarts.1 in cc)
       (λ k answer_is. cc) (counted i) (not_counted i))
   change_counts event answer new (change.joined i k r m there found fit event_is answer_is is) =
       happened_as (Counts count) history event (Deliver i k) answer (Ok Joined) new _ event_is answer_is is
-      (merges_once (Deliver i k) (Ok Joined) i r (joining r m) there refl (length_push r.merges (merge.State m.delta.state)) refl (λ j restarts. let other = restarts.1 in cc)
+      (merges_once (Deliver i k) (Ok Joined) i r (after_join r m) there refl (length_push r.merges (merge.State m.delta.state)) refl (λ j restarts. let other = restarts.1 in cc)
       (λ k answer_is. cc) (counted i) (not_counted i))
   change_counts event answer new (change.sent i r s cursor there stamped own sends answer_is is) =
       happened_as (Counts count) history event event answer (Ok (Sent (length w.messages + 1))) new _ refl answer_is is (sends_once event i r s cursor there stamped own sends)
@@ -354,7 +355,7 @@ record IsOwn (i number : ℕ) (history : History) (w : World) : Type 0 where
 
 module _ (i number : ℕ) (history : History) (w : World) (owned : IsOwn i number history w) where
   -- replicas keep their incarnations
-  own_still : (event : Event) (answer : Answer) (new : World) → new.last ≡ w.last → ((j : ℕ) → ¬ IsRestart event answer j)
+  own_still : (event : Event) (answer : EventAnswer) (new : World) → new.last ≡ w.last → ((j : ℕ) → ¬ IsRestart event answer j)
       → ((j : ℕ) (s : Replica) → replica new j ≡ Some s → (r : Replica) × (replica w j ≡ Some r) × (s.incarnation ≡ r.incarnation)) → IsOwn i number (history ++ (event, answer) ∷ []) new
   own_still event answer new last no_restart replicas = record {
     born = subst (λ (n : ℕ). number ≤ n) (sym last) owned.born;
@@ -364,7 +365,7 @@ module _ (i number : ℕ) (history : History) (w : World) (owned : IsOwn i numbe
         (before.0, no_restart_push history event answer i before.1 (no_restart i));
   }
 
-  own_placed : (event : Event) (answer : Answer) (j : ℕ) (r next : Replica) → replica w j ≡ Some r → next.incarnation ≡ r.incarnation → ((j : ℕ) → ¬ IsRestart event answer j)
+  own_placed : (event : Event) (answer : EventAnswer) (j : ℕ) (r next : Replica) → replica w j ≡ Some r → next.incarnation ≡ r.incarnation → ((j : ℕ) → ¬ IsRestart event answer j)
       → IsOwn i number (history ++ (event, answer) ∷ []) (with_replica w j next)
   own_placed event answer j r next there own no_restart = own_still event answer (with_replica w j next) (last_stays w j next) no_restart (λ k s is. at k s (replica_placed w j r next k s there is))
     where
@@ -372,13 +373,13 @@ module _ (i number : ℕ) (history : History) (w : World) (owned : IsOwn i numbe
       at k s (inl (same, is)) = (r, ap (replica w) same ∙ there, ap (λ (s : Replica). s.incarnation) is ∙ own)
       at k s (inr (other, found)) = (s, found, refl)
 
-  own_restarted : (j : ℕ) (r : Replica) → replica w j ≡ Some r → IsOwn i number (history ++ (Restart j, Ok Restarted) ∷ []) (restarting w j)
+  own_restarted : (j : ℕ) (r : Replica) → replica w j ≡ Some r → IsOwn i number (history ++ (Restart j, Ok Restarted) ∷ []) (after_restart w j)
   own_restarted j r there = record {
     born = let below = owned.born in omega (arith, below);
-    own = λ k s is same. at k s same (replica_placed w j r (fresh (w.last + 1)) k s there is);
+    own = λ k s is same. at k s same (replica_placed w j r (new_replica (w.last + 1)) k s there is);
   }
     where
-      at : (k : ℕ) (s : Replica) → number ≡ s.incarnation → IsPlaced w j (fresh (w.last + 1)) k s → (i ≡ k) × NoRestart (history ++ (Restart j, Ok Restarted) ∷ []) i
+      at : (k : ℕ) (s : Replica) → number ≡ s.incarnation → IsPlaced w j (new_replica (w.last + 1)) k s → (i ≡ k) × NoRestart (history ++ (Restart j, Ok Restarted) ∷ []) i
       at k s same (inl (_, is)) =
           let late : number ≡ w.last + 1 = same ∙ ap (λ (s : Replica). s.incarnation) is in
           let below = owned.born in
@@ -387,20 +388,20 @@ module _ (i number : ℕ) (history : History) (w : World) (owned : IsOwn i numbe
           let before = owned.own k s found same in
           (before.0, no_restart_push history (Restart j) (Ok Restarted) i before.1 (λ restarts. let event_is = restarts.0 in let i_is = before.0 in other (cc)))
 
-  change_own : (event : Event) (answer : Answer) (new : World) → Change w event answer new → IsOwn i number (history ++ (event, answer) ∷ []) new
+  change_own : (event : Event) (answer : EventAnswer) (new : World) → Change w event answer new → IsOwn i number (history ++ (event, answer) ∷ []) new
   change_own event answer new (change.idle idle is) =
       own_still event answer new (ap (λ (w : World). w.last) is) (idle_not_restarted event answer idle) (λ j s there. (s, subst (λ (w : World). replica w j ≡ Some s) is there, refl))
   change_own event answer new (change.took j h r there event_is answer_is is) =
       subst (IsOwn i number (history ++ (event, answer) ∷ [])) (sym is)
-      (own_placed event answer j r (taking r (h ∷ []) (merge.Harvest h)) there refl (λ k restarts. let other = restarts.1 in cc))
+      (own_placed event answer j r (after_merge r (h ∷ []) (merge.Harvest h)) there refl (λ k restarts. let other = restarts.1 in cc))
   change_own event answer new (change.received j bytes s r there text event_is answer_is is) =
       subst (IsOwn i number (history ++ (event, answer) ∷ [])) (sym is)
-      (own_placed event answer j r (taking r (adds s) (merge.State s)) there refl (λ k restarts. let other = restarts.1 in cc))
+      (own_placed event answer j r (after_merge r (adds s) (merge.State s)) there refl (λ k restarts. let other = restarts.1 in cc))
   change_own event answer new (change.joined j k r m there found fit event_is answer_is is) =
-      subst (IsOwn i number (history ++ (event, answer) ∷ [])) (sym is) (own_placed event answer j r (joining r m) there refl (λ k restarts. let other = restarts.1 in cc))
+      subst (IsOwn i number (history ++ (event, answer) ∷ [])) (sym is) (own_placed event answer j r (after_join r m) there refl (λ k restarts. let other = restarts.1 in cc))
   change_own event answer new (change.sent j r s cursor there stamped own sends answer_is is) =
       own_still event answer new (ap (λ (w : World). w.last) is) (λ k restarts. let other = restarts.1 in cc)
-      (λ k t found. (t, subst (λ (rs : List Replica). numbered rs k ≡ Some t) (ap (λ (w : World). w.replicas) is) found, refl))
+      (λ k t found. (t, subst (λ (rs : List Replica). at_number rs k ≡ Some t) (ap (λ (w : World). w.replicas) is) found, refl))
   change_own event answer new (change.restarted j r there event_is answer_is is) =
       happened_as (IsOwn i number) history event (Restart j) answer (Ok Restarted) new _ event_is answer_is is (own_restarted j r there)
 

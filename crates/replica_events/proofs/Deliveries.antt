@@ -5,7 +5,7 @@ use Rattle.harvest_lattice.specs.Knowledge.{Harvested}
 use Rattle.replica_events.specs.declared.event.Event.{Event}
 use Rattle.replica_events.specs.declared.event.Event.TheVariants.{Deliver}
 use Rattle.replica_events.specs.declared.event.Said.TheVariants.{Sent, Joined}
-use Rattle.replica_events.specs.World.{Answer}
+use Rattle.replica_events.specs.World.{EventAnswer}
 use Rattle.replica_events.specs.History.{Happened, History, NoRestart, Learnt, through, Carries, IsLocal}
 use Rattle.replica_events.proofs.Histories.{IsRestart, Gains, After, Sends, carries_still, carries_now, carries_before, learnt_still, learnt_now, learnt_after}
 
@@ -20,16 +20,16 @@ alike_back : {Names : ℕ → Type 0} {one other : History} → Alike Names one 
 alike_back a = record { learnt = λ i h. ((a.learnt i h).1, (a.learnt i h).0); carries = λ k h named. ((a.carries k h named).1, (a.carries k h named).0) }
 
 -- an event delivers only these messages
-abbrev Delivers : (ℕ → Type 0) → Event → Answer → Type 0
+abbrev Delivers : (ℕ → Type 0) → Event → EventAnswer → Type 0
 Delivers Names event answer = (i k : ℕ) → event ≡ Deliver i k → answer ≡ Ok Joined → Names k
 
-gains_alike : {Names : ℕ → Type 0} (one other : History) (event : Event) (answer : Answer) (i : ℕ) (h : Harvested) → Alike Names one other → Delivers Names event answer
+gains_alike : {Names : ℕ → Type 0} (one other : History) (event : Event) (answer : EventAnswer) (i : ℕ) (h : Harvested) → Alike Names one other → Delivers Names event answer
     → Gains one event answer i h → Gains other event answer i h
 gains_alike one other event answer i h a named (inl taken) = inl taken
 gains_alike one other event answer i h a named (inr (inl received)) = inr (inl received)
 gains_alike one other event answer i h a named (inr (inr (k, event_is, answer_is, c))) = inr (inr (k, event_is, answer_is, (a.carries k h (named i k event_is answer_is)).0 c))
 
-learnt_alike : {Names : ℕ → Type 0} (one other : History) (event : Event) (answer : Answer) (i : ℕ) (h : Harvested) → Alike Names one other → Delivers Names event answer
+learnt_alike : {Names : ℕ → Type 0} (one other : History) (event : Event) (answer : EventAnswer) (i : ℕ) (h : Harvested) → Alike Names one other → Delivers Names event answer
     → Learnt (one ++ (event, answer) ∷ []) i h → Learnt (other ++ (event, answer) ∷ []) i h
 learnt_alike one other event answer i h a named learnt = from (learnt_after one event answer refl learnt)
   where
@@ -37,16 +37,16 @@ learnt_alike one other event answer i h a named learnt = from (learnt_after one 
     from (inl (before, still)) = learnt_still event answer ((a.learnt i h).0 before) still
     from (inr gained) = learnt_now other event answer i h (gains_alike one other event answer i h a named gained)
 
-carries_alike : {Names : ℕ → Type 0} (one other : History) (event : Event) (answer : Answer) (k : ℕ) (h : Harvested) → Alike Names one other → Names k
+carries_alike : {Names : ℕ → Type 0} (one other : History) (event : Event) (answer : EventAnswer) (k : ℕ) (h : Harvested) → Alike Names one other → Names k
     → Carries (one ++ (event, answer) ∷ []) k h → Carries (other ++ (event, answer) ∷ []) k h
 carries_alike one other event answer k h a named c = from (carries_before one event answer k h c)
   where
     from : Carries one k h ⊎ Sends one event answer k h → Carries (other ++ (event, answer) ∷ []) k h
     from (inl before) = carries_still other event answer k h ((a.carries k h named).0 before)
     from (inr s) =
-        subst (λ (said : Answer). Carries (other ++ (event, said) ∷ []) k h) (sym s.answer_is) (carries_now other event s.sender k h s.sends ((a.learnt s.sender h).0 s.learnt))
+        subst (λ (said : EventAnswer). Carries (other ++ (event, said) ∷ []) k h) (sym s.answer_is) (carries_now other event s.sender k h s.sends ((a.learnt s.sender h).0 s.learnt))
 
-alike_push : {Names : ℕ → Type 0} (one other : History) (event : Event) (answer : Answer) → Alike Names one other → Delivers Names event answer
+alike_push : {Names : ℕ → Type 0} (one other : History) (event : Event) (answer : EventAnswer) → Alike Names one other → Delivers Names event answer
     → Alike Names (one ++ (event, answer) ∷ []) (other ++ (event, answer) ∷ [])
 alike_push one other event answer a named = record {
   learnt = λ i h. (learnt_alike one other event answer i h a named, learnt_alike other one event answer i h (alike_back a) named);
@@ -84,7 +84,7 @@ sent_alike before sending k = record {
 
     old : (n : ℕ) (h : Harvested) → ¬ (n ≡ k) → Carries before n h ⊎ Sends before sending (Ok (Sent k)) n h → Carries before n h
     old n h other (inl c) = c
-    old n h other (inr s) = let said : (let answer : Answer = Ok (Sent k) in answer) ≡ Ok (Sent n) = s.answer_is in let is : n ≡ k = cc in absurd (other is)
+    old n h other (inr s) = let said : (let answer : EventAnswer = Ok (Sent k) in answer) ≡ Ok (Sent n) = s.answer_is in let is : n ≡ k = cc in absurd (other is)
 
 pub lost_message : (before after : History) (sending : Event) (k : ℕ) → ((i : ℕ) → ¬ Contains after (Deliver i k, Ok Joined))
     → (i : ℕ) (h : Harvested) → Learnt (before ++ (sending, Ok (Sent k)) ∷ after) i h ↔ Learnt (before ++ after) i h
@@ -125,7 +125,7 @@ delivered_already before between i k h none unsent c = from (part before between
 
     from : ((rest : History) × (before ≡ c.before ++ x ∷ rest)) ⊎ ((y ≡ x) ⊎ Contains between x) → Learnt (before ++ y ∷ between) i h
     from (inl (rest, is)) = through c.before rest between c.sender k c.sending c.sends (ap (λ (l : History). l ++ y ∷ between) is) none c.learnt
-    from (inr (inl same)) = let answer_is : (let said : Answer = Ok Joined in said) ≡ Ok (Sent k) = ap (λ (x : Happened). x.1) same in cc
+    from (inr (inl same)) = let answer_is : (let said : EventAnswer = Ok Joined in said) ≡ Ok (Sent k) = ap (λ (x : Happened). x.1) same in cc
     from (inr (inr behind)) = absurd (unsent c.sending behind)
 
 again_alike : (before between : History) (i k : ℕ) → NoRestart between i → ((sending : Event) → ¬ Contains between (sending, Ok (Sent k)))
@@ -152,7 +152,7 @@ again_alike before between i k none unsent = record {
 
     old : (n : ℕ) (h : Harvested) → Carries all n h ⊎ Sends all (Deliver i k) (Ok Joined) n h → Carries all n h
     old n h (inl c) = c
-    old n h (inr s) = let answer_is : (let said : Answer = Ok Joined in said) ≡ Ok (Sent n) = s.answer_is in cc
+    old n h (inr s) = let answer_is : (let said : EventAnswer = Ok Joined in said) ≡ Ok (Sent n) = s.answer_is in cc
 
 pub repeated_delivery : (before between after : History) (i k : ℕ) → NoRestart between i → ((sending : Event) → ¬ Contains between (sending, Ok (Sent k)))
     → (j : ℕ) (h : Harvested)
@@ -165,13 +165,13 @@ repeated_delivery before between after i k none unsent j h =
 
 -- ---- two neighbours the other way round
 
-gains_still : (history : History) (other : Event) (said : Answer) (event : Event) (answer : Answer) (i : ℕ) (h : Harvested) → Gains history event answer i h
+gains_still : (history : History) (other : Event) (said : EventAnswer) (event : Event) (answer : EventAnswer) (i : ℕ) (h : Harvested) → Gains history event answer i h
     → Gains (history ++ (other, said) ∷ []) event answer i h
 gains_still history other said event answer i h (inl taken) = inl taken
 gains_still history other said event answer i h (inr (inl received)) = inr (inl received)
 gains_still history other said event answer i h (inr (inr (k, event_is, answer_is, c))) = inr (inr (k, event_is, answer_is, carries_still history other said k h c))
 
-carries_unsent : (history : History) (event : Event) (answer : Answer) (k : ℕ) (h : Harvested) → IsLocal (event, answer) → Carries (history ++ (event, answer) ∷ []) k h → Carries history k h
+carries_unsent : (history : History) (event : Event) (answer : EventAnswer) (k : ℕ) (h : Harvested) → IsLocal (event, answer) → Carries (history ++ (event, answer) ∷ []) k h → Carries history k h
 carries_unsent history event answer k h local c = from (carries_before history event answer k h c)
   where
     from : Carries history k h ⊎ Sends history event answer k h → Carries history k h
@@ -180,16 +180,16 @@ carries_unsent history event answer k h local c = from (carries_before history e
         let answer_is : answer ≡ Ok (Sent k) = s.answer_is in
         absurd (local.no_send event k (λ j. (event, answer_is j)))
 
-gains_before : (history : History) (other : Event) (said : Answer) (event : Event) (answer : Answer) (i : ℕ) (h : Harvested) → IsLocal (other, said)
+gains_before : (history : History) (other : Event) (said : EventAnswer) (event : Event) (answer : EventAnswer) (i : ℕ) (h : Harvested) → IsLocal (other, said)
     → Gains (history ++ (other, said) ∷ []) event answer i h → Gains history event answer i h
 gains_before history other said event answer i h local (inl taken) = inl taken
 gains_before history other said event answer i h local (inr (inl received)) = inr (inl received)
 gains_before history other said event answer i h local (inr (inr (k, event_is, answer_is, c))) = inr (inr (k, event_is, answer_is, carries_unsent history other said k h local c))
 
-not_restart : (event : Event) (answer : Answer) (i : ℕ) → IsLocal (event, answer) → ¬ IsRestart event answer i
+not_restart : (event : Event) (answer : EventAnswer) (i : ℕ) → IsLocal (event, answer) → ¬ IsRestart event answer i
 not_restart event answer i local is = local.no_restart i (λ j. (is.0 j, is.1 j))
 
-swapped_learnt : (history : History) (event : Event) (answer : Answer) (other : Event) (said : Answer) (i : ℕ) (h : Harvested) → IsLocal (event, answer) → IsLocal (other, said)
+swapped_learnt : (history : History) (event : Event) (answer : EventAnswer) (other : Event) (said : EventAnswer) (i : ℕ) (h : Harvested) → IsLocal (event, answer) → IsLocal (other, said)
     → Learnt ((history ++ (event, answer) ∷ []) ++ (other, said) ∷ []) i h → Learnt ((history ++ (other, said) ∷ []) ++ (event, answer) ∷ []) i h
 swapped_learnt history event answer other said i h one two learnt = last (learnt_after (history ++ (event, answer) ∷ []) other said refl learnt)
   where
@@ -201,7 +201,7 @@ swapped_learnt history event answer other said i h one two learnt = last (learnt
     last (inl (before, still)) = first (learnt_after history event answer refl before)
     last (inr gained) = learnt_still event answer (learnt_now history other said i h (gains_before history event answer other said i h one gained)) (not_restart event answer i one)
 
-swapped_carries : (history : History) (event : Event) (answer : Answer) (other : Event) (said : Answer) (k : ℕ) (h : Harvested) → IsLocal (event, answer) → IsLocal (other, said)
+swapped_carries : (history : History) (event : Event) (answer : EventAnswer) (other : Event) (said : EventAnswer) (k : ℕ) (h : Harvested) → IsLocal (event, answer) → IsLocal (other, said)
     → Carries ((history ++ (event, answer) ∷ []) ++ (other, said) ∷ []) k h → Carries ((history ++ (other, said) ∷ []) ++ (event, answer) ∷ []) k h
 swapped_carries history event answer other said k h one two c =
     carries_still (history ++ (other, said) ∷ []) event answer k h

@@ -17,8 +17,8 @@ use Rattle.memento_index.specs.declared.merge.Merge.TheVariants as merge
 use Rattle.replica_exchange.specs.declared.delta.Delta.{Delta}
 use Rattle.replica_exchange.specs.DeltaText.{delta_text}
 use Rattle.replica_exchange.specs.CursorRule.{delta_from}
-use Rattle.replica_events.specs.World.{Knowledge, World, Replica, Message, Answer, Course, IsText, numbered, replica, message, with_replica}
-use Rattle.replica_events.specs.World.{with_message, taking, joining, sent_by, fresh, start, restarting}
+use Rattle.replica_events.specs.World.{Knowledge, World, Replica, Message, EventAnswer, Course, IsText, at_number, replica, message, with_replica}
+use Rattle.replica_events.specs.World.{with_message, after_merge, after_join, sent_by, new_replica, start, after_restart}
 use Rattle.replica_events.specs.Agreement.{HasTaken, SameHarvests}
 use Rattle.replica_events.specs.History.{Happened, History, history_of, sender_of, Learnt, LearntAlike, Carries, HasSent}
 use Rattle.replica_events.proofs.Numbers.{IsPlaced, replica_placed, messages_stay, Pushed, pushed}
@@ -38,24 +38,24 @@ record Explains (history : History) (w : World) : Type 0 where
   pub bytes : (k : ℕ) (m : Message) → message w k ≡ Some m → m.bytes ≡ delta_text m.delta
 
 -- the answer isn't that a message was sent
-abbrev IsUnsent : Answer → Type 0
+abbrev IsUnsent : EventAnswer → Type 0
 IsUnsent answer = (message : ℕ) → answer ≡ Ok (Sent message) → ⊥
 
 sent_still : (history : History) (happened : Happened) (sender k : ℕ) → HasSent history sender k → HasSent (history ++ happened ∷ []) sender k
 sent_still history happened sender k s = record { sending = s.sending; sends = s.sends; sent = Contains-append_left history (happened ∷ []) (s.sending, Ok (Sent k)) s.sent }
 
 -- an event that sends no message changes none
-without_message : (history : History) (event : Event) (answer : Answer) (w new : World) → Explains history w → new.messages ≡ w.messages → IsUnsent answer
+without_message : (history : History) (event : Event) (answer : EventAnswer) (w new : World) → Explains history w → new.messages ≡ w.messages → IsUnsent answer
     → ((i : ℕ) (r : Replica) → replica new i ≡ Some r → (h : Harvested) → Contains r.taken h ↔ Learnt (history ++ (event, answer) ∷ []) i h)
     → Explains (history ++ (event, answer) ∷ []) new
 without_message history event answer w new explains same unsent taken = record {
   taken = taken;
   carried = λ k m there h.
-      let before = explains.carried k m (subst (λ (ms : List Message). numbered ms k ≡ Some m) same there) h in
+      let before = explains.carried k m (subst (λ (ms : List Message). at_number ms k ≡ Some m) same there) h in
       (λ has. carries_still history event answer k h (before.0 has), λ c. before.1 (not_sent k h (carries_before history event answer k h c)));
   numbers = λ sending k at. subst (λ (ms : List Message). k ≤ length ms) (sym same) (not_last sending k (Contains-push_cases history (event, answer) (sending, Ok (Sent k)) at));
-  sent = λ k m there. sent_still history (event, answer) m.sender k (explains.sent k m (subst (λ (ms : List Message). numbered ms k ≡ Some m) same there));
-  bytes = λ k m there. explains.bytes k m (subst (λ (ms : List Message). numbered ms k ≡ Some m) same there);
+  sent = λ k m there. sent_still history (event, answer) m.sender k (explains.sent k m (subst (λ (ms : List Message). at_number ms k ≡ Some m) same there));
+  bytes = λ k m there. explains.bytes k m (subst (λ (ms : List Message). at_number ms k ≡ Some m) same there);
 }
   where
     not_sent : (k : ℕ) (h : Harvested) → Carries history k h ⊎ Sends history event answer k h → Carries history k h
@@ -67,7 +67,7 @@ without_message history event answer w new explains same unsent taken = record {
     not_last sending k (inr last) = absurd (unsent k (ap (λ (x : Happened). x.1) last))
 
 -- what a replica has learnt stays so, where the event is not about it
-same_learnt : {A : Type 0} (history : History) (event : Event) (answer : Answer) (i : ℕ) (h : Harvested) → A ↔ Learnt history i h → ¬ Gains history event answer i h
+same_learnt : {A : Type 0} (history : History) (event : Event) (answer : EventAnswer) (i : ℕ) (h : Harvested) → A ↔ Learnt history i h → ¬ Gains history event answer i h
     → ¬ IsRestart event answer i → A ↔ Learnt (history ++ (event, answer) ∷ []) i h
 same_learnt {A} history event answer i h before idle other = (λ a. both.0 (inl a), λ learnt. had (both.1 learnt))
   where
@@ -79,7 +79,7 @@ same_learnt {A} history event answer i h before idle other = (λ a. both.0 (inl 
     had (inr none) = absurd none
 
 -- nothing happens
-idles : (history : History) (event : Event) (answer : Answer) (w : World) → Explains history w → IsUnsent answer
+idles : (history : History) (event : Event) (answer : EventAnswer) (w : World) → Explains history w → IsUnsent answer
     → ((i : ℕ) → ¬ IsRestart event answer i) → ((i : ℕ) (h : Harvested) → ¬ Gains history event answer i h) → Explains (history ++ (event, answer) ∷ []) w
 idles history event answer w explains unsent other idle =
     without_message history event answer w w explains refl unsent (λ i r there h. same_learnt history event answer i h (explains.taken i r there h) (idle i h) (other i))
@@ -107,7 +107,7 @@ replied history i q r w explains = idles history (Ask i q) (Ok (Replied r)) w ex
     none j h (inr (inr (message, event_is, answer_is, c))) = cc
 
 -- one replica takes more
-gains : (history : History) (event : Event) (answer : Answer) (w : World) (i : ℕ) (r next : Replica) (more : Knowledge) → next.taken ≡ r.taken ++ more → Explains history w → replica w i ≡ Some r
+gains : (history : History) (event : Event) (answer : EventAnswer) (w : World) (i : ℕ) (r next : Replica) (more : Knowledge) → next.taken ≡ r.taken ++ more → Explains history w → replica w i ≡ Some r
     → IsUnsent answer → ((j : ℕ) → ¬ IsRestart event answer j)
     → ((h : Harvested) → Contains more h ↔ Gains history event answer i h) → ((j : ℕ) (h : Harvested) → Gains history event answer j h → j ≡ i)
     → Explains (history ++ (event, answer) ∷ []) (with_replica w i next)
@@ -139,9 +139,9 @@ only_one g h at = last (Contains-push_cases [] g h at)
     last (inr is) = is
 
 taken : (history : History) (w : World) (i : ℕ) (g : Harvested) (r : Replica) → Explains history w → replica w i ≡ Some r
-    → Explains (history ++ (Take i g, Ok Taken) ∷ []) (with_replica w i (taking r (g ∷ []) (merge.Harvest g)))
+    → Explains (history ++ (Take i g, Ok Taken) ∷ []) (with_replica w i (after_merge r (g ∷ []) (merge.Harvest g)))
 taken history w i g r explains there =
-    gains history (Take i g) (Ok Taken) w i r (taking r (g ∷ []) (merge.Harvest g)) (g ∷ []) refl explains there (λ message answer_is. cc) other (λ h. (λ at. to h (only_one g h at), from h)) only
+    gains history (Take i g) (Ok Taken) w i r (after_merge r (g ∷ []) (merge.Harvest g)) (g ∷ []) refl explains there (λ message answer_is. cc) other (λ h. (λ at. to h (only_one g h at), from h)) only
   where
     other : (j : ℕ) → ¬ IsRestart (Take i g) (Ok Taken) j
     other j (event_is, answer_is) = cc
@@ -160,9 +160,9 @@ taken history w i g r explains there =
     only j h (inr (inr (message, event_is, answer_is, c))) = cc
 
 received : (history : History) (w : World) (i : ℕ) (bytes : List ℕ) (s : Entries) (r : Replica) → Explains history w → replica w i ≡ Some r → IsText bytes s
-    → Explains (history ++ (Receive i bytes, Ok Joined) ∷ []) (with_replica w i (taking r (adds s) (merge.State s)))
+    → Explains (history ++ (Receive i bytes, Ok Joined) ∷ []) (with_replica w i (after_merge r (adds s) (merge.State s)))
 received history w i bytes s r explains there text =
-    gains history (Receive i bytes) (Ok Joined) w i r (taking r (adds s) (merge.State s)) (adds s) refl explains there (λ message answer_is. cc) other (λ h. (to h, from h)) only
+    gains history (Receive i bytes) (Ok Joined) w i r (after_merge r (adds s) (merge.State s)) (adds s) refl explains there (λ message answer_is. cc) other (λ h. (to h, from h)) only
   where
     other : (j : ℕ) → ¬ IsRestart (Receive i bytes) (Ok Joined) j
     other j (event_is, answer_is) = cc
@@ -184,9 +184,9 @@ received history w i bytes s r explains there text =
     only j h (inr (inr (message, event_is, answer_is, c))) = cc
 
 delivered : (history : History) (w : World) (i k : ℕ) (m : Message) (r : Replica) → Explains history w → replica w i ≡ Some r → message w k ≡ Some m
-    → Explains (history ++ (Deliver i k, Ok Joined) ∷ []) (with_replica w i (joining r m))
+    → Explains (history ++ (Deliver i k, Ok Joined) ∷ []) (with_replica w i (after_join r m))
 delivered history w i k m r explains there sent =
-    gains history (Deliver i k) (Ok Joined) w i r (joining r m) m.taken refl explains there (λ message answer_is. cc) other (λ h. (to h, from h)) only
+    gains history (Deliver i k) (Ok Joined) w i r (after_join r m) m.taken refl explains there (λ message answer_is. cc) other (λ h. (to h, from h)) only
   where
     other : (j : ℕ) → ¬ IsRestart (Deliver i k) (Ok Joined) j
     other j (event_is, answer_is) = cc
@@ -206,10 +206,10 @@ delivered history w i k m r explains there sent =
     only j h (inr (inl (bytes, state, event_is, answer_is, text, at))) = cc
     only j h (inr (inr (number, event_is, answer_is, c))) = cc
 
-restarted : (history : History) (w : World) (i : ℕ) (r : Replica) → Explains history w → replica w i ≡ Some r → Explains (history ++ (Restart i, Ok Restarted) ∷ []) (restarting w i)
+restarted : (history : History) (w : World) (i : ℕ) (r : Replica) → Explains history w → replica w i ≡ Some r → Explains (history ++ (Restart i, Ok Restarted) ∷ []) (after_restart w i)
 restarted history w i r explains there =
-    without_message history (Restart i) (Ok Restarted) w (restarting w i) explains (messages_stay w i (fresh (w.last + 1))) (λ message answer_is. cc)
-    (λ j s is h. at j s h (replica_placed w i r (fresh (w.last + 1)) j s there is))
+    without_message history (Restart i) (Ok Restarted) w (after_restart w i) explains (messages_stay w i (new_replica (w.last + 1))) (λ message answer_is. cc)
+    (λ j s is h. at j s h (replica_placed w i r (new_replica (w.last + 1)) j s there is))
   where
     none : (j : ℕ) (h : Harvested) → ¬ Gains history (Restart i) (Ok Restarted) j h
     none j h (inl (event_is, answer_is)) = cc
@@ -225,7 +225,7 @@ restarted history w i r explains there =
     same : (j : ℕ) → IsRestart (Restart i) (Ok Restarted) j → j ≡ i
     same j (event_is, answer_is) = cc
 
-    at : (j : ℕ) (s : Replica) (h : Harvested) → IsPlaced w i (fresh (w.last + 1)) j s → Contains s.taken h ↔ Learnt (history ++ (Restart i, Ok Restarted) ∷ []) j h
+    at : (j : ℕ) (s : Replica) (h : Harvested) → IsPlaced w i (new_replica (w.last + 1)) j s → Contains s.taken h ↔ Learnt (history ++ (Restart i, Ok Restarted) ∷ []) j h
     at j s h (inl (j_is, is)) =
         subst (λ (s : Replica). Contains s.taken h ↔ Learnt (history ++ (Restart i, Ok Restarted) ∷ []) j h) (sym is)
         (subst (λ (j : ℕ). Contains [] h ↔ Learnt (history ++ (Restart i, Ok Restarted) ∷ []) j h) (sym j_is) (here h))
@@ -244,7 +244,7 @@ sent history w event i r d sends explains there = record {
   bytes = λ k m is. text k m (pushed w.messages (sent_by i r d) k m is);
 }
   where
-    said : Answer
+    said : EventAnswer
     said = Ok (Sent (length w.messages + 1))
 
     none : (j : ℕ) (h : Harvested) → ¬ Gains history event said j h
@@ -304,7 +304,8 @@ sent history w event i r d sends explains there = record {
 
 -- ---- each event
 
-change_explained : (history : History) (w : World) (event : Event) (answer : Answer) (new : World) → Explains history w → Change w event answer new → Explains (history ++ (event, answer) ∷ []) new
+change_explained : (history : History) (w : World) (event : Event) (answer : EventAnswer) (new : World) → Explains history w
+    → Change w event answer new → Explains (history ++ (event, answer) ∷ []) new
 change_explained history w event answer new explains (change.idle (inl (why, answer_is)) is) =
     happened_as Explains history event event answer (Err why) new w refl answer_is is (refused history event why w explains)
 change_explained history w event answer new explains (change.idle (inr (i, q, r, event_is, answer_is)) is) =

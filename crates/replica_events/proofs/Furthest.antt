@@ -15,7 +15,7 @@ use Rattle.replica_exchange.specs.CursorRule.{Held, end_of, moved, taken_from}
 use Rattle.replica_events.specs.declared.event.Event.{Event}
 use Rattle.replica_events.specs.declared.event.Event.TheVariants.{Deliver, Restart}
 use Rattle.replica_events.specs.declared.event.Said.TheVariants.{Joined, Restarted}
-use Rattle.replica_events.specs.World.{World, Replica, Message, Answer, Course, numbered, replica, message, with_replica, taking, joining, fresh, start, restarting}
+use Rattle.replica_events.specs.World.{World, Replica, Message, EventAnswer, Course, at_number, replica, message, with_replica, after_merge, after_join, new_replica, start, after_restart}
 use Rattle.replica_events.specs.History.{Happened, History, NoRestart, history_of}
 use Rattle.replica_events.specs.Incarnations.{WasSentIn}
 use Rattle.replica_events.specs.Cursors.{WasBrought, IsRecent, IsFurthest}
@@ -37,7 +37,7 @@ same_front xs ys x is = from (stood xs ys [] x x is)
 module _ (count i peer : ℕ) where
   -- ---- one event more
 
-  module _ (history : History) (event : Event) (answer : Answer) where
+  module _ (history : History) (event : Event) (answer : EventAnswer) where
     -- the event is an accepted delivery of a message of the peer, whose delta ends there
     pub record Brings (end : Cursor) : Type 0 where
       pub message : ℕ
@@ -136,7 +136,7 @@ module _ (count i peer : ℕ) where
   Says history None = (end : Cursor) (after : History) → ¬ WasBrought count history i peer end after
   Says history (Some c) = IsFurthest count history i peer c × ((end : Cursor) → IsRecent count history i peer end → end.incarnation ≡ c.incarnation)
 
-  module _ (history : History) (event : Event) (answer : Answer) where
+  module _ (history : History) (event : Event) (answer : EventAnswer) where
     says_restarted : IsRestart event answer i → Says (all history event answer) None
     says_restarted is end after b = from (brought_after history event answer end after b)
       where
@@ -254,7 +254,7 @@ module _ (count i peer : ℕ) where
 
 -- ---- runs
 
-idle_not_joined : (event : Event) (answer : Answer) → IsIdle event answer → answer ≡ Ok Joined → ⊥
+idle_not_joined : (event : Event) (answer : EventAnswer) → IsIdle event answer → answer ≡ Ok Joined → ⊥
 idle_not_joined event answer (inl (why, answer_is)) other = cc
 idle_not_joined event answer (inr (i, q, reply, event_is, answer_is)) other = cc
 
@@ -264,17 +264,17 @@ Kept count history w = (i : ℕ) (r : Replica) → replica w i ≡ Some r → (p
 
 module _ (count : ℕ) (history : History) (w : World) (counts : Counts count history w) (kept : Kept count history w) where
   -- the event brings nothing to any replica
-  abbrev IsUnbrought : Event → Answer → Type 0
+  abbrev IsUnbrought : Event → EventAnswer → Type 0
   IsUnbrought event answer = (j peer : ℕ) (end : Cursor) → ¬ Brings count j peer history event answer end
 
   -- the replicas are those that were
-  same_replicas : (event : Event) (answer : Answer) (new : World) → new.replicas ≡ w.replicas → ((j : ℕ) → ¬ IsRestart event answer j) → IsUnbrought event answer
+  same_replicas : (event : Event) (answer : EventAnswer) (new : World) → new.replicas ≡ w.replicas → ((j : ℕ) → ¬ IsRestart event answer j) → IsUnbrought event answer
       → Kept count (history ++ (event, answer) ∷ []) new
   same_replicas event answer new same other unbrought j s is peer =
-      says_still count j peer history event answer (map.get s.cursors peer) (kept j s (subst (λ (rs : List Replica). numbered rs j ≡ Some s) same is) peer) (other j) (unbrought j peer)
+      says_still count j peer history event answer (map.get s.cursors peer) (kept j s (subst (λ (rs : List Replica). at_number rs j ≡ Some s) same is) peer) (other j) (unbrought j peer)
 
   -- one replica has taken more, and keeps its cursors
-  same_cursors : (event : Event) (answer : Answer) (i : ℕ) (r next : Replica) → replica w i ≡ Some r → next.cursors ≡ r.cursors → ((j : ℕ) → ¬ IsRestart event answer j) → IsUnbrought event answer
+  same_cursors : (event : Event) (answer : EventAnswer) (i : ℕ) (r next : Replica) → replica w i ≡ Some r → next.cursors ≡ r.cursors → ((j : ℕ) → ¬ IsRestart event answer j) → IsUnbrought event answer
       → Kept count (history ++ (event, answer) ∷ []) (with_replica w i next)
   same_cursors event answer i r next there cursors other unbrought j s is peer = at (replica_placed w i r next j s there is)
     where
@@ -287,11 +287,11 @@ module _ (count : ℕ) (history : History) (w : World) (counts : Counts count hi
           subst (Says count j peer (history ++ (event, answer) ∷ [])) of_r (still r (ap (replica w) same ∙ there))
       at (inr (elsewhere, found)) = still s found
 
-  undelivered : (event : Event) (answer : Answer) → ((j k : ℕ) → event ≡ Deliver j k → answer ≡ Ok Joined → ⊥) → IsUnbrought event answer
+  undelivered : (event : Event) (answer : EventAnswer) → ((j k : ℕ) → event ≡ Deliver j k → answer ≡ Ok Joined → ⊥) → IsUnbrought event answer
   undelivered event answer none j peer end brings = none j brings.message brings.event_is brings.answer_is
 
-  joined_kept : (i k : ℕ) (r : Replica) (m : Message) → replica w i ≡ Some r → message w k ≡ Some m → Kept count (history ++ (Deliver i k, Ok Joined) ∷ []) (with_replica w i (joining r m))
-  joined_kept i k r m there found j s is peer = at (replica_placed w i r (joining r m) j s there is)
+  joined_kept : (i k : ℕ) (r : Replica) (m : Message) → replica w i ≡ Some r → message w k ≡ Some m → Kept count (history ++ (Deliver i k, Ok Joined) ∷ []) (with_replica w i (after_join r m))
+  joined_kept i k r m there found j s is peer = at (replica_placed w i r (after_join r m) j s there is)
     where
       after : History
       after = history ++ (Deliver i k, Ok Joined) ∷ []
@@ -331,7 +331,7 @@ module _ (count : ℕ) (history : History) (w : World) (counts : Counts count hi
           other : eq_by_cmp nat_cmp peer m.sender ≡ false → m.sender ≡ peer → ⊥
           other differs same = false≢true (sym differs ∙ (ap (λ (p : ℕ). eq_by_cmp nat_cmp peer p) same ∙ ap is_eq (tied_itself nat_cmp_total peer)))
 
-      at : IsPlaced w i (joining r m) j s → Says count j peer after (map.get s.cursors peer)
+      at : IsPlaced w i (after_join r m) j s → Says count j peer after (map.get s.cursors peer)
       at (inl (same, next_is)) =
           subst (λ (s : Replica). Says count j peer after (map.get s.cursors peer)) (sym next_is)
           (subst (λ (j : ℕ). Says count j peer after (map.get (taken_from r.cursors m.sender m.delta) peer)) (sym same) (here peer))
@@ -339,10 +339,10 @@ module _ (count : ℕ) (history : History) (w : World) (counts : Counts count hi
           says_still count j peer history (Deliver i k) (Ok Joined) (map.get s.cursors peer) (kept j s there peer) (no_restart j)
           (λ end b. let event_is = b.event_is in elsewhere (cc))
 
-  restarted_kept : (i : ℕ) (r : Replica) → replica w i ≡ Some r → Kept count (history ++ (Restart i, Ok Restarted) ∷ []) (restarting w i)
-  restarted_kept i r there j s is peer = at (replica_placed w i r (fresh (w.last + 1)) j s there is)
+  restarted_kept : (i : ℕ) (r : Replica) → replica w i ≡ Some r → Kept count (history ++ (Restart i, Ok Restarted) ∷ []) (after_restart w i)
+  restarted_kept i r there j s is peer = at (replica_placed w i r (new_replica (w.last + 1)) j s there is)
     where
-      at : IsPlaced w i (fresh (w.last + 1)) j s → Says count j peer (history ++ (Restart i, Ok Restarted) ∷ []) (map.get s.cursors peer)
+      at : IsPlaced w i (new_replica (w.last + 1)) j s → Says count j peer (history ++ (Restart i, Ok Restarted) ∷ []) (map.get s.cursors peer)
       at (inl (same, next_is)) =
           let none : map.get s.cursors peer ≡ None = ap (λ (s : Replica). map.get s.cursors peer) next_is ∙ map.get-empty nat_cmp peer in
           subst (Says count j peer (history ++ (Restart i, Ok Restarted) ∷ [])) (sym none)
@@ -351,17 +351,17 @@ module _ (count : ℕ) (history : History) (w : World) (counts : Counts count hi
           says_still count j peer history (Restart i) (Ok Restarted) (map.get s.cursors peer) (kept j s there peer) (λ restarts. let event_is = restarts.0 in elsewhere (cc))
           (undelivered (Restart i) (Ok Restarted) (λ j k event_is _. cc) j peer)
 
-  change_kept : (event : Event) (answer : Answer) (new : World) → Change w event answer new → Kept count (history ++ (event, answer) ∷ []) new
+  change_kept : (event : Event) (answer : EventAnswer) (new : World) → Change w event answer new → Kept count (history ++ (event, answer) ∷ []) new
   change_kept event answer new (change.idle answered is) =
       same_replicas event answer new (ap (λ (w : World). w.replicas) is) (idle_not_restarted event answer answered)
       (undelivered event answer (λ j k _ answer_is. idle_not_joined event answer answered answer_is))
   change_kept event answer new (change.took i h r there event_is answer_is is) =
       subst (Kept count (history ++ (event, answer) ∷ [])) (sym is)
-      (same_cursors event answer i r (taking r (h ∷ []) (merge.Harvest h)) there refl (λ j restarts. let other = restarts.1 in cc)
+      (same_cursors event answer i r (after_merge r (h ∷ []) (merge.Harvest h)) there refl (λ j restarts. let other = restarts.1 in cc)
       (undelivered event answer (λ j k _ other. cc)))
   change_kept event answer new (change.received i bytes s r there text event_is answer_is is) =
       subst (Kept count (history ++ (event, answer) ∷ [])) (sym is)
-      (same_cursors event answer i r (taking r (adds s) (merge.State s)) there refl (λ j restarts. let other = restarts.1 in cc)
+      (same_cursors event answer i r (after_merge r (adds s) (merge.State s)) there refl (λ j restarts. let other = restarts.1 in cc)
       (undelivered event answer (λ j k other _. cc)))
   change_kept event answer new (change.joined i k r m there found fit event_is answer_is is) =
       happened_as (Kept count) history event (Deliver i k) answer (Ok Joined) new _ event_is answer_is is (joined_kept i k r m there found)

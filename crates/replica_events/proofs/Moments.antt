@@ -15,8 +15,8 @@ use Rattle.replica_exchange.specs.declared.cursor.Cursor.{Cursor}
 use Rattle.replica_exchange.specs.Stamps.{state_after, StampedState, IsStamped}
 use Rattle.replica_exchange.specs.CursorRule.{delta_from, fits, end_of, moved, taken_from}
 use Rattle.replica_events.specs.declared.event.Event.{Event}
-use Rattle.replica_events.specs.World.{Knowledge, World, Replica, Message, Answer, Course, Step, Run, numbered, replica, message, with_replica}
-use Rattle.replica_events.specs.World.{with_message, taking, joining, sent_by, fresh, fresh_after, start, restarting}
+use Rattle.replica_events.specs.World.{Knowledge, World, Replica, Message, EventAnswer, Course, Step, Run, at_number, replica, message, with_replica}
+use Rattle.replica_events.specs.World.{with_message, after_merge, after_join, sent_by, new_replica, new_replicas_after, start, after_restart}
 use Rattle.replica_events.specs.Cursors.{GoesOn, IsReached}
 use Rattle.replica_events.proofs.Numbers.{IsPlaced, replica_placed, messages_stay, Pushed, pushed}
 use Rattle.replica_events.proofs.Changes as change
@@ -64,8 +64,8 @@ module _ (Met : ℕ → Replica → Type 0) where
   replaced : (w next : World) (i : ℕ) (old new : Replica) → Witnessed Met w → replica w i ≡ Some old → next.replicas ≡ (with_replica w i new).replicas → next.messages ≡ w.messages
       → ((peer : ℕ) (c : Cursor) → map.get new.cursors peer ≡ Some c → Saw Met peer c (lat new.taken)) → Witnessed Met next
   replaced w next i old new witnessed there replicas_are messages_are saw = record {
-    cursors = λ j s is. at j s (replica_placed w i old new j s there (subst (λ (rs : List Replica). numbered rs j ≡ Some s) replicas_are is));
-    messages = λ k m is. witnessed.messages k m (subst (λ (ms : List Message). numbered ms k ≡ Some m) messages_are is);
+    cursors = λ j s is. at j s (replica_placed w i old new j s there (subst (λ (rs : List Replica). at_number rs j ≡ Some s) replicas_are is));
+    messages = λ k m is. witnessed.messages k m (subst (λ (ms : List Message). at_number ms k ≡ Some m) messages_are is);
   }
     where
       at : (j : ℕ) (s : Replica) → IsPlaced w i new j s → (peer : ℕ) (c : Cursor) → map.get s.cursors peer ≡ Some c → Saw Met peer c (lat s.taken)
@@ -79,25 +79,25 @@ module _ (Met : ℕ → Replica → Type 0) where
     still_saw : (i : ℕ) (r : Replica) → replica w i ≡ Some r → (more : Knowledge) (peer : ℕ) (c : Cursor) → map.get r.cursors peer ≡ Some c → Saw Met peer c (lat (r.taken ++ more))
     still_saw i r there more peer c is = saw_more peer c (lat r.taken) (lat (r.taken ++ more)) (more_known r.taken more) (good.witnessed.cursors i r there peer c is)
 
-    good_taken : (i : ℕ) (r : Replica) (h : Harvested) → replica w i ≡ Some r → Good Met (with_replica w i (taking r (h ∷ []) (merge.Harvest h)))
+    good_taken : (i : ℕ) (r : Replica) (h : Harvested) → replica w i ≡ Some r → Good Met (with_replica w i (after_merge r (h ∷ []) (merge.Harvest h)))
     good_taken i r h there = record {
       logs = logs_with good.logs r (merge.Harvest h);
       sound = sound_taken good.logs w i r h good.sound there;
-      witnessed = replaced w _ i r (taking r (h ∷ []) (merge.Harvest h)) good.witnessed there refl (messages_stay w i _) (still_saw i r there (h ∷ []));
+      witnessed = replaced w _ i r (after_merge r (h ∷ []) (merge.Harvest h)) good.witnessed there refl (messages_stay w i _) (still_saw i r there (h ∷ []));
     }
 
-    good_received : (i : ℕ) (r : Replica) (s : Entries) → replica w i ≡ Some r → Good Met (with_replica w i (taking r (adds s) (merge.State s)))
+    good_received : (i : ℕ) (r : Replica) (s : Entries) → replica w i ≡ Some r → Good Met (with_replica w i (after_merge r (adds s) (merge.State s)))
     good_received i r s there = record {
       logs = logs_with good.logs r (merge.State s);
       sound = sound_received good.logs w i r s good.sound there;
-      witnessed = replaced w _ i r (taking r (adds s) (merge.State s)) good.witnessed there refl (messages_stay w i _) (still_saw i r there (adds s));
+      witnessed = replaced w _ i r (after_merge r (adds s) (merge.State s)) good.witnessed there refl (messages_stay w i _) (still_saw i r there (adds s));
     }
 
-    good_joined : (i k : ℕ) (r : Replica) (m : Message) → replica w i ≡ Some r → message w k ≡ Some m → fits (map.get r.cursors m.sender) m.delta ≡ true → Good Met (with_replica w i (joining r m))
+    good_joined : (i k : ℕ) (r : Replica) (m : Message) → replica w i ≡ Some r → message w k ≡ Some m → fits (map.get r.cursors m.sender) m.delta ≡ true → Good Met (with_replica w i (after_join r m))
     good_joined i k r m there found fit = record {
       logs = logs_with good.logs r (merge.State m.delta.state);
       sound = sound_joined good.logs w i k r m good.sound there found fit;
-      witnessed = replaced w _ i r (joining r m) good.witnessed there refl (messages_stay w i _) saw;
+      witnessed = replaced w _ i r (after_join r m) good.witnessed there refl (messages_stay w i _) saw;
     }
       where
         tells : Told Met m
@@ -154,16 +154,16 @@ module _ (Met : ℕ → Replica → Type 0) where
         })
         tells k m (inr (few, before)) = good.witnessed.messages k m before
 
-    good_restarted : (i : ℕ) (r : Replica) → replica w i ≡ Some r → Good Met (restarting w i)
+    good_restarted : (i : ℕ) (r : Replica) → replica w i ≡ Some r → Good Met (after_restart w i)
     good_restarted i r there = record {
       logs = good.logs;
       sound = sound_restarted good.logs w i r good.sound there;
-      witnessed = replaced w _ i r (fresh (w.last + 1)) good.witnessed there refl (messages_stay w i _) (λ peer c is. absurd (none-some c (sym (map.get-empty nat_cmp peer) ∙ is)));
+      witnessed = replaced w _ i r (new_replica (w.last + 1)) good.witnessed there refl (messages_stay w i _) (λ peer c is. absurd (none-some c (sym (map.get-empty nat_cmp peer) ∙ is)));
     }
 
     -- ---- each event
 
-    good_change : (event : Event) (answer : Answer) (new : World) → Change w event answer new → Good Met new
+    good_change : (event : Event) (answer : EventAnswer) (new : World) → Change w event answer new → Good Met new
     good_change event answer new (change.idle answered is) = subst (Good Met) (sym is) good
     good_change event answer new (change.took i h r there event_is answer_is is) = subst (Good Met) (sym is) (good_taken i r h there)
     good_change event answer new (change.received i bytes s r there text event_is answer_is is) = subst (Good Met) (sym is) (good_received i r s there)
@@ -171,7 +171,7 @@ module _ (Met : ℕ → Replica → Type 0) where
     good_change event answer new (change.sent i r s cursor there stamped own sends answer_is is) = subst (Good Met) (sym is) (good_sent i r s cursor there stamped own)
     good_change event answer new (change.restarted i r there event_is answer_is is) = subst (Good Met) (sym is) (good_restarted i r there)
 
-    pub good_step : (base : List ℕ) (event : Event) (answer : Answer) (new : World) → Step base w event answer new → Good Met new
+    pub good_step : (base : List ℕ) (event : Event) (answer : EventAnswer) (new : World) → Step base w event answer new → Good Met new
     good_step base event answer new step = good_change event answer new (step_changes w base event answer new step)
 
 -- what was met before is met still
@@ -192,7 +192,7 @@ met_still Met More w still good = record {
 abbrev pub Was : {base : List ℕ} → Course base → ℕ → Replica → Type 0
 Was {base} course p s = (earlier : Course base) × GoesOn earlier course × (replica earlier.world p ≡ Some s)
 
-pub run_push : (base : List ℕ) (w : World) (events : List Event) (answers : List Answer) (mid : World) (event : Event) (answer : Answer) (end : World)
+pub run_push : (base : List ℕ) (w : World) (events : List Event) (answers : List EventAnswer) (mid : World) (event : Event) (answer : EventAnswer) (end : World)
     → Run base w events answers mid → Step base mid event answer end → Run base w (events ++ event ∷ []) (answers ++ answer ∷ []) end
 run_push base w [] [] mid event answer end run step = (end, subst (λ (w : World). Step base w event answer end) run step, refl)
 run_push base w [] (a ∷ answers) mid event answer end run step = absurd run
@@ -200,7 +200,7 @@ run_push base w (e ∷ events) [] mid event answer end run step = absurd run
 run_push base w (e ∷ events) (a ∷ answers) mid event answer end run step = (run.0, run.1, run_push base run.0 events answers mid event answer end run.2 step)
 
 -- the course with one event more
-abbrev pub longer : {base : List ℕ} (course : Course base) (event : Event) (answer : Answer) (new : World) → Step base course.world event answer new → Course base
+abbrev pub longer : {base : List ℕ} (course : Course base) (event : Event) (answer : EventAnswer) (new : World) → Step base course.world event answer new → Course base
 longer {base} course event answer new step = record {
   count = course.count;
   events = course.events ++ event ∷ [];
@@ -209,14 +209,14 @@ longer {base} course event answer new step = record {
   run = run_push base (start course.count) course.events course.answers course.world event answer new course.run step;
 }
 
-goes_longer : {base : List ℕ} (earlier course : Course base) (event : Event) (answer : Answer) (new : World) (step : Step base course.world event answer new) → GoesOn earlier course
+goes_longer : {base : List ℕ} (earlier course : Course base) (event : Event) (answer : EventAnswer) (new : World) (step : Step base course.world event answer new) → GoesOn earlier course
     → GoesOn earlier (longer course event answer new step)
 goes_longer {base} earlier course event answer new step on = record {
   events = on.events ++ event ∷ [];
   answers = on.answers ++ answer ∷ [];
   count = on.count;
   events_are = ap (λ (l : List Event). l ++ event ∷ []) on.events_are ∙ append_assoc earlier.events on.events (event ∷ []);
-  answers_are = ap (λ (l : List Answer). l ++ answer ∷ []) on.answers_are ∙ append_assoc earlier.answers on.answers (answer ∷ []);
+  answers_are = ap (λ (l : List EventAnswer). l ++ answer ∷ []) on.answers_are ∙ append_assoc earlier.answers on.answers (answer ∷ []);
   run = run_push base earlier.world on.events on.answers course.world event answer new on.run step;
 }
 
@@ -234,7 +234,7 @@ goes_nowhere course = record {
 abbrev GoodAlong : {base : List ℕ} → Course base → Type 0
 GoodAlong course = Good (Was course) course.world
 
-longer_good : {base : List ℕ} (course : Course base) (event : Event) (answer : Answer) (new : World) (step : Step base course.world event answer new) → GoodAlong course
+longer_good : {base : List ℕ} (course : Course base) (event : Event) (answer : EventAnswer) (new : World) (step : Step base course.world event answer new) → GoodAlong course
     → GoodAlong (longer course event answer new step)
 longer_good {base} course event answer new step good =
     let now : (i : ℕ) (r : Replica) → replica course.world i ≡ Some r → Was course i r = λ i r there. (course, goes_nowhere course, there) in
@@ -244,22 +244,22 @@ longer_good {base} course event answer new step good =
 
 -- ---- at first
 
-first_replica : (last count place : ℕ) (r : Replica) → slice_get (fresh_after last count) place ≡ Some r → (r ≡ fresh (last + place + 1)) × (place < count)
+first_replica : (last count place : ℕ) (r : Replica) → slice_get (new_replicas_after last count) place ≡ Some r → (r ≡ new_replica (last + place + 1)) × (place < count)
 first_replica last zero place r is = cc
-first_replica last (suc count) zero r is = let same : last + 1 ≡ last + 0 + 1 = omega arith in (let here : fresh (last + 1) ≡ r = cc in sym here ∙ ap fresh same, omega arith)
+first_replica last (suc count) zero r is = let same : last + 1 ≡ last + 0 + 1 = omega arith in (let here : new_replica (last + 1) ≡ r = cc in sym here ∙ ap new_replica same, omega arith)
 first_replica last (suc count) (suc place) r is =
     let rest = first_replica (last + 1) count place r is in
     let same : last + 1 + place + 1 ≡ last + suc place + 1 = omega arith in
     let below = rest.1 in
-    (rest.0 ∙ ap fresh same, omega (arith, below))
+    (rest.0 ∙ ap new_replica same, omega (arith, below))
 
-pub at_first : (count i : ℕ) (r : Replica) → replica (start count) i ≡ Some r → (r ≡ fresh i) × (i ≤ count)
+pub at_first : (count i : ℕ) (r : Replica) → replica (start count) i ≡ Some r → (r ≡ new_replica i) × (i ≤ count)
 at_first count zero r is = cc
 at_first count (suc place) r is =
     let at = first_replica 0 count place r is in
     let same : 0 + place + 1 ≡ suc place = omega arith in
     let below = at.1 in
-    (at.0 ∙ ap fresh same, omega (arith, below))
+    (at.0 ∙ ap new_replica same, omega (arith, below))
 
 pub no_message_at_first : (count k : ℕ) (m : Message) → ¬ (message (start count) k ≡ Some m)
 no_message_at_first count zero m is = cc
@@ -295,7 +295,7 @@ same_goes {base} earlier course whole count events answers world on = record {
 }
 
 -- what goes on from a course of which this holds
-rest_good : {base : List ℕ} (course : Course base) → GoodAlong course → (events : List Event) (answers : List Answer) (end : World) → Run base course.world events answers end
+rest_good : {base : List ℕ} (course : Course base) → GoodAlong course → (events : List Event) (answers : List EventAnswer) (end : World) → Run base course.world events answers end
     → (whole : Course base) → whole.count ≡ course.count → whole.events ≡ course.events ++ events → whole.answers ≡ course.answers ++ answers → end ≡ whole.world → Good (Was whole) end
 rest_good course good [] [] end run whole count events_are answers_are world =
     let still : (p : ℕ) (s : Replica) → Was course p s → Was whole p s = λ p s was. (

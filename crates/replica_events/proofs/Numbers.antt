@@ -1,6 +1,6 @@
 -- Replicas and messages by their numbers, once one of them is new.
 use Rattle.std.proofs.Common.{◌≡◌, ℕ, zero, suc, ◌+◌, ◌≤◌, ◌⊎◌, List, [], ◌∷◌, ◌++◌, length, Some, slice_get, slice_set, refl, ap, subst, inl, inr, arith}
-use Rattle.replica_events.specs.World.{World, Replica, numbered, replica, with_replica}
+use Rattle.replica_events.specs.World.{World, Replica, at_number, replica, with_replica}
 
 -- ---- places
 
@@ -38,7 +38,7 @@ messages_stay w (suc p) r = refl
 
 -- the element is the last one, or had the number before
 abbrev pub Pushed : {X : Type 0} → List X → X → ℕ → X → Type 0
-Pushed xs last k x = ((k ≡ length xs + 1) × (x ≡ last)) ⊎ ((k ≤ length xs) × (numbered xs k ≡ Some x))
+Pushed xs last k x = ((k ≡ length xs + 1) × (x ≡ last)) ⊎ ((k ≤ length xs) × (at_number xs k ≡ Some x))
 
 get_pushed : {X : Type 0} (xs : List X) (last : X) (place : ℕ) (x : X) → slice_get (xs ++ last ∷ []) place ≡ Some x
     → ((place ≡ length xs) × (x ≡ last)) ⊎ ((suc place ≤ length xs) × (slice_get xs place ≡ Some x))
@@ -52,7 +52,7 @@ get_pushed (y ∷ xs) last (suc place) x is = under (get_pushed xs last place x 
     under (inl (at, last_is)) = inl (ap suc at, last_is)
     under (inr (within, there)) = inr (omega (arith, within), there)
 
-pub pushed : {X : Type 0} (xs : List X) (last : X) (k : ℕ) (x : X) → numbered (xs ++ last ∷ []) k ≡ Some x → Pushed xs last k x
+pub pushed : {X : Type 0} (xs : List X) (last : X) (k : ℕ) (x : X) → at_number (xs ++ last ∷ []) k ≡ Some x → Pushed xs last k x
 pushed xs last zero x is = cc
 pushed xs last (suc place) x is = numbers (get_pushed xs last place x is)
   where
@@ -66,7 +66,7 @@ get_push (y ∷ xs) last zero x is = is
 get_push (y ∷ xs) last (suc place) x is = get_push xs last place x is
 
 -- the others keep their numbers, and the last one has the next
-pub numbered_push : {X : Type 0} (xs : List X) (last : X) (k : ℕ) (x : X) → numbered xs k ≡ Some x → numbered (xs ++ last ∷ []) k ≡ Some x
+pub numbered_push : {X : Type 0} (xs : List X) (last : X) (k : ℕ) (x : X) → at_number xs k ≡ Some x → at_number (xs ++ last ∷ []) k ≡ Some x
 numbered_push xs last zero x is = is
 numbered_push xs last (suc place) x is = get_push xs last place x is
 
@@ -74,8 +74,8 @@ get_last : {X : Type 0} (xs : List X) (last : X) → slice_get (xs ++ last ∷ [
 get_last [] last = refl
 get_last (y ∷ xs) last = get_last xs last
 
-pub numbered_last : {X : Type 0} (xs : List X) (last : X) → numbered (xs ++ last ∷ []) (length xs + 1) ≡ Some last
-numbered_last xs last = let next : suc (length xs) ≡ length xs + 1 = omega arith in subst (λ (k : ℕ). numbered (xs ++ last ∷ []) k ≡ Some last) next (get_last xs last)
+pub numbered_last : {X : Type 0} (xs : List X) (last : X) → at_number (xs ++ last ∷ []) (length xs + 1) ≡ Some last
+numbered_last xs last = let next : suc (length xs) ≡ length xs + 1 = omega arith in subst (λ (k : ℕ). at_number (xs ++ last ∷ []) k ≡ Some last) next (get_last xs last)
 
 pub last_stays : (w : World) (i : ℕ) (r : Replica) → (with_replica w i r).last ≡ w.last
 last_stays w zero r = refl

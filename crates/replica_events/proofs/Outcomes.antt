@@ -15,8 +15,8 @@ use Rattle.replica_events.specs.declared.event.Said.TheVariants.{Taken, Joined}
 use Rattle.replica_events.specs.declared.event.Refused.{Refused}
 use Rattle.replica_events.specs.declared.event.Refused.TheVariants.{BadState, Gap, NumbersSpent}
 use Rattle.replica_events.specs.World as world
-use Rattle.replica_events.specs.World.{World, Replica, Message, Answer, Outcome, Effect, Accepts, Refuses, WithStamped, IfWithinLimit, IfNumberLeft}
-use Rattle.replica_events.specs.World.{IfText, Merges, Joins, with_replica, joining, own_cursor, replica, message}
+use Rattle.replica_events.specs.World.{World, Replica, Message, EventAnswer, Outcome, Effect, Accepts, Refuses, WithStamped, IfWithinLimit, IfNumberLeft}
+use Rattle.replica_events.specs.World.{IfText, Merges, Joins, with_replica, after_join, own_cursor, replica, message}
 use Rattle.replica_events.specs.World.{last_number}
 use Rattle.replica_events.proofs.Stampings.{merges_stamped}
 
@@ -43,7 +43,7 @@ pub named_once : {A : Type 0} (x : A) (w : World) → Once (λ a n. (a ≡ x) ×
 named_once x w a n b m p q = (p.0 ∙ sym q.0, p.1 ∙ sym q.1)
 
 -- bytes are the text of one state at most
-text_once : (bytes : List ℕ) (F : Entries → Answer → World → Type 0) (G : Answer → World → Type 0) → ((s : Entries) → Once (F s)) → Once G
+text_once : (bytes : List ℕ) (F : Entries → EventAnswer → World → Type 0) (G : EventAnswer → World → Type 0) → ((s : Entries) → Once (F s)) → Once G
     → Once (IfText bytes F G)
 text_once bytes F G f g a n b m (inl (s, p, x)) (inl (t, q, y)) =
     let same : s ≡ t = one_state_of_a_text bytes s t p.text q.text in
@@ -53,7 +53,7 @@ text_once bytes F G f g a n b m (inr (none, x)) (inl (t, q, y)) = absurd (none t
 text_once bytes F G f g a n b m (inr (none, x)) (inr (same, y)) = g a n b m x y
 
 -- merges made one state with stamps
-stamped_once : (r : Replica) (F : StampedState → Answer → World → Type 0) → ((s : StampedState) → Once (F s)) → Once (WithStamped r F)
+stamped_once : (r : Replica) (F : StampedState → EventAnswer → World → Type 0) → ((s : StampedState) → Once (F s)) → Once (WithStamped r F)
 stamped_once r F f a n b m (s, p, own, x) (t, q, other, y) =
     let same : s ≡ t = one_stamped r.merges s t p q (own ∙ sym other) in
     f t a n b m (subst (λ (s : StampedState). F s a n) same x) y
@@ -74,7 +74,7 @@ differ b holds fails = let both : true ≡ false = sym holds ∙ fails in cc
 joins_once : (w : World) (i : ℕ) (r : Replica) (m : Message) → Once (Joins w i r m)
 joins_once w i r m =
     either_once _ _ _ _ (λ holds fails. differ (fits (map.get r.cursors m.sender) m.delta) holds fails)
-    (merges_once w r Joined (with_replica w i (joining r m))) (named_once _ _)
+    (merges_once w r Joined (with_replica w i (after_join r m))) (named_once _ _)
 
 -- an event in a world has one answer, and leads to one world
 pub effect_once : (base : List ℕ) (w : World) (event : Event) → Once (Effect base w event)
@@ -94,7 +94,7 @@ effect_once base w (Ask i q) = match_once (replica w i) _ _ (named_once _ _) (λ
 
 -- not each answer and world are refused
 abbrev pub Happens : Outcome → Type 0
-Happens outcome = ¬ ((answer : Answer) (next : World) → ¬ outcome answer next)
+Happens outcome = ¬ ((answer : EventAnswer) (next : World) → ¬ outcome answer next)
 
 accepts : (said : Said) (next : World) → Happens (Accepts said next)
 accepts said next none = none (Ok said) next (refl, refl)
@@ -137,8 +137,8 @@ true_or_false false fails out = out refl
 
 joined : (w : World) (i : ℕ) (r : Replica) (m : Message) → Happens (Joins w i r m)
 joined w i r m =
-    either_happens _ _ (Merges w r Joined (with_replica w i (joining r m))) (Refuses (Gap (map.get r.cursors m.sender)) w)
-    (true_or_false (fits (map.get r.cursors m.sender) m.delta)) (merged w r Joined (with_replica w i (joining r m))) (refuses (Gap (map.get r.cursors m.sender)) w)
+    either_happens _ _ (Merges w r Joined (with_replica w i (after_join r m))) (Refuses (Gap (map.get r.cursors m.sender)) w)
+    (true_or_false (fits (map.get r.cursors m.sender) m.delta)) (merged w r Joined (with_replica w i (after_join r m))) (refuses (Gap (map.get r.cursors m.sender)) w)
 
 sent : (w : World) (i : ℕ) (cursor : Replica → Option Cursor) → Happens (world.Sends w i cursor)
 sent w i cursor = found (replica w i) _ w _ (λ r. stamped r _ (λ s. accepts _ _))

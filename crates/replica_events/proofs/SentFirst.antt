@@ -7,7 +7,7 @@ use Rattle.replica_exchange.specs.CursorRule.{delta_from}
 use Rattle.replica_events.specs.declared.event.Event.{Event}
 use Rattle.replica_events.specs.declared.event.Event.TheVariants.{Deliver}
 use Rattle.replica_events.specs.declared.event.Said.TheVariants.{Sent, Joined}
-use Rattle.replica_events.specs.World.{World, Message, Answer, Course, numbered, start, sent_by}
+use Rattle.replica_events.specs.World.{World, Message, EventAnswer, Course, at_number, start, sent_by}
 use Rattle.replica_events.specs.History.{Happened, History, history_of, NoRestart, Learnt}
 use Rattle.replica_events.proofs.Numbers.{messages_stay}
 use Rattle.replica_events.proofs.Histories.{not_empty, stood, Stood}
@@ -33,12 +33,12 @@ place_within [] place x is = cc
 place_within (y ∷ xs) zero x is = omega arith
 place_within (y ∷ xs) (suc place) x is = let rest = place_within xs place x is in omega (arith, rest)
 
-number_within : {X : Type 0} (xs : List X) (k : ℕ) (x : X) → numbered xs k ≡ Some x → k ≤ length xs
+number_within : {X : Type 0} (xs : List X) (k : ℕ) (x : X) → at_number xs k ≡ Some x → k ≤ length xs
 number_within xs zero x is = omega arith
 number_within xs (suc place) x is = place_within xs place x is
 
 -- one event more, that loses no message, joins only one that is there, and sends only one with a new number
-module _ (history : History) (w : World) (first : IsSentFirst history w) (event : Event) (answer : Answer) (new : World) (grows : length w.messages ≤ length new.messages)
+module _ (history : History) (w : World) (first : IsSentFirst history w) (event : Event) (answer : EventAnswer) (new : World) (grows : length w.messages ≤ length new.messages)
     (joins : (i k : ℕ) → event ≡ Deliver i k → answer ≡ Ok Joined → k ≤ length w.messages) (sends : (k : ℕ) → answer ≡ Ok (Sent k) → length w.messages < k) where
   there_still : (i k : ℕ) → Contains history (Deliver i k, Ok Joined) ⊎ (let x : Happened = (event, answer) in x ≡ (Deliver i k, Ok Joined)) → k ≤ length new.messages
   there_still i k (inl before) = let was = first.there i k before in omega (arith, was, grows)
@@ -68,15 +68,15 @@ module _ (history : History) (w : World) (first : IsSentFirst history w) (event 
 as_many : (a b : List Message) → b ≡ a → length a ≤ length b
 as_many a b is = let lengths = ap (λ (ms : List Message). length ms) is in omega (arith, lengths)
 
-idle_joins_nothing : (event : Event) (answer : Answer) → IsIdle event answer → ¬ (answer ≡ Ok Joined)
+idle_joins_nothing : (event : Event) (answer : EventAnswer) → IsIdle event answer → ¬ (answer ≡ Ok Joined)
 idle_joins_nothing event answer (inl (why, is)) said = cc
 idle_joins_nothing event answer (inr (i, q, reply, _, is)) said = cc
 
-idle_sends_nothing : (event : Event) (answer : Answer) → IsIdle event answer → (k : ℕ) → ¬ (answer ≡ Ok (Sent k))
+idle_sends_nothing : (event : Event) (answer : EventAnswer) → IsIdle event answer → (k : ℕ) → ¬ (answer ≡ Ok (Sent k))
 idle_sends_nothing event answer (inl (why, is)) k said = cc
 idle_sends_nothing event answer (inr (i, q, reply, _, is)) k said = cc
 
-first_kept : (history : History) (w : World) (event : Event) (answer : Answer) (new : World) → IsSentFirst history w → Change w event answer new
+first_kept : (history : History) (w : World) (event : Event) (answer : EventAnswer) (new : World) → IsSentFirst history w → Change w event answer new
     → IsSentFirst (history ++ (event, answer) ∷ []) new
 first_kept history w event answer new first (change.idle idle is) =
     still_first history w first event answer new (as_many w.messages new.messages (ap (λ (w : World). w.messages) is))

@@ -20,7 +20,7 @@ use Rattle.replica_exchange.specs.declared.cursor.Cursor.{Cursor}
 use Rattle.replica_exchange.specs.Stamps.{state_after, StampedState, IsStamped}
 use Rattle.replica_exchange.specs.CursorRule.{Held, start_from, delta_from, reaches, fits, end_of, moved, taken_from}
 use Rattle.replica_exchange.proofs.StampLemmas.{state_push, prefixes_at_most, above_suffices}
-use Rattle.replica_events.specs.World.{Knowledge, World, Replica, Message, numbered, replica, message, with_replica, with_message, taking, joining, sent_by, fresh, restarting}
+use Rattle.replica_events.specs.World.{Knowledge, World, Replica, Message, at_number, replica, message, with_replica, with_message, after_merge, after_join, sent_by, new_replica, after_restart}
 use Rattle.replica_events.proofs.Numbers.{IsPlaced, replica_placed, messages_stay, last_stays, Pushed, pushed}
 
 -- the state of no harvests adds nothing
@@ -160,7 +160,7 @@ module _ (logs : Logs) (w : World) (sound : Sound logs w) (i : ℕ) (r : Replica
       unborn = λ number late. unborn number (subst (λ (l : ℕ). l < number) (last_stays w i next_replica) late);
       apart = λ j k s t js kt same_incarnation. apart j k s t (replica_placed w i r next_replica j s there js) (replica_placed w i r next_replica k t there kt) same_incarnation;
       cursors = λ j s is. cursors j s (replica_placed w i r next_replica j s there is);
-      messages = λ k n is. tells_still logs more_logs n logs_grow (sound.messages k n (subst (λ (ms : List Message). numbered ms k ≡ Some n) (messages_stay w i next_replica) is));
+      messages = λ k n is. tells_still logs more_logs n logs_grow (sound.messages k n (subst (λ (ms : List Message). at_number ms k ≡ Some n) (messages_stay w i next_replica) is));
     }
       where
         own : (j : ℕ) (s : Replica) → IsPlaced w i next_replica j s → more_logs s.incarnation ≡ s.merges
@@ -199,11 +199,11 @@ module _ (logs : Logs) (w : World) (sound : Sound logs w) (i : ℕ) (r : Replica
 -- ---- the events
 
 pub sound_taken : (logs : Logs) (w : World) (i : ℕ) (r : Replica) (h : Harvested) → Sound logs w → replica w i ≡ Some r
-    → Sound (logs_with logs r (merge.Harvest h)) (with_replica w i (taking r (h ∷ []) (merge.Harvest h)))
+    → Sound (logs_with logs r (merge.Harvest h)) (with_replica w i (after_merge r (h ∷ []) (merge.Harvest h)))
 sound_taken logs w i r h sound there = absorbed logs w sound i r there (merge.Harvest h) (h ∷ []) r.cursors refl (still_reached logs w sound i r there (merge.Harvest h) (h ∷ []) r.cursors refl)
 
 pub sound_received : (logs : Logs) (w : World) (i : ℕ) (r : Replica) (s : Entries) → Sound logs w → replica w i ≡ Some r
-    → Sound (logs_with logs r (merge.State s)) (with_replica w i (taking r (adds s) (merge.State s)))
+    → Sound (logs_with logs r (merge.State s)) (with_replica w i (after_merge r (adds s) (merge.State s)))
 sound_received logs w i r s sound there = absorbed logs w sound i r there (merge.State s) (adds s) r.cursors refl (still_reached logs w sound i r there (merge.State s) (adds s) r.cursors refl)
 
 -- what fits starts at what is known
@@ -236,7 +236,7 @@ delta_is_whole logs w i r m sound there tells fit =
     ap (join (lat r.taken)) (lat-adds m.delta.state) ∙ tells.suffices (lat r.taken) (fits_below logs w i r m sound there tells fit)
 
 pub sound_joined : (logs : Logs) (w : World) (i k : ℕ) (r : Replica) (m : Message) → Sound logs w → replica w i ≡ Some r → message w k ≡ Some m → fits (map.get r.cursors m.sender) m.delta ≡ true
-    → Sound (logs_with logs r (merge.State m.delta.state)) (with_replica w i (joining r m))
+    → Sound (logs_with logs r (merge.State m.delta.state)) (with_replica w i (after_join r m))
 sound_joined logs w i k r m sound there found fit =
     absorbed logs w sound i r there (merge.State m.delta.state) m.taken (taken_from r.cursors m.sender m.delta) same reach
   where
@@ -322,7 +322,7 @@ sound_sent logs w i r s cursor sound there is incarnation = record {
     tells k n (inr (few, before)) = sound.messages k n before
 
 -- a replica that restarts has taken nothing, in an incarnation of which nothing is known
-pub sound_restarted : (logs : Logs) (w : World) (i : ℕ) (r : Replica) → Sound logs w → replica w i ≡ Some r → Sound logs (restarting w i)
+pub sound_restarted : (logs : Logs) (w : World) (i : ℕ) (r : Replica) → Sound logs w → replica w i ≡ Some r → Sound logs (after_restart w i)
 sound_restarted logs w i r sound there = record {
   own = λ j s is. own j s (replica_placed w i r new j s there is);
   states = λ j s is. states j s (replica_placed w i r new j s there is);
@@ -330,11 +330,11 @@ sound_restarted logs w i r sound there = record {
   unborn = λ number late. sound.unborn number (omega (arith, late));
   apart = λ j k s t js kt same. apart j k s t (replica_placed w i r new j s there js) (replica_placed w i r new k t there kt) same;
   cursors = λ j s is. cursors j s (replica_placed w i r new j s there is);
-  messages = λ k n is. sound.messages k n (subst (λ (ms : List Message). numbered ms k ≡ Some n) (messages_stay w i new) is);
+  messages = λ k n is. sound.messages k n (subst (λ (ms : List Message). at_number ms k ≡ Some n) (messages_stay w i new) is);
 }
   where
     new : Replica
-    new = fresh (w.last + 1)
+    new = new_replica (w.last + 1)
 
     own : (j : ℕ) (s : Replica) → IsPlaced w i new j s → logs s.incarnation ≡ s.merges
     own j s (inl (_, is)) = subst (λ (s : Replica). logs s.incarnation ≡ s.merges) (sym is) (sound.unborn (w.last + 1) (omega arith))

@@ -6,14 +6,14 @@ use Rattle.replica_exchange.specs.declared.cursor.Cursor.{Cursor}
 use Rattle.replica_events.specs.declared.event.Event.{Event}
 use Rattle.replica_events.specs.declared.event.Event.TheVariants.{Deliver}
 use Rattle.replica_events.specs.declared.event.Said.TheVariants.{Joined}
-use Rattle.replica_events.specs.World.{Replica, Answer, Course, Run, replica}
+use Rattle.replica_events.specs.World.{Replica, EventAnswer, Course, Run, replica}
 use Rattle.replica_events.specs.History.{History, NoRestart}
 use Rattle.replica_events.specs.Incarnations.{WasSentIn}
 
 -- a course goes on from another one
 pub record GoesOn {base : List ℕ} (earlier course : Course base) : Type 0 where
   pub events : List Event
-  pub answers : List Answer
+  pub answers : List EventAnswer
   pub count : course.count ≡ earlier.count
   pub events_are : course.events ≡ earlier.events ++ events
   pub answers_are : course.answers ≡ earlier.answers ++ answers

@@ -5,11 +5,11 @@ use Rattle.harvest_lattice.specs.Knowledge.{Harvested, adds}
 use Rattle.replica_events.specs.declared.event.Event.{Event}
 use Rattle.replica_events.specs.declared.event.Event.TheVariants.{Take, Send, SendFrom, Deliver, Receive, Restart, Ask}
 use Rattle.replica_events.specs.declared.event.Said.TheVariants.{Taken, Sent, Joined, Restarted}
-use Rattle.replica_events.specs.World.{Answer, Course, IsText}
+use Rattle.replica_events.specs.World.{EventAnswer, Course, IsText}
 
 -- an event, and the answer to it
 abbrev pub Happened : Type 0
-Happened = Event × Answer
+Happened = Event × EventAnswer
 
 -- all that happened, in order
 abbrev pub History : Type 0

@@ -51,34 +51,34 @@ pub record World : Type 0 where
   pub last : ℕ
 
 -- the answer to an event
-abbrev pub Answer : Type 0
-Answer = Result Said Refused
+abbrev pub EventAnswer : Type 0
+EventAnswer = Result Said Refused
 
 -- a replica that has taken nothing in its incarnation
-abbrev pub fresh : ℕ → Replica
-fresh incarnation = record { taken = []; incarnation = incarnation; merges = []; cursors = map.empty }
+abbrev pub new_replica : ℕ → Replica
+new_replica incarnation = record { taken = []; incarnation = incarnation; merges = []; cursors = map.empty }
 
 -- `count` such replicas, in the incarnations that follow on this one
-abbrev pub fresh_after : ℕ → ℕ → List Replica
-fresh_after last zero = []
-fresh_after last (suc count) = fresh (last + 1) ∷ fresh_after (last + 1) count
+abbrev pub new_replicas_after : ℕ → ℕ → List Replica
+new_replicas_after last zero = []
+new_replicas_after last (suc count) = new_replica (last + 1) ∷ new_replicas_after (last + 1) count
 
 -- a world of `count` replicas that have taken nothing, in the incarnations from 1 on, with no messages
 abbrev pub start : ℕ → World
-start count = record { replicas = fresh_after 0 count; messages = []; last = count }
+start count = record { replicas = new_replicas_after 0 count; messages = []; last = count }
 
 -- the one of that number, counted from 1
-abbrev pub numbered : {X : Type 0} → List X → ℕ → Option X
-numbered all zero = None
-numbered all (suc place) = slice_get all place
+abbrev pub at_number : {X : Type 0} → List X → ℕ → Option X
+at_number all zero = None
+at_number all (suc place) = slice_get all place
 
 -- the replica of that number, if there is one
 abbrev pub replica : World → ℕ → Option Replica
-replica w i = numbered w.replicas i
+replica w i = at_number w.replicas i
 
 -- the message of that number, if there is one
 abbrev pub message : World → ℕ → Option Message
-message w k = numbered w.messages k
+message w k = at_number w.messages k
 
 -- the world with this replica in place of the one of that number
 abbrev pub with_replica : World → ℕ → Replica → World
@@ -86,13 +86,13 @@ with_replica w zero r = w
 with_replica w (suc place) r = record w { replicas = slice_set w.replicas place r }
 
 -- the replica once it has taken these too, by this merge
-abbrev pub taking : Replica → Knowledge → Merge → Replica
-taking r more m = record r { taken = r.taken ++ more; merges = r.merges ++ m ∷ [] }
+abbrev pub after_merge : Replica → Knowledge → Merge → Replica
+after_merge r more m = record r { taken = r.taken ++ more; merges = r.merges ++ m ∷ [] }
 
 -- the replica once it has joined a message: it has taken all that the sender had, by the state of the delta
-abbrev pub joining : Replica → Message → Replica
-joining r m =
-    record (taking r m.taken (merge.State m.delta.state)) { cursors = taken_from r.cursors m.sender m.delta }
+abbrev pub after_join : Replica → Message → Replica
+after_join r m =
+    record (after_merge r m.taken (merge.State m.delta.state)) { cursors = taken_from r.cursors m.sender m.delta }
 
 -- what a replica sends: the text of a delta
 abbrev pub sent_by : ℕ → Replica → Delta → Message
@@ -107,8 +107,8 @@ abbrev pub replica_reply : List ℕ → Replica → StampedState → Request →
 replica_reply base r s q = reply_of base (record s { entries = lat r.taken }) q
 
 -- the world once the replica of this number has restarted, in the next incarnation that was never used
-abbrev pub restarting : World → ℕ → World
-restarting w i = record (with_replica w i (fresh (w.last + 1))) { last = w.last + 1 }
+abbrev pub after_restart : World → ℕ → World
+after_restart w i = record (with_replica w i (new_replica (w.last + 1))) { last = w.last + 1 }
 
 -- the world with one more message
 abbrev pub with_message : World → Message → World
@@ -116,7 +116,7 @@ with_message w m = record w { messages = w.messages ++ m ∷ [] }
 
 -- an outcome of an event: the answer, and the world after it
 abbrev pub Outcome : Type 1
-Outcome = Answer → World → Type 0
+Outcome = EventAnswer → World → Type 0
 
 -- the event is accepted with this result, and this is the world then
 abbrev pub Accepts : Said → World → Outcome
@@ -184,22 +184,22 @@ Sends w i cursor =
 -- the outcome of the delivery of a message whose bytes are within the limit
 abbrev pub Joins : World → ℕ → Replica → Message → Outcome
 Joins w i r m =
-    IfFits (map.get r.cursors m.sender) m.delta (Merges w r Joined (with_replica w i (joining r m)))
+    IfFits (map.get r.cursors m.sender) m.delta (Merges w r Joined (with_replica w i (after_join r m)))
     (Refuses (Gap (map.get r.cursors m.sender)) w)
 
 -- the outcome of an event where there is memory
 abbrev pub Effect : List ℕ → World → Event → Outcome
 Effect base w (Take i h) =
-    AtReplica w i (λ r. Merges w r Taken (with_replica w i (taking r (h ∷ []) (merge.Harvest h))))
+    AtReplica w i (λ r. Merges w r Taken (with_replica w i (after_merge r (h ∷ []) (merge.Harvest h))))
 Effect base w (Send i) = Sends w i (λ _. None)
 Effect base w (SendFrom i n) = Sends w i (own_cursor n)
 Effect base w (Deliver i k) =
     AtReplica w i (λ r. WithMessage w k (λ m. IfWithinLimit m.bytes (Joins w i r m) (Refuses BadState w)))
 Effect base w (Receive i bytes) =
     AtReplica w i (λ r. IfText bytes
-    (λ s. Merges w r Joined (with_replica w i (taking r (adds s) (merge.State s)))) (Refuses BadState w))
+    (λ s. Merges w r Joined (with_replica w i (after_merge r (adds s) (merge.State s)))) (Refuses BadState w))
 Effect base w (Restart i) =
-    AtReplica w i (λ r. IfNumberLeft w.last (Accepts Restarted (restarting w i)) (Refuses NumbersSpent w))
+    AtReplica w i (λ r. IfNumberLeft w.last (Accepts Restarted (after_restart w i)) (Refuses NumbersSpent w))
 Effect base w (Ask i q) = AtReplica w i (λ r. WithStamped r (λ s. Accepts (Replied (replica_reply base r s q)) w))
 
 -- the replica of this number is there
@@ -229,7 +229,7 @@ abbrev pub Step : List ℕ → World → Event → Outcome
 Step base w event answer new = Effect base w event answer new ⊎ RunsOut w event answer new
 
 -- events one after the other, with one answer to each
-abbrev pub Run : List ℕ → World → List Event → List Answer → World → Type 0
+abbrev pub Run : List ℕ → World → List Event → List EventAnswer → World → Type 0
 Run base w [] [] end = end ≡ w
 Run base w (event ∷ events) (answer ∷ answers) end =
     (mid : World) × Step base w event answer mid × Run base mid events answers end
@@ -240,6 +240,6 @@ Run base w (event ∷ events) [] end = ⊥
 pub record Course (base : List ℕ) : Type 0 where
   pub count : ℕ
   pub events : List Event
-  pub answers : List Answer
+  pub answers : List EventAnswer
   pub world : World
   pub run : Run base (start count) events answers world

@@ -60,7 +60,7 @@ pub enum Refused {
 }
 
 /// The answer to an event.
-pub type Answer = Result<Said, Refused>;
+pub type EventAnswer = Result<Said, Refused>;
 
 impl fmt::Display for Refused {
     ghost output = { λ refused. Some (words_of refused) };

@@ -14,7 +14,7 @@ mod refusals;
 
 pub use agreement::{replicas_agree, replies_are_of_merges};
 pub use cursors::{cursors_are_kept, what_cursors_are};
-pub use event::{Answer, Event, Refused, Said};
+pub use event::{Event, EventAnswer, Refused, Said};
 pub use history::{deliveries_in_any_order, what_replicas_have_taken};
 pub use incarnations::incarnations_are_new;
 pub use refusals::{one_outcome, refusals_have_causes};

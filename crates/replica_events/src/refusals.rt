@@ -4,16 +4,16 @@ ghost use Rattle.replica_events.specs.declared.event.Event.{Event};
 ghost use Rattle.replica_events.specs.declared.event.Said.{Said};
 ghost use Rattle.replica_events.specs.declared.event.Refused.{Refused};
 ghost use Rattle.replica_events.specs.declared.event.Refused.TheVariants.{NoMemory};
-ghost use Rattle.replica_events.specs.World.{World, Answer, Effect, Step};
+ghost use Rattle.replica_events.specs.World.{World, EventAnswer, Effect, Step};
 ghost use Rattle.replica_events.specs.Refusals.{IsCause, IsResult};
 
 /// If memory isn't refused, an event has only one answer and leads to only one world. No event is without an outcome.
 pub fn one_outcome()
-    ensures once { (base : List ℕ) (world : World) (event : Event) (answer other : Answer) (next last : World) →
+    ensures once { (base : List ℕ) (world : World) (event : Event) (answer other : EventAnswer) (next last : World) →
         Effect base world event answer next → Effect base world event other last →
         (answer ≡ other) × (next ≡ last) }
     ensures some { (base : List ℕ) (world : World) (event : Event) →
-        ¬ ((answer : Answer) (next : World) → ¬ Effect base world event answer next) }
+        ¬ ((answer : EventAnswer) (next : World) → ¬ Effect base world event answer next) }
 {}
 
 /// Each refusal has its cause, and changes nothing. A cause other than memory is the answer unless memory was refused

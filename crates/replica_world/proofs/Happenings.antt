@@ -14,7 +14,7 @@ use Rattle.harvest_lattice.specs.Knowledge.{Harvested}
 use Rattle.replica_events.specs.declared.event.Event.{Event}
 use Rattle.replica_events.specs.declared.event.Event.TheVariants.{Take}
 use Rattle.replica_events.specs.declared.event.Refused.TheVariants.{NoMemory}
-use Rattle.replica_events.specs.World.{World, Answer, Effect, RunsOut}
+use Rattle.replica_events.specs.World.{World, EventAnswer, Effect, RunsOut}
 use Rattle.replica_world.specs.Stands.{Kept, Steps}
 use Rattle.replica_world.specs.Fields.{utf8_text}
 use Rattle.timegate.specs.Route.{original_at}
@@ -24,13 +24,13 @@ use Rattle.replica_world.specs.Output.{Happens, IsPage, answer_text, accepted_li
 use Rattle.replica_world.specs.Performing.{IsHappening, IsHarvestTaken, IsPageTaken, IsPerformed}
 
 -- any other answer is the event's effect
-took_effect : (base : List ℕ) (w : World) (event : Event) (answer : Answer) (next : World) → answer ≢ Err NoMemory → Effect base w event answer next ⊎ RunsOut w event answer next
+took_effect : (base : List ℕ) (w : World) (event : Event) (answer : EventAnswer) (next : World) → answer ≢ Err NoMemory → Effect base w event answer next ⊎ RunsOut w event answer next
     → Effect base w event answer next
 took_effect base w event answer next memory (inl effect) = effect
 took_effect base w event answer next memory (inr out) = absurd (memory out.0)
 
 -- the event happened in each world that is stood for
-happened : (old new : Kept) (accepted : List ℕ) (event : Event) (answer : Answer) (text : List ℕ) → Steps old event answer new → answer ≢ Err NoMemory → text ≡ answer_text accepted answer
+happened : (old new : Kept) (accepted : List ℕ) (event : Event) (answer : EventAnswer) (text : List ℕ) → Steps old event answer new → answer ≢ Err NoMemory → text ≡ answer_text accepted answer
     → IsHappening old accepted event text new
 happened old new accepted event answer text steps memory text_is = (
   steps.base,
@@ -41,7 +41,7 @@ happened old new accepted event answer text steps memory text_is = (
   },
 )
 
-pub happened_if : {V E : Type 0} (items : V → List ℕ) (old new : Kept) (accepted : List ℕ) (event : Event) (answer : Answer) (result : Result V E) → Steps old event answer new
+pub happened_if : {V E : Type 0} (items : V → List ℕ) (old new : Kept) (accepted : List ℕ) (event : Event) (answer : EventAnswer) (result : Result V E) → Steps old event answer new
     → IfOk result (λ text. items text ≡ answer_text accepted answer) → OnOk result (answer ≢ Err NoMemory) → IfOk result (λ text. IsHappening old accepted event (items text) new)
 happened_if items old new accepted event answer (Ok text) steps text_is memory = happened old new accepted event answer (items text) steps memory text_is
 happened_if items old new accepted event answer (Err e) steps text_is memory = tt

@@ -8,7 +8,7 @@ use Rattle.replica_events.specs.declared.event.Event.TheVariants.{Ask}
 use Rattle.replica_events.specs.declared.event.Said.TheVariants.{Replied}
 use Rattle.replica_events.specs.declared.event.Refused.TheVariants.{NoReplica}
 use Rattle.replica_world.specs.declared.asked.Asked.{Asked}
-use Rattle.replica_events.specs.World.{Knowledge, World, Replica, Answer, Course, Run, Step, Effect, Refuses, Accepts, WithStamped, replica, replica_reply, start}
+use Rattle.replica_events.specs.World.{Knowledge, World, Replica, EventAnswer, Course, Run, Step, Effect, Refuses, Accepts, WithStamped, replica, replica_reply, start}
 use Rattle.replica_events.specs.History.{LearntAlike, history_of}
 use Rattle.replica_world.specs.Stands.{Kept, Stands, Steps, Runs}
 use Rattle.timegate.specs.Route.{IsOfTaken}
@@ -18,32 +18,32 @@ use Rattle.replica_events.proofs.Explained.{same_harvests}
 use Rattle.replica_events.proofs.Replies.{same_state, agreement}
 
 -- a question leaves the world as it is
-effect_stays : (base : List ℕ) (w : World) (q : Request) (answer : Answer) (next : World) (o : Option Replica)
+effect_stays : (base : List ℕ) (w : World) (q : Request) (answer : EventAnswer) (next : World) (o : Option Replica)
     → MatchOption o (Refuses NoReplica w answer next) (λ r. WithStamped r (λ s. Accepts (Replied (replica_reply base r s q)) w) answer next) → next ≡ w
 effect_stays base w q answer next None effect = effect.1
 effect_stays base w q answer next (Some r) effect = effect.3.1
 
-pub effect_unchanged : (base : List ℕ) (w : World) (i : ℕ) (q : Request) (answer : Answer) (next : World) → Effect base w (Ask i q) answer next → next ≡ w
+pub effect_unchanged : (base : List ℕ) (w : World) (i : ℕ) (q : Request) (answer : EventAnswer) (next : World) → Effect base w (Ask i q) answer next → next ≡ w
 effect_unchanged base w i q answer next effect = effect_stays base w q answer next (replica w i) effect
 
-stays : (base : List ℕ) (w : World) (i : ℕ) (q : Request) (answer : Answer) (next : World) → Step base w (Ask i q) answer next → next ≡ w
+stays : (base : List ℕ) (w : World) (i : ℕ) (q : Request) (answer : EventAnswer) (next : World) → Step base w (Ask i q) answer next → next ≡ w
 stays base w i q answer next (inl effect) = effect_unchanged base w i q answer next effect
 stays base w i q answer next (inr out) = out.1
 
-question : (base : List ℕ) (kept : Kept) (w : World) (i : ℕ) (q : Request) (answer : Answer) → kept.base ≡ base → Stands kept w → Steps kept (Ask i q) answer kept → Step base w (Ask i q) answer w
+question : (base : List ℕ) (kept : Kept) (w : World) (i : ℕ) (q : Request) (answer : EventAnswer) → kept.base ≡ base → Stands kept w → Steps kept (Ask i q) answer kept → Step base w (Ask i q) answer w
 question base kept w i q answer base_is stands steps =
     let led = steps.leads w stands in
     let step : Step base w (Ask i q) answer led.next = subst (λ (b : List ℕ). Step b w (Ask i q) answer led.next) base_is led.step in
     subst (λ (next : World). Step base w (Ask i q) answer next) (stays base w i q answer led.next step) step
 
-replied : (base : List ℕ) (w : World) (i : ℕ) (q : Request) (answer : Answer) (r : Reply) → Step base w (Ask i q) answer w → answer ≡ Ok (Replied r) → Gives base w i q r
-replied base w i q answer r step is = record { next = w; asked = subst (λ (a : Answer). Step base w (Ask i q) a w) is step }
+replied : (base : List ℕ) (w : World) (i : ℕ) (q : Request) (answer : EventAnswer) (r : Reply) → Step base w (Ask i q) answer w → answer ≡ Ok (Replied r) → Gives base w i q r
+replied base w i q answer r step is = record { next = w; asked = subst (λ (a : EventAnswer). Step base w (Ask i q) a w) is step }
 
 -- one that replies is there, and has taken something
 there : (base : List ℕ) (w : World) (i : ℕ) (q : Request) (r : Reply) (next : World) (o : Option Replica) → replica w i ≡ o
     → MatchOption o (Refuses NoReplica w (Ok (Replied r)) next) (λ a. WithStamped a (λ s. Accepts (Replied (replica_reply base a s q)) w) (Ok (Replied r)) next)
     → (known : Knowledge) × HasTaken w i known
-there base w i q r next None is effect = let refused : (let answer : Answer = Ok (Replied r) in answer) ≡ Err NoReplica = effect.0 in absurd cc
+there base w i q r next None is effect = let refused : (let answer : EventAnswer = Ok (Replied r) in answer) ≡ Err NoReplica = effect.0 in absurd cc
 there base w i q r next (Some a) is effect = (a.taken, (a, is, refl))
 
 has_taken : (base : List ℕ) (w : World) (i : ℕ) (q : Request) (r : Reply) → Gives base w i q r → (known : Knowledge) × HasTaken w i known

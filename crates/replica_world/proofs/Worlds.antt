@@ -31,8 +31,8 @@ use Rattle.replica_events.specs.declared.event.Said.TheVariants.{Taken, Sent, Jo
 use Rattle.replica_events.specs.declared.event.Refused.{Refused}
 use Rattle.replica_events.specs.declared.event.Refused.TheVariants.{NoReplica, NoMessage, BadState, NoMemory, Gap, NumbersSpent}
 use Rattle.replica_events.specs.Faults.{refusal, stamp_refusal}
-use Rattle.replica_events.specs.World.{World, Replica, Message, Answer, Step, Effect, numbered, HasReplica, TakesMemory, IsText, last_number, replica}
-use Rattle.replica_events.specs.World.{message, with_replica, with_message, taking, joining, sent_by, own_cursor, fresh, fresh_after, restarting}
+use Rattle.replica_events.specs.World.{World, Replica, Message, EventAnswer, Step, Effect, at_number, HasReplica, TakesMemory, IsText, last_number, replica}
+use Rattle.replica_events.specs.World.{message, with_replica, with_message, after_merge, after_join, sent_by, own_cursor, new_replica, new_replicas_after, after_restart}
 use Rattle.replica_events.specs.World.{start}
 use Rattle.replica_events.proofs.Numbers.{messages_stay, last_stays}
 use Rattle.replica_events.proofs.Moments.{run_push, longer, merges_made}
@@ -93,7 +93,7 @@ refused_without base w (Restart i) is = rw is (refl, refl)
 refused_without base w (Ask i q) is = rw is (refl, refl)
 
 -- what is kept stays, and so does each world that it stands for
-stays : (kept : Kept) (event : Event) (answer : Answer) → ((w : World) → Stands kept w → Step kept.base w event answer w) → Steps kept event answer kept
+stays : (kept : Kept) (event : Event) (answer : EventAnswer) → ((w : World) → Stands kept w → Step kept.base w event answer w) → Steps kept event answer kept
 stays kept event answer step = record { base = refl; leads = λ w stands. record { next = w; step = step w stands; stands = stands } }
 
 absent : (kept : Kept) (w : World) (number : ℕ) → Stands kept w → IsNoNumber number (length kept.replicas) → replica w number ≡ None
@@ -101,10 +101,10 @@ absent kept w zero stands none = refl
 absent kept w (suc place) stands none = zip_none Keeps kept.replicas w.replicas place stands.replicas none
 
 -- a refusal after which all is as it was
-pub refused_as : (old new : Kept) (event : Event) (why : Refused) (answer : Answer) → Steps old event (Err why) old → new ≡ old → answer ≡ Err why → Steps old event answer new
-refused_as old new event why answer steps new_is answer_is = subst (λ (k : Kept). Steps old event answer k) (sym new_is) (subst (λ (a : Answer). Steps old event a old) (sym answer_is) steps)
+pub refused_as : (old new : Kept) (event : Event) (why : Refused) (answer : EventAnswer) → Steps old event (Err why) old → new ≡ old → answer ≡ Err why → Steps old event answer new
+refused_as old new event why answer steps new_is answer_is = subst (λ (k : Kept). Steps old event answer k) (sym new_is) (subst (λ (a : EventAnswer). Steps old event a old) (sym answer_is) steps)
 
-pub no_replica : (kept new : Kept) (event : Event) (why : Refused) (answer : Answer) → (why ≡ NoReplica)
+pub no_replica : (kept new : Kept) (event : Event) (why : Refused) (answer : EventAnswer) → (why ≡ NoReplica)
     × IsNoNumber (number_of event) (length kept.replicas) → new ≡ kept → answer ≡ Err why → Steps kept event answer new
 no_replica kept new event why answer is new_is answer_is =
     refused_as kept new event NoReplica answer
@@ -153,18 +153,18 @@ placed kept w number place k r stands is keeps =
     let same : suc place ≡ number = omega (arith, is) in
     subst (λ (n : ℕ). AllZip Keeps (slice_set kept.replicas place k) (with_replica w n r).replicas) same (zip_set Keeps kept.replicas w.replicas place k r stands.replicas keeps)
 
-reached_next : (base : List ℕ) (w : World) (event : Event) (answer : Answer) (next : World) → IsReached base w → Step base w event answer next → IsReached base next
+reached_next : (base : List ℕ) (w : World) (event : Event) (answer : EventAnswer) (next : World) → IsReached base w → Step base w event answer next → IsReached base next
 reached_next base w event answer next reached step =
     let here : Step base reached.course.world event answer next = subst (λ (w : World). Step base w event answer next) (sym reached.world) step in
     record { course = longer reached.course event answer next here; world = refl }
 
 -- the replica once it has taken the merge, in a world where the event leads to it
-abbrev Takes : Kept → ℕ → Event → Answer → Merge → Held → World → Replica → Type 0
+abbrev Takes : Kept → ℕ → Event → EventAnswer → Merge → Held → World → Replica → Type 0
 Takes old number event answer m held w r =
     (next : Replica) × (next.merges ≡ r.merges ++ m ∷ []) × (next.incarnation ≡ r.incarnation) × (held ≡ next.cursors) × Step old.base w event answer (with_replica w number next)
 
 -- and it is stood for
-merged_step : (old new : Kept) (number place : ℕ) (event : Event) (answer : Answer) (m : Merge) (held : Held) → IsPlaceOf number (length old.replicas) place
+merged_step : (old new : Kept) (number place : ℕ) (event : Event) (answer : EventAnswer) (m : Merge) (held : Held) → IsPlaceOf number (length old.replicas) place
     → MergedAt old place m held new
     → ((w : World) (r : Replica) → Stands old w → replica w number ≡ Some r → Keeps (kept_at old place) r → ¬ (length r.merges ≡ last_number) → Takes old number event answer m held w r)
     → Steps old event answer new
@@ -200,13 +200,13 @@ pub took : (old new : Kept) (number place : ℕ) (h copy : Harvested) → copy �
 took old new number place h copy copy_is here a =
     merged_step old new number place (Take number h) (Ok Taken) (merge.Harvest copy) (kept_at old place).cursors here a
     (λ w r stands there keeps few.
-    (taking r (h ∷ []) (merge.Harvest h), ap (λ (g : Harvested). r.merges ++ merge.Harvest g ∷ []) (sym copy_is), refl, keeps.cursors, inl (rw there (inl (few, (refl, refl))))))
+    (after_merge r (h ∷ []) (merge.Harvest h), ap (λ (g : Harvested). r.merges ++ merge.Harvest g ∷ []) (sym copy_is), refl, keeps.cursors, inl (rw there (inl (few, (refl, refl))))))
 
 pub received : (old new : Kept) (number place : ℕ) (bytes : List ℕ) (s : Entries) → IsPlaceOf number (length old.replicas) place → IsText bytes s
     → MergedAt old place (merge.State s) (kept_at old place).cursors new → Steps old (Receive number bytes) (Ok Joined) new
 received old new number place bytes s here text a =
     merged_step old new number place (Receive number bytes) (Ok Joined) (merge.State s) (kept_at old place).cursors here a
-    (λ w r stands there keeps few. (taking r (adds s) (merge.State s), refl, refl, keeps.cursors, inl (rw there (inl (s, text, inl (few, (refl, refl)))))))
+    (λ w r stands there keeps few. (after_merge r (adds s) (merge.State s), refl, refl, keeps.cursors, inl (rw there (inl (s, text, inl (few, (refl, refl)))))))
 
 -- where the replica's number is the last one, nothing is merged
 spent_take : (kept : Kept) (number place : ℕ) (h : Harvested) → IsPlaceOf number (length kept.replicas) place → (kept_at kept place).stamped.number ≡ last_number
@@ -241,10 +241,10 @@ no_text : (bytes : List ℕ) (s : Entries) → IsCause TooLong bytes ⊎ IsCause
 no_text bytes s (inl long) text = let within = text.within in absurd (omega (arith, long, within))
 no_text bytes s (inr not) text = not.1 s text.text
 
-pub not_received : (kept : Kept) (number place : ℕ) (bytes : List ℕ) (fault : StateFault) (answer : Answer) → IsPlaceOf number (length kept.replicas) place
+pub not_received : (kept : Kept) (number place : ℕ) (bytes : List ℕ) (fault : StateFault) (answer : EventAnswer) → IsPlaceOf number (length kept.replicas) place
     → IsCause fault bytes → answer ≡ Err (refusal fault) → Steps kept (Receive number bytes) answer kept
 not_received kept number place bytes fault.NoMemory answer here cause is =
-    subst (λ (a : Answer). Steps kept (Receive number bytes) a kept) (sym is) (receive_ran_out kept number place bytes here cause)
+    subst (λ (a : EventAnswer). Steps kept (Receive number bytes) a kept) (sym is) (receive_ran_out kept number place bytes here cause)
 not_received kept number place bytes TooLong answer here cause is =
     stays kept (Receive number bytes) answer (λ w stands. inl (rw (replica_at kept w number place stands here).there (inr (λ s text. no_text bytes s (inl cause) text, (is, refl)))))
 not_received kept number place bytes NotState answer here cause is =
@@ -259,7 +259,7 @@ record FoundMessage (kept : Kept) (w : World) (number : ℕ) (k : SentMessage) :
   pub kept_is : k ≡ kept_message found
   pub sent : IsSent found
 
-message_at : (kept : Kept) (w : World) (k : ℕ) (m : SentMessage) → Stands kept w → numbered kept.messages k ≡ Some m → FoundMessage kept w k m
+message_at : (kept : Kept) (w : World) (k : ℕ) (m : SentMessage) → Stands kept w → at_number kept.messages k ≡ Some m → FoundMessage kept w k m
 message_at kept w k m stands sent =
     let x = kept_of kept_message w.messages kept.messages k m stands.messages sent in
     record { found = x.found; there = x.there; kept_is = x.kept_is; sent = all_numbered IsSent w.messages k x.found x.there stands.sent }
@@ -286,7 +286,7 @@ same_message kept w k m read f is = record {
   within = subst (λ (k : SentMessage). length k.bytes ≤ longest_text) f.kept_is is.within;
 }
 
-pub delivered : (old new : Kept) (number place k : ℕ) (m : SentMessage) (read : Delta) → IsPlaceOf number (length old.replicas) place → numbered old.messages k ≡ Some m → IsReadFrom m read
+pub delivered : (old new : Kept) (number place k : ℕ) (m : SentMessage) (read : Delta) → IsPlaceOf number (length old.replicas) place → at_number old.messages k ≡ Some m → IsReadFrom m read
     → fits (fmap.get (kept_at old place).cursors m.sender) read ≡ true
     → MergedAt old place (merge.State read.state) (taken_from (kept_at old place).cursors m.sender read) new → Steps old (Deliver number k) (Ok Joined) new
 delivered old new number place k m read here sent is fit a =
@@ -296,7 +296,7 @@ delivered old new number place k m read here sent is fit a =
     let same = same_message old w k m read f is in
     let follows : fits (fmap.get r.cursors f.found.sender) f.found.delta ≡ true =
     (λ i. fits (fmap.get (sym keeps.cursors i) (sym same.sender i)) (sym same.delta i)) ∙ fit in (
-      joining r f.found,
+      after_join r f.found,
       (λ i. r.merges ++ merge.State (sym same.delta i).state ∷ []),
       refl,
       (λ i. taken_from (keeps.cursors i) (same.sender i) (same.delta i)),
@@ -305,7 +305,7 @@ delivered old new number place k m read here sent is fit a =
 
 -- a delta that leaves a gap is refused with the cursor that is held
 gap_left : (kept : Kept) (number place k : ℕ) (m : SentMessage) (read : Delta) (held : Option Cursor) → IsPlaceOf number (length kept.replicas) place
-    → numbered kept.messages k ≡ Some m → IsReadFrom m read
+    → at_number kept.messages k ≡ Some m → IsReadFrom m read
     → held ≡ fmap.get (kept_at kept place).cursors m.sender → fits (fmap.get (kept_at kept place).cursors m.sender) read ≡ false
     → Steps kept (Deliver number k) (Err (Gap held)) kept
 gap_left kept number place k m read held here sent is held_is gap =
@@ -319,7 +319,7 @@ gap_left kept number place k m read held here sent is held_is gap =
     let now : held ≡ fmap.get x.found.cursors f.found.sender = held_is ∙ (λ i. fmap.get (x.keeps.cursors i) (same.sender i)) in
     inl (rw x.there (rw f.there (inl (same.within, inr (leaves, (ap (λ (o : Option Cursor). Err (Gap o)) now, refl)))))))
 
-spent_delivery : (kept : Kept) (number place k : ℕ) (m : SentMessage) (read : Delta) → IsPlaceOf number (length kept.replicas) place → numbered kept.messages k ≡ Some m → IsReadFrom m read
+spent_delivery : (kept : Kept) (number place k : ℕ) (m : SentMessage) (read : Delta) → IsPlaceOf number (length kept.replicas) place → at_number kept.messages k ≡ Some m → IsReadFrom m read
     → fits (fmap.get (kept_at kept place).cursors m.sender) read ≡ true → (kept_at kept place).stamped.number ≡ last_number
     → Steps kept (Deliver number k) (Err NumbersSpent) kept
 spent_delivery kept number place k m read here sent is fit spent =
@@ -333,7 +333,7 @@ spent_delivery kept number place k m read here sent is fit spent =
     inl (rw x.there (rw f.there (inl (same.within, inl (follows, inr (sym x.keeps.stamped.number ∙ spent, (refl, refl))))))))
 
 deliver_ran_out : (kept : Kept) (number place k : ℕ) (m : SentMessage) → IsPlaceOf number (length kept.replicas) place
-    → numbered kept.messages k ≡ Some m → length m.bytes ≤ longest_text → Steps kept (Deliver number k) (Err NoMemory) kept
+    → at_number kept.messages k ≡ Some m → length m.bytes ≤ longest_text → Steps kept (Deliver number k) (Err NoMemory) kept
 deliver_ran_out kept number place k m here sent within =
     ran_out kept number place (Deliver number k) here
     (λ w stands there.
@@ -342,7 +342,7 @@ deliver_ran_out kept number place k m here sent within =
 
 -- a delta that was read isn't joined
 pub not_joined : (kept : Kept) (number place k : ℕ) (m : SentMessage) (read : Delta) (why : Refused) → IsPlaceOf number (length kept.replicas) place
-    → numbered kept.messages k ≡ Some m → IsReadFrom m read
+    → at_number kept.messages k ≡ Some m → IsReadFrom m read
     → IsJoinCause why (kept_at kept place) m.sender read → Steps kept (Deliver number k) (Err why) kept
 not_joined kept number place k m read (Gap held) here sent is cause = gap_left kept number place k m read held here sent is cause.0 cause.1
 not_joined kept number place k m read NumbersSpent here sent is cause = spent_delivery kept number place k m read here sent is cause.0 cause.1
@@ -351,8 +351,8 @@ not_joined kept number place k m read NoReplica here sent is cause = absurd caus
 not_joined kept number place k m read NoMessage here sent is cause = absurd cause
 not_joined kept number place k m read BadState here sent is cause = absurd cause
 
-pub no_message : (kept new : Kept) (number place k : ℕ) (why : Refused) (answer : Answer) → IsPlaceOf number (length kept.replicas) place
-    → (why ≡ NoMessage) × (numbered kept.messages k ≡ None) → new ≡ kept → answer ≡ Err why
+pub no_message : (kept new : Kept) (number place k : ℕ) (why : Refused) (answer : EventAnswer) → IsPlaceOf number (length kept.replicas) place
+    → (why ≡ NoMessage) × (at_number kept.messages k ≡ None) → new ≡ kept → answer ≡ Err why
     → Steps kept (Deliver number k) answer new
 no_message kept new number place k why answer here is new_is answer_is =
     refused_as kept new (Deliver number k) NoMessage answer
@@ -368,8 +368,8 @@ too_long : (bytes : List ℕ) (d : Delta) → IsDelta d → bytes ≡ delta_text
 too_long bytes d delta text (inl long) = long
 too_long bytes d delta text (inr not) = absurd (not.1 d (sent_text bytes d delta text))
 
-not_read : (kept : Kept) (number place k : ℕ) (m : SentMessage) (answer : Answer) → IsPlaceOf number (length kept.replicas) place
-    → numbered kept.messages k ≡ Some m → IsDeltaCause TooLong m.bytes ⊎ IsDeltaCause NotState m.bytes → answer ≡ Err BadState
+not_read : (kept : Kept) (number place k : ℕ) (m : SentMessage) (answer : EventAnswer) → IsPlaceOf number (length kept.replicas) place
+    → at_number kept.messages k ≡ Some m → IsDeltaCause TooLong m.bytes ⊎ IsDeltaCause NotState m.bytes → answer ≡ Err BadState
     → Steps kept (Deliver number k) answer kept
 not_read kept number place k m answer here sent cause is =
     stays kept (Deliver number k) answer
@@ -380,12 +380,13 @@ not_read kept number place k m answer here sent cause is =
     let over : longest_text < length f.found.bytes = subst (λ (b : List ℕ). longest_text < length b) bytes (too_long m.bytes f.found.delta f.sent.delta (bytes ∙ f.sent.text) cause) in
     inl (rw x.there (rw f.there (inr (over, (is, refl))))))
 
-pub not_delivered : (kept : Kept) (number place k : ℕ) (m : SentMessage) (fault : StateFault) (answer : Answer) → IsPlaceOf number (length kept.replicas) place → numbered kept.messages k ≡ Some m
+pub not_delivered : (kept : Kept) (number place k : ℕ) (m : SentMessage) (fault : StateFault) (answer : EventAnswer)
+    → IsPlaceOf number (length kept.replicas) place → at_number kept.messages k ≡ Some m
     → IsDeltaCause fault m.bytes → answer ≡ Err (refusal fault) → Steps kept (Deliver number k) answer kept
 not_delivered kept number place k m TooLong answer here sent cause is = not_read kept number place k m answer here sent (inl cause) is
 not_delivered kept number place k m NotState answer here sent cause is = not_read kept number place k m answer here sent (inr cause) is
 not_delivered kept number place k m fault.NoMemory answer here sent cause is =
-    subst (λ (a : Answer). Steps kept (Deliver number k) a kept) (sym is) (deliver_ran_out kept number place k m here sent cause)
+    subst (λ (a : EventAnswer). Steps kept (Deliver number k) a kept) (sym is) (deliver_ran_out kept number place k m here sent cause)
 
 -- ---- a message is sent
 
@@ -457,17 +458,18 @@ restarted old new number place k here left is incarnation cursors base messages 
   base = base;
   leads = λ w stands.
       let x = replica_at old w number place stands here in
-      let step : Step old.base w (Restart number) (Ok Restarted) (restarting w number) = inl (rw x.there (inl ((λ spent. left (stands.last ∙ spent)), (refl, refl)))) in
-      let keeps : Keeps k (fresh (w.last + 1)) = record { stamped = is; incarnation = incarnation ∙ ap (λ (n : ℕ). n + 1) stands.last; cursors = cursors } in
+      let step : Step old.base w (Restart number) (Ok Restarted) (after_restart w number) = inl (rw x.there (inl ((λ spent. left (stands.last ∙ spent)), (refl, refl)))) in
+      let keeps : Keeps k (new_replica (w.last + 1)) = record { stamped = is; incarnation = incarnation ∙ ap (λ (n : ℕ). n + 1) stands.last; cursors = cursors } in
       record {
-        next = restarting w number;
+        next = after_restart w number;
         step = step;
         stands = record {
-          reached = subst (λ (b : List ℕ). IsReached b (restarting w number)) (sym base) (reached_next old.base w (Restart number) (Ok Restarted) (restarting w number) stands.reached step);
-          replicas = subst (λ (ks : List KeptReplica). AllZip Keeps ks (restarting w number).replicas) (sym replicas) (placed old w number place k (fresh (w.last + 1)) stands here.number_is keeps);
-          messages = messages ∙ (stands.messages ∙ ap (map kept_message) (sym (messages_stay w number (fresh (w.last + 1)))));
+          reached = subst (λ (b : List ℕ). IsReached b (after_restart w number)) (sym base) (reached_next old.base w (Restart number) (Ok Restarted) (after_restart w number) stands.reached step);
+          replicas = subst (λ (ks : List KeptReplica). AllZip Keeps ks (after_restart w number).replicas) (sym replicas)
+              (placed old w number place k (new_replica (w.last + 1)) stands here.number_is keeps);
+          messages = messages ∙ (stands.messages ∙ ap (map kept_message) (sym (messages_stay w number (new_replica (w.last + 1)))));
           last = last ∙ ap (λ (n : ℕ). n + 1) stands.last;
-          sent = subst (All IsSent) (sym (messages_stay w number (fresh (w.last + 1)))) stands.sent;
+          sent = subst (All IsSent) (sym (messages_stay w number (new_replica (w.last + 1)))) stands.sent;
         };
       };
 }
@@ -496,7 +498,7 @@ replied kept number place q r here is =
 pub runs_none : (kept : Kept) → Runs kept [] [] kept
 runs_none kept = record { base = refl; leads = λ w stands. record { end = w; run = refl; stands = stands } }
 
-pub runs_push : (old mid new : Kept) (events : List Event) (answers : List Answer) (event : Event) (answer : Answer)
+pub runs_push : (old mid new : Kept) (events : List Event) (answers : List EventAnswer) (event : Event) (answer : EventAnswer)
     → Runs old events answers mid → Steps mid event answer new → Runs old (events ++ event ∷ []) (answers ++ answer ∷ []) new
 runs_push old mid new events answers event answer runs steps = record {
   base = steps.base ∙ runs.base;
@@ -525,22 +527,23 @@ stands_at_first kept n replicas messages last = record {
   sent = λ k d below. absurd (omega (arith, below));
 }
 
-fresh_push : (last n : ℕ) → fresh_after last (suc n) ≡ fresh_after last n ++ fresh (last + n + 1) ∷ []
-fresh_push last zero = let same : last + 1 ≡ last + 0 + 1 = omega arith in ap (λ (i : ℕ). fresh i ∷ []) same
+fresh_push : (last n : ℕ) → new_replicas_after last (suc n) ≡ new_replicas_after last n ++ new_replica (last + n + 1) ∷ []
+fresh_push last zero = let same : last + 1 ≡ last + 0 + 1 = omega arith in ap (λ (i : ℕ). new_replica i ∷ []) same
 fresh_push last (suc n) =
     let same : last + 1 + n + 1 ≡ last + suc n + 1 = omega arith in
-    ap (λ (rs : List Replica). fresh (last + 1) ∷ rs) (fresh_push (last + 1) n ∙ ap (λ (i : ℕ). fresh_after (last + 1) n ++ fresh i ∷ []) same)
+    ap (λ (rs : List Replica). new_replica (last + 1) ∷ rs) (fresh_push (last + 1) n ∙ ap (λ (i : ℕ). new_replicas_after (last + 1) n ++ new_replica i ∷ []) same)
 
 -- one more replica that has taken nothing
-pub fresh_kept : (all more : List KeptReplica) (n : ℕ) (k : KeptReplica) → AllZip Keeps all (fresh_after 0 n) → IsStamped [] k.stamped → k.stamped.incarnation ≡ n + 1 → k.cursors ≡ fmap.empty
-    → more ≡ all ++ k ∷ [] → AllZip Keeps more (fresh_after 0 (n + 1))
+pub fresh_kept : (all more : List KeptReplica) (n : ℕ) (k : KeptReplica) → AllZip Keeps all (new_replicas_after 0 n) → IsStamped [] k.stamped → k.stamped.incarnation ≡ n + 1 → k.cursors ≡ fmap.empty
+    → more ≡ all ++ k ∷ [] → AllZip Keeps more (new_replicas_after 0 (n + 1))
 fresh_kept all more n k keeps stamped incarnation cursors more_is =
     let number : n + 1 ≡ 0 + n + 1 = omega arith in
-    let keeps_new : Keeps k (fresh (0 + n + 1)) = record { stamped = stamped; incarnation = incarnation ∙ number; cursors = cursors } in
+    let keeps_new : Keeps k (new_replica (0 + n + 1)) = record { stamped = stamped; incarnation = incarnation ∙ number; cursors = cursors } in
     let next : suc n ≡ n + 1 = omega arith in
-    subst (λ (m : ℕ). AllZip Keeps more (fresh_after 0 m)) next
+    subst (λ (m : ℕ). AllZip Keeps more (new_replicas_after 0 m)) next
     (subst (λ (rs : List Replica). AllZip Keeps more rs) (sym (fresh_push 0 n))
-    (subst (λ (ks : List KeptReplica). AllZip Keeps ks (fresh_after 0 n ++ fresh (0 + n + 1) ∷ [])) (sym more_is) (zip_push Keeps all (fresh_after 0 n) k (fresh (0 + n + 1)) keeps keeps_new)))
+    (subst (λ (ks : List KeptReplica). AllZip Keeps ks (new_replicas_after 0 n ++ new_replica (0 + n + 1) ∷ [])) (sym more_is)
+    (zip_push Keeps all (new_replicas_after 0 n) k (new_replica (0 + n + 1)) keeps keeps_new)))
 
 -- what an index reads is what is kept at the place
 pub kept_here : (kept : Kept) (place : ℕ) (k : KeptReplica) → place < length kept.replicas → k ≡ get_or kept.replicas place k → k ≡ kept_at kept place

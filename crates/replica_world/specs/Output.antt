@@ -21,7 +21,7 @@ use Rattle.replica_events.specs.declared.event.Refused.{Refused}
 use Rattle.replica_world.specs.declared.replaying.fault.ReplayFault.{ReplayFault}
 use Rattle.replica_world.specs.declared.replaying.fault.ReplayFault.TheVariants as fault
 use Rattle.replica_events.specs.Faults.{words_of}
-use Rattle.replica_events.specs.World.{World, Answer, Effect, start}
+use Rattle.replica_events.specs.World.{World, EventAnswer, Effect, start}
 use Rattle.replica_world.specs.Fields.{utf8_text}
 use Rattle.replica_world.specs.Script.{Taking, Command, Take, Step, Start, script_of, commands_of, number_of_line}
 use Rattle.replica_world.specs.Script.{bad_line}
@@ -72,7 +72,7 @@ accepted_line (event.Restart replica) = line (codes "restarted")
 accepted_line (event.Ask replica request) = []
 
 -- what an answer writes
-abbrev pub answer_text : List ℕ → Answer → List ℕ
+abbrev pub answer_text : List ℕ → EventAnswer → List ℕ
 answer_text accepted (Ok Taken) = accepted
 answer_text accepted (Ok Joined) = accepted
 answer_text accepted (Ok Restarted) = accepted
@@ -92,7 +92,7 @@ fault_words fault.NoMemory = codes "no memory"
 -- an event of the world, and what is written of its answer
 abbrev pub Happens : List ℕ → World → List ℕ → Event → List ℕ → World → Type 0
 Happens base world accepted event text next =
-    (answer : Answer) × Effect base world event answer next × (text ≡ answer_text accepted answer)
+    (answer : EventAnswer) × Effect base world event answer next × (text ≡ answer_text accepted answer)
 
 -- a refused command changes nothing
 abbrev pub RefusedAs : List ℕ → World → List ℕ → World → Type 0

@@ -9,7 +9,7 @@ use Rattle.timegate.specs.Reply.{reply_of}
 use Rattle.timegate.specs.Route.{original_at}
 use Rattle.replica_events.specs.declared.event.Event.{Event}
 use Rattle.replica_events.specs.declared.event.Event.TheVariants as event
-use Rattle.replica_events.specs.World.{World, Replica, Answer, HasReplica, Run, start}
+use Rattle.replica_events.specs.World.{World, Replica, EventAnswer, HasReplica, Run, start}
 use Rattle.replica_events.specs.History.{History, LearntAlike}
 use Rattle.replica_world.specs.Script.{Taking, Command, Take, Step}
 use Rattle.replica_world.specs.Output.{IsPage, most_mementos, harvest_of, accepted_line, answer_text, taken_line}
@@ -33,7 +33,7 @@ IsPageRefusal why =
 -- an event happened, and this was written of its answer
 abbrev pub WritesAnswer : List ℕ → Event → History → List ℕ → Type 0
 WritesAnswer accepted happens happened text =
-    (answer : Answer) × (happened ≡ (happens, answer) ∷ []) × (text ≡ answer_text accepted answer)
+    (answer : EventAnswer) × (happened ≡ (happens, answer) ∷ []) × (text ≡ answer_text accepted answer)
 
 -- what happens by a command, and what it writes: a page that makes no harvest comes to no event, and is refused in a
 -- line
@@ -55,7 +55,7 @@ ComeTo (command ∷ commands) happened text =
 -- the events that commands come to lead from one world to the other, and the text is what is written of their answers
 pub record IsRunOf (base : List ℕ) (w : World) (commands : List Command) (text : List ℕ) (end : World) : Type 0 where
   pub events : List Event
-  pub answers : List Answer
+  pub answers : List EventAnswer
   pub come : ComeTo commands (zip events answers) text
   pub run : Run base w events answers end
 

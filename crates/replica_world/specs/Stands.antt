@@ -10,7 +10,7 @@ use Rattle.replica_exchange.specs.Stamps.{IsStamped}
 use Rattle.replica_events.specs.declared.event.Event.{Event}
 use Rattle.replica_world.specs.declared.message.SentMessage.{SentMessage}
 use Rattle.replica_world.specs.declared.replica.KeptReplica.{KeptReplica}
-use Rattle.replica_events.specs.World.{World, Replica, Message, Answer, Course, Step, Run}
+use Rattle.replica_events.specs.World.{World, Replica, Message, EventAnswer, Course, Step, Run}
 use Rattle.replica_world.specs.Keeping.{IsMerged, coded_replica}
 
 -- the service's base, what is kept of each replica and of each message, and the last incarnation: no set of harvests,
@@ -84,23 +84,23 @@ pub record Stands (kept : Kept) (w : World) : Type 0 where
   pub sent : All IsSent w.messages
 
 -- an event leads from a world to one that the new one stands for
-pub record Leads (base : List ℕ) (w : World) (event : Event) (answer : Answer) (new : Kept) : Type 0 where
+pub record Leads (base : List ℕ) (w : World) (event : Event) (answer : EventAnswer) (new : Kept) : Type 0 where
   pub next : World
   pub step : Step base w event answer next
   pub stands : Stands new next
 
 -- events lead from a world to one that the new one stands for
-pub record LeadsOn (base : List ℕ) (w : World) (events : List Event) (answers : List Answer) (new : Kept) : Type 0 where
+pub record LeadsOn (base : List ℕ) (w : World) (events : List Event) (answers : List EventAnswer) (new : Kept) : Type 0 where
   pub end : World
   pub run : Run base w events answers end
   pub stands : Stands new end
 
 -- whatever world the old one stands for, the event leads from it to one that the new one stands for
-pub record Steps (old : Kept) (event : Event) (answer : Answer) (new : Kept) : Type 0 where
+pub record Steps (old : Kept) (event : Event) (answer : EventAnswer) (new : Kept) : Type 0 where
   pub base : new.base ≡ old.base
   pub leads : (w : World) → Stands old w → Leads old.base w event answer new
 
 -- and so do events one after the other
-pub record Runs (old : Kept) (events : List Event) (answers : List Answer) (new : Kept) : Type 0 where
+pub record Runs (old : Kept) (events : List Event) (answers : List EventAnswer) (new : Kept) : Type 0 where
   pub base : new.base ≡ old.base
   pub leads : (w : World) → Stands old w → LeadsOn old.base w events answers new

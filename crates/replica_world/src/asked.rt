@@ -4,7 +4,7 @@ ghost use Rattle.replica_world.specs.Asked.{AgreeAfter};
 
 use crate::world::World;
 use memento_time::NoMemory;
-use replica_events::{Answer, Event};
+use replica_events::{Event, EventAnswer};
 use std::alloc::Global;
 use timegate::Request;
 use timemap_writer::Service;
@@ -12,9 +12,9 @@ use timemap_writer::Service;
 /// The answers to events, and then the answers of two replicas to the same request.
 #[derive(Debug, Drop)]
 pub struct Asked {
-    pub answers: Vec<Answer>,
-    pub first: Answer,
-    pub second: Answer,
+    pub answers: Vec<EventAnswer>,
+    pub first: EventAnswer,
+    pub second: EventAnswer,
 }
 
 /// A request that two replicas are asked.

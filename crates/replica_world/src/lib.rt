@@ -22,8 +22,8 @@ pub use replaying::laws::{
 pub use replaying::run::replay;
 pub use replaying::watched::Watched;
 pub use replica_events::{
-    Answer, Event, Refused, Said, cursors_are_kept, deliveries_in_any_order, incarnations_are_new,
-    one_outcome, refusals_have_causes, replicas_agree, replies_are_of_merges, what_cursors_are,
-    what_replicas_have_taken,
+    Event, EventAnswer, Refused, Said, cursors_are_kept, deliveries_in_any_order,
+    incarnations_are_new, one_outcome, refusals_have_causes, replicas_agree, replies_are_of_merges,
+    what_cursors_are, what_replicas_have_taken,
 };
 pub use world::World;

@@ -7,7 +7,7 @@ use crate::replica::KeptReplica;
 use harvest_lattice::Harvest;
 use memento_index::Merge;
 use memento_time::{NoMemory, Octets};
-use replica_events::{Answer, Event, Refused, Said};
+use replica_events::{Event, EventAnswer, Refused, Said};
 use replica_exchange::{Cursor, Delta, StampFault, read_delta, read_state, write_delta};
 use std::alloc::Global;
 use std::marker::Model;
@@ -58,7 +58,7 @@ impl World {
     ghost use Rattle.std.specs.FinMap as fmap;
     ghost use Rattle.memento_index.specs.declared.merge.Merge.TheVariants as merge;
     ghost use Rattle.replica_exchange.specs.CursorRule.{fits, taken_from};
-    ghost use Rattle.replica_events.specs.World.{numbered, start};
+    ghost use Rattle.replica_events.specs.World.{at_number, start};
     ghost use Rattle.replica_events.specs.declared.event.Refused.TheVariants as refused;
     ghost use Rattle.replica_world.specs.Keeping.{IsJoinCause};
     ghost use Rattle.replica_world.specs.Stands.{Stands, Steps, Runs, MergedAt, kept_at};
@@ -88,7 +88,7 @@ impl World {
     /// if a number names none, `BadState` if bytes aren't the text of a state in either format or are too many, `Gap`
     /// if a message leaves out merges of its sender that the replica doesn't know, and `NumbersSpent` if no number is
     /// left for a merge or an incarnation. A restart takes no memory.
-    pub fn step(&mut self, event: &Event) -> Answer
+    pub fn step(&mut self, event: &Event) -> EventAnswer
         ensures steps { Steps self.old event.now result self.new }
         ensures refused { OnErr result (self.new ≡ self.old) }
     {
@@ -104,7 +104,7 @@ impl World {
     }
 
     /// Runs events one after the other, and answers each. An error means that none was run.
-    pub fn run(&mut self, events: &[Event]) -> Result<Vec<Answer>, NoMemory>
+    pub fn run(&mut self, events: &[Event]) -> Result<Vec<EventAnswer>, NoMemory>
         ensures ok { IfOk result (λ answers. Runs self.old events.now answers.items self.new) }
         ensures err { OnErr result (self.new ≡ self.old) }
     {
@@ -116,7 +116,7 @@ impl World {
         Ok(answers)
     }
 
-    fn take(&mut self, number: usize, harvest: &Harvest) -> Answer
+    fn take(&mut self, number: usize, harvest: &Harvest) -> EventAnswer
         ensures steps { Steps self.old (event.Take number harvest.now) result self.new }
         ensures refused { OnErr result (self.new ≡ self.old) }
     {
@@ -126,7 +126,7 @@ impl World {
         Ok(Said::Taken)
     }
 
-    fn send(&mut self, number: usize) -> Answer
+    fn send(&mut self, number: usize) -> EventAnswer
         ensures steps { Steps self.old (event.Send number) result self.new }
         ensures refused { OnErr result (self.new ≡ self.old) }
     {
@@ -136,7 +136,7 @@ impl World {
         Ok(Said::Sent(count))
     }
 
-    fn send_from(&mut self, number: usize, merges: u64) -> Answer
+    fn send_from(&mut self, number: usize, merges: u64) -> EventAnswer
         ensures steps { Steps self.old (event.SendFrom number merges) result self.new }
         ensures refused { OnErr result (self.new ≡ self.old) }
     {
@@ -151,7 +151,7 @@ impl World {
         Ok(Said::Sent(count))
     }
 
-    fn deliver(&mut self, number: usize, message: usize) -> Answer
+    fn deliver(&mut self, number: usize, message: usize) -> EventAnswer
         ensures steps { Steps self.old (event.Deliver number message) result self.new }
         ensures refused { OnErr result (self.new ≡ self.old) }
     {
@@ -163,7 +163,7 @@ impl World {
         Ok(Said::Joined)
     }
 
-    fn receive(&mut self, number: usize, bytes: &[u8]) -> Answer
+    fn receive(&mut self, number: usize, bytes: &[u8]) -> EventAnswer
         ensures steps { Steps self.old (event.Receive number bytes.now) result self.new }
         ensures refused { OnErr result (self.new ≡ self.old) }
     {
@@ -173,7 +173,7 @@ impl World {
         Ok(Said::Joined)
     }
 
-    fn restart(&mut self, number: usize) -> Answer
+    fn restart(&mut self, number: usize) -> EventAnswer
         ensures steps { Steps self.old (event.Restart number) result self.new }
         ensures refused { OnErr result (self.new ≡ self.old) }
     {
@@ -187,7 +187,7 @@ impl World {
     }
 
     /// The reply of a replica to a request: the event `Ask`, which changes nothing.
-    pub fn ask(&self, number: usize, request: &Request) -> Answer
+    pub fn ask(&self, number: usize, request: &Request) -> EventAnswer
         ensures { Steps self.now (event.Ask number request.now) result self.now }
     {
         let place = self.replica_place(number)?;
@@ -207,9 +207,9 @@ impl World {
 
     /// The message with this number, as the world keeps it.
     fn message(&self, number: usize) -> Result<&SentMessage, Refused>
-        ensures found { IfOk result (λ message. numbered self.now.messages number ≡ Some message.now) }
+        ensures found { IfOk result (λ message. at_number self.now.messages number ≡ Some message.now) }
         ensures none { IfErr result
-            (λ why. (why ≡ refused.NoMessage) × (numbered self.now.messages number ≡ None)) }
+            (λ why. (why ≡ refused.NoMessage) × (at_number self.now.messages number ≡ None)) }
     {
         match place_of(number, self.messages.len()) {
             Some(place) => Ok(&self.messages[place]),

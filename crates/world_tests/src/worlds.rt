@@ -4,7 +4,7 @@ use anyhow::{Context, Result};
 use knowledge_tests::makers::{get, harvest};
 use replica_exchange::Cursor;
 use replica_world::{
-    Answer, Asked, Event, Question, Refused, Said, World, asked_after, replicas_agree,
+    EventAnswer, Asked, Event, Question, Refused, Said, World, asked_after, replicas_agree,
 };
 use std::alloc::Global;
 use std::test::*;
@@ -37,7 +37,7 @@ fn take(alloc: Global, replica: usize, revision: u64, captures: &[(u64, &[u8])])
     Ok(Event::Take(replica, harvest(alloc, b"a1", ROOT, revision, mementos)?))
 }
 
-fn reply_of(answer: &Answer) -> Option<&Reply> {
+fn reply_of(answer: &EventAnswer) -> Option<&Reply> {
     match answer {
         Ok(Said::Replied(reply)) => Some(reply),
         _ => None,
@@ -64,7 +64,7 @@ fn exchange(alloc: Global) -> Result<Vec<Event>> {
     Ok(events)
 }
 
-fn is_timemap_of_both(answer: &Answer) -> bool {
+fn is_timemap_of_both(answer: &EventAnswer) -> bool {
     match reply_of(answer) {
         Some(reply) => {
             let body = reply.body.as_slice();
@@ -74,7 +74,7 @@ fn is_timemap_of_both(answer: &Answer) -> bool {
     }
 }
 
-fn answers_of(world: &mut World, events: &[Event]) -> Result<Vec<Answer>> {
+fn answers_of(world: &mut World, events: &[Event]) -> Result<Vec<EventAnswer>> {
     Ok(world.run(events)?)
 }
 
