@@ -1,4 +1,4 @@
--- How the program ends where it fails: the failure that each fault is, the line on standard error, and the exit status.
+-- How the program ends if it fails: the failure that each fault is, the line on standard error, and the exit status.
 use Rattle.std.specs.Prelude.{ℕ, List, ◌++◌, codes}
 use Rattle.std.specs.Fmt.{decimal}
 use Rattle.replica_world.specs.declared.replaying.fault.ReplayFault.{ReplayFault}
@@ -31,7 +31,7 @@ failure_of_serving serve.NoGate = NoGate
 failure_of_serving serve.Device = Device
 failure_of_serving serve.NoMemory = NoMemory
 
--- what stands on standard error, but for the LF at its end: one line, or two where an entry of `originals` is told
+-- what stands on standard error, but for the LF at its end: one line, or two if an entry of `originals` is told
 abbrev pub message_of : Failure → List ℕ
 message_of Usage = codes "usage: aggregator [replay | serve FILE | check FILE]"
 message_of (BadLine number) = codes "bad line " ++ decimal number

@@ -17,7 +17,7 @@ pub record IsJobOf (settings : Settings) (place : ℕ) (job : Job) : Type 0 wher
   pub name : job.archive ≡ archive.name
   pub first : job.first ≡ archive.timemap ++ job.original
 
--- by these settings a URL may be answered so: by a short body, and from a listed host where hosts are listed
+-- by these settings a URL may be answered so: by a short body, and from a listed host if hosts are listed
 abbrev pub MayAnswer : Settings → List ℕ → Answer → Type 0
 MayAnswer settings url answer =
     IsShort answer.body × IfSome settings.hosts (λ listed. IsListedText listed.items url)

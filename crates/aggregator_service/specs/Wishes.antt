@@ -20,7 +20,7 @@ abbrev pub answer_to : Result Harvested WalkFault → Answer
 answer_to (Ok harvest) = answer_by (set.items harvest.mementos) harvest.is_whole
 answer_to (Err fault) = NoHarvest
 
--- Wishes don't ask for what is less than a day old, where the settings don't say how old it may be.
+-- Wishes don't ask for what is less than a day old, if the settings don't say how old it may be.
 abbrev pub wish_timing : Timing → Timing
 wish_timing timing = record timing {
   again = Some (unwrap_or timing.again 86400);

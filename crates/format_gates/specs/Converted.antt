@@ -12,7 +12,7 @@ use Rattle.timemap_formats.specs.Forms.{front_of, media_type, listing_text}
 use Rattle.timemap_formats.specs.Listing.{behind, Lists}
 use Rattle.format_gates.specs.declared.gates.Forms.{Forms}
 
--- the form, where it is answered, and what a target names that asks for a TimeMap or a page in it
+-- the form, if it is answered, and what a target names that asks for a TimeMap or a page in it
 abbrev pub asked_in : Form → Bool → List ℕ → Option (Form × List ℕ)
 asked_in form true target = option_map (λ rest. (form, rest)) (behind (front_of form) target)
 asked_in form false target = None
@@ -30,7 +30,7 @@ abbrev pub form_reply : Form → List ℕ → Reply
 form_reply form text =
     record { status = 200; headers = (ContentType, media_type form) ∷ []; body = text }
 
--- what is answered where a text can't be read as a listing: no text of a gate of this service is such a one
+-- what is answered if a text can't be read as a listing: no text of a gate of this service is such a one
 abbrev pub unread_reply : Reply
 unread_reply =
     record { status = 500; headers = (ContentType, codes "text/plain") ∷ []; body = codes "not convertible\n" }
@@ -48,7 +48,7 @@ pub data IsConverted (form : Form) (q : Request) : Reply → Reply → Type 0 wh
   text : {inner : Reply} (listing : Option Listing) → inner.status ≡ 200 → is_head q ≡ false
       → Lists inner.body listing → IsConverted form q inner (listing_reply form listing)
 
--- What a gate may reply to a request, where the gate inside gives these replies: in a form, what is made of a reply
+-- What a gate may reply to a request, if the gate inside gives these replies: in a form, what is made of a reply
 -- that the gate inside gives to the request for the same in link-format; and else a reply of that gate.
 abbrev pub RepliesBy : (Request → Reply → Type 0) → Option (Form × List ℕ) → Request → Reply → Type 0
 RepliesBy gives None q made = gives q made

@@ -39,7 +39,7 @@ asked Probed = Probed
 abbrev pub dormant : Limits → ℕ → ℕ → Mood
 dormant limits now until = Dormant (max until (later now limits.pause)) until
 
--- After so many failures in a row, where so many are borne: dormant, or the mood that is given. Where any number is
+-- After so many failures in a row, if so many are borne: dormant, or the mood that is given. If any number is
 -- borne, nothing is waited for.
 abbrev pub failing_by : Option ℕ → Limits → ℕ → ℕ → ℕ → Mood → Mood
 failing_by None limits now until failed otherwise = Awake failed

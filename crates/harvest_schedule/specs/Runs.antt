@@ -274,7 +274,7 @@ abbrev pub AreLeft : List Act → Type 0
 AreLeft [] = ⊤
 AreLeft (act ∷ acts) = IsLeft act × AreLeft acts
 
--- An archive that asked not to be asked before a time isn't, whatever else comes of walks that were out, where failures
+-- An archive that asked not to be asked before a time isn't, whatever else comes of walks that were out, if failures
 -- are counted at all.
 abbrev pub AllHeeded : Type 0
 AllHeeded = (limits : Limits) (busy asking : Act) (acts : List Act) (s t : Standing) (until now : ℕ)

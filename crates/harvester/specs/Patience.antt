@@ -15,7 +15,7 @@ use Rattle.harvester.specs.Answers.{Entry}
 abbrev pub most_patience : ℕ
 most_patience = 3600
 
--- the seconds that count where the archive names none
+-- the seconds that count if the archive names none
 abbrev pub usual_patience : ℕ
 usual_patience = 60
 
@@ -23,7 +23,7 @@ usual_patience = 60
 abbrev pub is_number : List ℕ → Bool
 is_number text = not (length text == 0) && list_all is_ascii_digit text
 
--- The seconds that a text names: its number, or those from now to its date, which are none where that is past. A date
+-- The seconds that a text names: its number, or those from now to its date, which are none if that is past. A date
 -- before 1970 counts as the first second of that year.
 abbrev pub seconds_named : ℕ → List ℕ → Option ℕ
 seconds_named now text =

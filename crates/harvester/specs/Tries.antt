@@ -20,19 +20,19 @@ pub data Came : Type 0 where
 abbrev pub Try : Type 0
 Try = List ℕ × Came
 
--- the answer, where there was one
+-- the answer, if there was one
 abbrev pub answer_of : List ℕ → Came → List Entry
 answer_of url (Good answer page) = (url, answer) ∷ []
 answer_of url (Failing answer fault) = (url, answer) ∷ []
 answer_of url (Unanswered fault) = []
 
--- the URL with the fault, where it is lost
+-- the URL with the fault, if it is lost
 abbrev pub loss_of : List ℕ → Came → List Lost
 loss_of url (Good answer page) = []
 loss_of url (Failing answer fault) = (url, fault) ∷ []
 loss_of url (Unanswered fault) = (url, Fetch fault) ∷ []
 
--- the page, where there was one
+-- the page, if there was one
 abbrev pub page_of : Came → List Page
 page_of (Good answer page) = page ∷ []
 page_of (Failing answer fault) = []

@@ -10,7 +10,7 @@ use Rattle.harvester.specs.Closure.{Lost}
 use Rattle.harvester.specs.Patience.{IsLongestAsked}
 use Rattle.harvester.specs.Walks.{IsOutcome}
 
--- What may come of a job where its record isn't kept: with some record and some lost URLs the result is an outcome of
+-- What may come of a job if its record isn't kept: with some record and some lost URLs the result is an outcome of
 -- the job, and the patience is what the answers of that very record ask for.
 pub record Comes (answers : List ℕ → Answer → Type 0) (faults : List ℕ → FetchFault → Type 0) (job : Job) (now : ℕ)
     (result : Result Harvested WalkFault) (asked : Option ℕ) : Type 0 where

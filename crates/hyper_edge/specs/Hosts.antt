@@ -16,7 +16,7 @@ use Rattle.hyper_edge.specs.Addresses.{is_allowed}
 abbrev pub host_of : Parts → Option (List ℕ)
 host_of url = option_map host_text (nonempty_host url)
 
--- the port of a URL, or that of its scheme where it names none
+-- the port of a URL, or that of its scheme if it names none
 abbrev pub port_of : Parts → Option ℕ
 port_of url = option_or url.port (default_port url.scheme)
 

@@ -8,7 +8,7 @@ use Rattle.http_uri.specs.Uri.{uri_path_and_query}
 use Rattle.http_uri.specs.Grammar.{or_slash}
 use Rattle.timegate.specs.declared.request.Request.{Request}
 
--- the path with the query; nothing where the target has neither
+-- the path with the query; nothing if the target has neither
 abbrev pub target_of : Uri → List ℕ
 target_of uri = unwrap_or (option_map or_slash (uri_path_and_query uri)) []
 

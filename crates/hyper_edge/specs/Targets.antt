@@ -30,7 +30,7 @@ abbrev pub without_slash : List ℕ → List ℕ
 without_slash [] = []
 without_slash (b ∷ bs) = if is_slash b then bs else b ∷ bs
 
--- the path and the query of what stands behind the scheme; the path begins with `/`, also where nothing or `\` stands
+-- the path and the query of what stands behind the scheme; the path begins with `/`, also if nothing or `\` stands
 -- for it
 abbrev pub path_and_query : List ℕ → List ℕ
 path_and_query rest = 0x2F ∷ without_slash (from_first ends_authority (behind_slashes (before_fragment rest)))

@@ -20,7 +20,7 @@ whole list lifted = list ++ reverse lifted
 abbrev pub once : Memento → Memento → ℕ
 once x m = cond (eq_by_cmp memento_cmp x m) 1 0
 
--- the count of a memento: 0 where it isn't listed
+-- the count of a memento: 0 if it isn't listed
 abbrev pub count_of : List Counted → Memento → ℕ
 count_of [] x = 0
 count_of (e ∷ es) x = cond (eq_by_cmp memento_cmp x e.memento) e.count 0 + count_of es x
@@ -48,7 +48,7 @@ abbrev pub endings : List Step → Memento → ℕ
 endings [] x = 0
 endings (s ∷ ss) x = cond s.begins 0 (once x s.memento) + endings ss x
 
--- how often a memento stands in a list: once at most, where the list is in order
+-- how often a memento stands in a list: once at most, if the list is in order
 abbrev pub occurrences : List Memento → Memento → ℕ
 occurrences [] x = 0
 occurrences (m ∷ ms) x = once x m + occurrences ms x

@@ -42,7 +42,7 @@ Grows None new = tally_in new ≡ []
 Grows (Some t) None = ⊥
 Grows (Some t) (Some u) = (u.entries ≡ t.entries) × (t.room ≤ u.room)
 
--- the mementos of a shared list: none where there is no list
+-- the mementos of a shared list: none if there is no list
 abbrev pub shared_mementos : {A : Type 0} → Option (Arc Mementos A) → List Memento
 shared_mementos None = []
 shared_mementos (Some list) = set.items (arc_value list)
@@ -69,7 +69,7 @@ steps_or_none (Some steps) = steps_in steps
 abbrev pub steps_of : StepLists → List ℕ → List Step
 steps_of all o = steps_or_none (tree.get text_cmp all o)
 
--- a list is replaced where just what goes is listed, each by one archive
+-- a list is replaced if just what goes is listed, each by one archive
 abbrev pub FitsList : List Counted → Steps → Type 0
 FitsList entries (All made) = entries ≡ each_once (shared_mementos made.before)
 FitsList entries (Each steps) = Unit {0}

@@ -11,7 +11,7 @@ use Rattle.memento_sets.specs.MementoSets.{Mementos}
 use Rattle.harvest_lattice.specs.Lattice.{Key, Kept, Entries, held, join_at}
 use Rattle.harvest_lattice.specs.Knowledge.{mementos_of}
 
--- 1 where an entry is there and shows the memento, in however many of its revisions
+-- 1 if an entry is there and shows the memento, in however many of its revisions
 abbrev pub shows_one : Option Kept → Memento → ℕ
 shows_one None m = 0
 shows_one (Some kept) m = cond (set.contains (mementos_of kept) m) 1 0

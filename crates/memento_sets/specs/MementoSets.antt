@@ -17,6 +17,6 @@ IsSubset a b = (m : Memento) → set.contains a m ≡ true → set.contains b m 
 abbrev pub mementos_rise : List Memento → Bool
 mementos_rise ms = fmap.is_sorted memento_cmp (set.as_keys ms)
 
--- the set of these mementos, where they stand in order
+-- the set of these mementos, if they stand in order
 abbrev pub mementos_with : List Memento → Option (set.Set memento_cmp)
 mementos_with ms = cond (mementos_rise ms) (Some (set.from_list ms)) None

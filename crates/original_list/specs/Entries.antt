@@ -12,7 +12,7 @@ names_none (Some text) = is_none (original_of text)
 abbrev pub is_bad : Data → Bool
 is_bad entry = names_none (as_str entry)
 
--- the number of the first such entry, where the first of all has this number
+-- the number of the first such entry, if the first of all has this number
 abbrev pub first_bad : ℕ → Items → Option ℕ
 first_bad number no_items = None
 first_bad number (item entry entries) = if is_bad entry then Some number else first_bad (number + 1) entries

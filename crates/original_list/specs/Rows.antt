@@ -15,7 +15,7 @@ most_told = 20
 abbrev pub trimmed : List ℕ → List ℕ
 trimmed line = trim (is_among (32 ∷ 9 ∷ 13 ∷ [])) line
 
--- an original, where the text names one
+-- an original, if the text names one
 abbrev pub named : Option (List ℕ) → Row
 named None = Bad
 named (Some original) = Named original
@@ -46,13 +46,13 @@ is_bad Blank = false
 is_bad (Named original) = false
 is_bad Bad = true
 
--- the numbers of the bad ones, where the first has this number
+-- the numbers of the bad ones, if the first has this number
 abbrev pub bad_lines : ℕ → List Row → List ℕ
 bad_lines number [] = []
 bad_lines number (row ∷ rows) =
     if is_bad row then number ∷ bad_lines (number + 1) rows else bad_lines (number + 1) rows
 
--- what is read then, where a line of this number holds this
+-- what is read then, if a line of this number holds this
 pub record TakesRow (number : ℕ) (row : Row) (old new : Listed) : Type 0 where
   pub originals : new.originals.items ≡ old.originals.items ++ original_in row
   pub bad : new.bad.items

@@ -12,7 +12,7 @@ is_end b = b == 47 || b == 63 || b == 35
 abbrev pub is_mark : ℕ → Bool
 is_mark b = b == 64 || b == 58 || b == 91
 
--- what stands before the first byte that ends it: the authority, where the text follows a scheme
+-- what stands before the first byte that ends it: the authority, if the text follows a scheme
 abbrev pub authority : List ℕ → List ℕ
 authority text = before_first is_end text
 
@@ -36,7 +36,7 @@ www_text false = []
 abbrev pub text_of : Bool → Bool → List ℕ → List ℕ
 text_of is_secure has_www rest = scheme_text is_secure ++ (www_text has_www ++ rest)
 
--- those with `www.` where there is none, or without it where there is one
+-- those with `www.` if there is none, or without it if there is one
 abbrev pub swapped : Bool → Bool → List ℕ → List (List ℕ)
 swapped is_secure has_www rest =
     if may_swap rest

@@ -32,7 +32,7 @@ pub record Learns (old : Pass) (list : List Batch) (new : Pass) : Type 0 where
   pub told : IsPrefix list new.told
   pub one : (new.told ≡ old.told) ⊎ (new.told ≡ list)
 
--- without memory for the reply the gate has advanced, and where nothing can be entered its pass is as it was
+-- without memory for the reply the gate has advanced, and if nothing can be entered its pass is as it was
 abbrev pub AfterFault : GateFault → Pass → Pass → Type 0
 AfterFault NoMemory old new = Advances old new
 AfterFault Closed old new = new ≡ old

@@ -30,7 +30,7 @@ same_code (gcons x y) (gcons a b) = same_code x a && same_code y b
 unfoldable pub is_same_entry : Option Kept → Option Kept → Bool
 is_same_entry a b = same_code ((coded_option coded_kept).code a) ((coded_option coded_kept).code b)
 
--- the stamp at a key once the state is this: where the entry has changed it is the new number
+-- the stamp at a key once the state is this: if the entry has changed it is the new number
 abbrev pub stamp_with : StampedState → Entries → Key → Option ℕ
 stamp_with s now k =
     cond (is_same_entry (map.get now k) (map.get s.entries k)) (map.get s.stamps k) (Some (s.number + 1))

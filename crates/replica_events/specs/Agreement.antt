@@ -22,7 +22,7 @@ SameHarvests known other = (h : Harvested) → Contains known h ↔ Contains oth
 abbrev pub HasTaken : World → ℕ → Knowledge → Type 0
 HasTaken world i known = (r : Replica) × (replica world i ≡ Some r) × (r.taken ≡ known)
 
--- the replica of this number gives this reply where it is asked
+-- the replica of this number gives this reply if it is asked
 pub record Gives (base : List ℕ) (world : World) (i : ℕ) (q : Request) (r : Reply) : Type 0 where
   pub next : World
   pub asked : Step base world (Ask i q) (Ok (Replied r)) next
@@ -45,7 +45,7 @@ pub record Agree (base : List ℕ) (world : World) (i j : ℕ) (known other : Kn
   pub timemaps : (original : List ℕ) → timemap_at base known original ≡ timemap_at base other original
   pub pages : (original : List ℕ) (number : ℕ) → page_at base known original number ≡ page_at base other original number
 
--- a reply with the bytes of a TimeMap or of a page, which HEAD leaves out, or a 404 where there is none
+-- a reply with the bytes of a TimeMap or of a page, which HEAD leaves out, or a 404 if there is none
 abbrev pub Shows : Option (List ℕ) → Request → Reply → Type 0
 Shows None q r = r.status ≡ 404
 Shows (Some text) q r = (r.status ≡ 200) × (r.body ≡ (if is_head q then [] else text))
@@ -57,7 +57,7 @@ pub record ServesTimeMaps (base : List ℕ) (world : World) (i : ℕ) (known : K
   pub pages : (q : Request) (original : List ℕ) (number : ℕ) (r : Reply) → route_of q ≡ Page number original
       → Gives base world i q r → Shows (page_at base known original number) q r
 
--- each reply to a request to the TimeGate of an original: a 404 where nothing is shown of it, or else a redirect to a
+-- each reply to a request to the TimeGate of an original: a 404 if nothing is shown of it, or else a redirect to a
 -- memento of its latest harvests, those not older than the greatest whole revision of their archive, than which none of
 -- these is nearer
 abbrev pub ServesTimeGates : List ℕ → World → ℕ → Knowledge → Type 0

@@ -145,7 +145,7 @@ IfWithinLimit bytes happens otherwise answer new =
 abbrev pub last_number : ℕ
 last_number = 18446744073709551615
 
--- the outcome of an event that needs the number after n, or else where none of 64 bits is left
+-- the outcome of an event that needs the number after n, or else if none of 64 bits is left
 abbrev pub IfNumberLeft : ℕ → Outcome → Outcome → Outcome
 IfNumberLeft n happens otherwise answer new =
     (¬ (n ≡ last_number) × happens answer new) ⊎ ((n ≡ last_number) × otherwise answer new)
@@ -155,7 +155,7 @@ abbrev pub WithStamped : Replica → (StampedState → Outcome) → Outcome
 WithStamped r happens answer new =
     (s : StampedState) × IsStamped r.merges s × (s.incarnation ≡ r.incarnation) × happens s answer new
 
--- the outcome of an event where the delta follows on the cursor that is held, or else where it leaves a gap
+-- the outcome of an event if the delta follows on the cursor that is held, or else if it leaves a gap
 abbrev pub IfFits : Option Cursor → Delta → Outcome → Outcome → Outcome
 IfFits held d happens otherwise answer new =
     ((fits held d ≡ true) × happens answer new) ⊎ ((fits held d ≡ false) × otherwise answer new)
@@ -187,7 +187,7 @@ Joins w i r m =
     IfFits (map.get r.cursors m.sender) m.delta (Merges w r Joined (with_replica w i (after_join r m)))
     (Refuses (Gap (map.get r.cursors m.sender)) w)
 
--- the outcome of an event where there is memory
+-- the outcome of an event if there is memory
 abbrev pub Effect : List ℕ → World → Event → Outcome
 Effect base w (Take i h) =
     AtReplica w i (λ r. Merges w r Taken (with_replica w i (after_merge r (h ∷ []) (merge.Harvest h))))

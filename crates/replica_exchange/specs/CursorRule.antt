@@ -10,7 +10,7 @@ use Rattle.replica_exchange.specs.declared.cursor.TakeFault.TheVariants.{Gap, No
 use Rattle.replica_exchange.specs.declared.delta.Delta.{Delta}
 use Rattle.replica_exchange.specs.Stamps.{StampedState, entries_above}
 
--- where a delta from a cursor starts: at the cursor's number where it is of this incarnation and no later than now, and
+-- where a delta from a cursor starts: at the cursor's number if it is of this incarnation and no later than now, and
 -- else at the beginning
 abbrev pub start_from : StampedState → Option Cursor → ℕ
 start_from s None = 0
@@ -30,7 +30,7 @@ abbrev pub reaches : Option Cursor → Delta → Bool
 reaches None d = false
 reaches (Some c) d = (c.incarnation == d.incarnation) && nat_le d.start c.number
 
--- a delta is taken where it starts at the beginning or at what the held cursor reaches
+-- a delta is taken if it starts at the beginning or at what the held cursor reaches
 abbrev pub fits : Option Cursor → Delta → Bool
 fits held d = (d.start == 0) || reaches held d
 

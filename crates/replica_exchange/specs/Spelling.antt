@@ -20,13 +20,13 @@ pub record Adds {A : Type 0} (s : Spelling A) (before after : List A) (text rest
   pub added : after ≡ before ++ value ∷ []
   pub begins : Begins s text value rest
 
--- a text is refused as malformed only where it begins with no written value
+-- a text is refused as malformed only if it begins with no written value
 abbrev pub Refuses : {A : Type 0} → Spelling A → List ℕ → StateFault → Type 0
 Refuses s text TooLong = ⊥
 Refuses {A} s text NotState = (value : A) (rest : List ℕ) → ¬ Begins s text value rest
 Refuses s text NoMemory = ⊤
 
--- a text is refused as malformed only where no value's writing is the whole of it
+-- a text is refused as malformed only if no value's writing is the whole of it
 abbrev pub RefusesWhole : {A : Type 0} → Spelling A → List ℕ → StateFault → Type 0
 RefusesWhole s text TooLong = ⊥
 RefusesWhole {A} s text NotState = (value : A) → ¬ Begins s text value []

@@ -32,7 +32,7 @@ slot_of (Some slots) original = fmap.get slots original
 abbrev pub slot : Shelves → Key → Option (Option ℕ)
 slot shelves k = slot_of (tree.get text_cmp shelves k.0) k.1
 
--- the stamp in a slot: in an empty one none, as where there is no slot
+-- the stamp in a slot: none in an empty one, and none if there is no slot
 abbrev pub filled : Option (Option ℕ) → Option ℕ
 filled None = None
 filled (Some stamp) = stamp

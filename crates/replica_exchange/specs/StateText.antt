@@ -38,7 +38,7 @@ listing_text written es = line (codes "entries" ∷ decimal (length es) ∷ [])
 
 -- ---- format 2
 
--- the whole revision, or `-` where there is none
+-- the whole revision, or `-` if there is none
 abbrev pub whole_field : Option ℕ → List ℕ
 whole_field None = codes "-"
 whole_field (Some revision) = decimal revision

@@ -10,7 +10,7 @@ use Rattle.replica_world.specs.declared.asked.Asked.{Asked}
 use Rattle.replica_events.specs.World.{World, Step, Run, start}
 use Rattle.replica_events.specs.History.{LearntAlike}
 
--- the events lead to one world, in which both replicas are asked; where both have learnt the same harvests and no delta
+-- the events lead to one world, in which both replicas are asked; if both have learnt the same harvests and no delta
 -- is asked for, their replies are the same
 pub record AgreeAfter (base : List ℕ) (count : ℕ) (events : List Event) (q : Request) (i j : ℕ)
     (said : Asked) : Type 0 where

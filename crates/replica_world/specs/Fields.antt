@@ -7,7 +7,7 @@ use Rattle.text_fields.specs.Decimals.{number_of}
 use Rattle.text_fields.specs.Parts.{space, line_end, parts_at}
 
 infixl 10 ◌>>=◌
--- one reading after another: none where either has none
+-- one reading after another: none if either has none
 abbrev pub ◌>>=◌ : {A B : Type 0} → Option A → (A → Option B) → Option B
 found >>= next = option_and_then next found
 
@@ -41,7 +41,7 @@ word_field text = do
 abbrev pub is_visible : ℕ → Bool
 is_visible b = nat_le 0x21 b && nat_le b 0x7E
 
--- the bytes, where they are UTF-8
+-- the bytes, if they are UTF-8
 unfoldable pub utf8_text : List ℕ → Option (List ℕ)
 utf8_text bytes = if is_utf8 bytes then Some bytes else None
 
@@ -64,7 +64,7 @@ block_of len text =
 abbrev pub longest_line : ℕ
 longest_line = 65536
 
--- the first line and what follows it, where there is one that isn't too long
+-- the first line and what follows it, if there is one that isn't too long
 unfoldable pub line_of : List ℕ → Option (List ℕ × List ℕ)
 line_of text =
     if (length text == 0) || nat_lt longest_line (length (first_line text).0) then None

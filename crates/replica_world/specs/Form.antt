@@ -186,7 +186,7 @@ form_by_word word fields =
     else if bytes_eq word (codes "restart") then restart_of fields
     else None
 
--- what a line says; none where it is no command
+-- what a line says; none if it is no command
 unfoldable pub form_of : List ℕ → Option Form
 form_of line = do
   word ← field line

@@ -61,7 +61,7 @@ taken_line page =
 abbrev pub refusal_line : Refused → List ℕ
 refusal_line why = refusal_text (words_of why)
 
--- what an event says where it is accepted and says no number and no reply
+-- what an event says if it is accepted and says no number and no reply
 abbrev pub accepted_line : Event → List ℕ
 accepted_line (event.Take replica harvest) = []
 accepted_line (event.Send replica) = []
@@ -146,7 +146,7 @@ Says base world (command ∷ commands) text end =
     (first : List ℕ) × (next : World) × (later : List ℕ) × Performs base world command first next
     × Says base next commands later end × (text ≡ first ++ later)
 
--- what the commands before the first bad line write, in a new world; nothing where there is none
+-- what the commands before the first bad line write, in a new world; nothing if there is none
 abbrev pub Writes : Option Start → List Command → List ℕ → Type 0
 Writes None commands output = output ≡ []
 Writes (Some s) commands output = (end : World) × Says s.base (start s.replicas) commands output end
@@ -155,7 +155,7 @@ Writes (Some s) commands output = (end : World) × Says s.base (start s.replicas
 abbrev pub IsOutput : List ℕ → List ℕ → Type 0
 IsOutput script output = Writes (script_of script).start (script_of script).commands.list output
 
--- What is written and answered where a text has these outputs and this bad line. Unless a device failed or memory was
+-- What is written and answered if a text has these outputs and this bad line. Unless a device failed or memory was
 -- refused, it is a whole output, and the bad line if there is one; else a beginning of each output.
 abbrev pub Replayed : (List ℕ → Type 0) → Option ℕ → Option (List ℕ) → Option (List ℕ) → Result (Unit {0}) ReplayFault
     → Type 0

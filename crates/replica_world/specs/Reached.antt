@@ -59,7 +59,7 @@ pub record IsRunOf (base : List ℕ) (w : World) (commands : List Command) (text
   pub come : ComeTo commands (zip events answers) text
   pub run : Run base w events answers end
 
--- commands, and then one request to two replicas: where both are there and have learnt alike by the events of the
+-- commands, and then one request to two replicas: if both are there and have learnt alike by the events of the
 -- commands, one reply is written twice
 pub record AnswersTwice (base : List ℕ) (count : ℕ) (commands : List Command) (i j : ℕ) (output : List ℕ) : Type 0 where
   pub said : List ℕ

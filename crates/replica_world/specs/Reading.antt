@@ -72,7 +72,7 @@ pub record IsLeft (script : List ℕ) (held : Held) (rest : List ℕ) : Type 0 w
   pub pieces : held.pieces ≤ length used + length held.bytes
   pub ended : held.ended ≡ true → rest ≡ []
 
--- the same, where the reader tells its bytes
+-- the same, if the reader tells its bytes
 abbrev pub IsLeftOf : Option (List ℕ) → Held → Option (List ℕ) → Type 0
 IsLeftOf None held rest = Unit {0}
 IsLeftOf (Some script) held None = ⊥
@@ -94,7 +94,7 @@ pub record IsReadTo (begun : Told) (held : Held) (now : Told) : Type 0 where
   pub pieces : Counted held.pieces begun.pieces now.pieces
   pub failures : now.failures ≡ begun.failures
 
--- a replay ends with `Read` just where a read failed, or where there were too many pieces, which a short script hasn't
+-- a replay ends with `Read` just if a read failed, or if there were too many pieces, which a short script hasn't
 abbrev pub BlamesReader : {T : Type 0} → Result T ReplayFault → Told → Told → Type 0
 BlamesReader (Ok u) begun now = now.failures ≡ begun.failures
 BlamesReader (Err Read) begun now =

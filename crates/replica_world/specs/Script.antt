@@ -71,7 +71,7 @@ command_of (form.Receive replica len) rest = do
   stepped (Receive replica body.0) body.1
 command_of (form.Restart replica) rest = stepped (Restart replica) rest
 
--- the command at the front of a text; none where the line is bad
+-- the command at the front of a text; none if the line is bad
 unfoldable pub command_at : List ℕ → Found
 command_at text = do
   line ← line_of text

@@ -23,7 +23,7 @@ Label = List ℕ × List ℕ
 abbrev pub label_text : Label → List ℕ
 label_text label = label.0 ++ codes "=\"" ++ escaped label.1 ++ codes "\""
 
--- labels in braces, with commas between them; nothing where there is none
+-- labels in braces, with commas between them; nothing if there is none
 abbrev pub labels_text : List Label → List ℕ
 labels_text [] = []
 labels_text (label ∷ labels) =

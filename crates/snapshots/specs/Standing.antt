@@ -9,7 +9,7 @@ use Rattle.snapshot_sections.specs.Sections.{first_line, section_text, snapshot_
 use Rattle.snapshots.specs.Cuts.{joined}
 use Rattle.snapshots.specs.Snapshots.{longest_body, IsShort}
 
--- the text of the state of these entries, where they stand in order
+-- the text of the state of these entries, if they stand in order
 abbrev pub text_of : List (Key × Kept) → List ℕ
 text_of es = line (codes "memento-state" ∷ codes "2" ∷ []) ++ entries_text es
 

@@ -52,7 +52,7 @@ short_reply q status headers text =
 abbrev pub bad_method : Request → Reply
 bad_method q = short_reply q 405 ((Allow, codes "GET, HEAD") ∷ []) (codes "bad method\n")
 
--- the nearest memento to the second that is asked for, or the last where none is
+-- the nearest memento to the second that is asked for, or the last if none is
 abbrev pub choice_at : Mementos → Option ℕ → Option Memento
 choice_at mementos None = last mementos
 choice_at mementos (Some second) = nearest mementos second
@@ -67,13 +67,13 @@ redirect base q original mementos (Some m) =
 abbrev pub links_reply : Request → List ℕ → Reply
 links_reply q text = reply_with q 200 ((ContentType, codes "application/link-format") ∷ []) text
 
--- the TimeMap or the index of its pages, where any memento is shown (RFC 7089, section 5)
+-- the TimeMap or the index of its pages, if any memento is shown (RFC 7089, section 5)
 abbrev pub timemap : List ℕ → Request → List ℕ → List Memento → Reply
 timemap base q original mementos =
     if length mementos == 0 then short_reply q 404 [] (codes "no memento\n")
     else links_reply q (listing_text base original mementos)
 
--- a page of the TimeMap, where any memento is shown and there is a page of this number
+-- a page of the TimeMap, if any memento is shown and there is a page of this number
 abbrev pub page : List ℕ → Request → ℕ → List ℕ → List Memento → Reply
 page base q number original mementos =
     if length mementos == 0 then short_reply q 404 [] (codes "no memento\n")

@@ -45,13 +45,13 @@ is_delta q = starts_with nat_eq q.target deltas
 abbrev pub slash : ℕ
 slash = 47
 
--- the cursor of two numbers, where both can be read
+-- the cursor of two numbers, if both can be read
 abbrev pub cursor_of : Option ℕ → Option ℕ → Option Cursor
 cursor_of None number = None
 cursor_of (Some incarnation) None = None
 cursor_of (Some incarnation) (Some number) = Some (record { incarnation = incarnation; number = number })
 
--- the cursor of two parts, where both are decimals of 64 bits
+-- the cursor of two parts, if both are decimals of 64 bits
 abbrev pub cursor_in : Option (List ℕ × List ℕ) → Option Cursor
 cursor_in None = None
 cursor_in (Some parts) = cursor_of (number_of parts.0) (number_of parts.1)
@@ -123,19 +123,19 @@ pub record IsAsked (original : List ℕ) : Type 0 where
 abbrev pub page_part : List ℕ
 page_part = codes "page/"
 
--- the number before a slash, where it is a decimal of 64 bits, and what stands behind it
+-- the number before a slash, if it is a decimal of 64 bits, and what stands behind it
 abbrev pub numbered : Option (List ℕ × List ℕ) → Option (ℕ × List ℕ)
 numbered None = None
 numbered (Some parts) = option_map (λ number. (number, parts.1)) (number_of parts.0)
 
--- the number of a page and what stands behind it, where bytes begin with these
+-- the number of a page and what stands behind it, if bytes begin with these
 abbrev pub page_in : List ℕ → Option (ℕ × List ℕ)
 page_in bytes =
     if starts_with nat_eq bytes page_part
     then numbered (parts_at slash (drop (length page_part) bytes))
     else None
 
--- a page of a TimeMap, where bytes begin with its number, and else the TimeMap of the original that they name
+-- a page of a TimeMap, if bytes begin with its number, and else the TimeMap of the original that they name
 abbrev pub listing_route : Option (ℕ × List ℕ) → List ℕ → Route
 listing_route None bytes = original_route TimeMap (original_at bytes)
 listing_route (Some page) bytes = original_route (Page page.0) (original_at page.1)

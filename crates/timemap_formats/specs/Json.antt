@@ -25,7 +25,7 @@ page_json base page =
     object (member (codes "uri") (string (form_address base (codes "json") page.place))
     (member (codes "from") (string (rfc3339 page.from)) (member (codes "until") (string (rfc3339 page.until)) no_members)))
 
--- a row before other items, where it is a memento
+-- a row before other items, if it is a memento
 abbrev pub memento_item : Row → Items → Items
 memento_item (OfMemento ends m) more = item (memento_json m) more
 memento_item (OfPage page) more = more
@@ -35,7 +35,7 @@ abbrev pub memento_items : List Row → Items
 memento_items [] = no_items
 memento_items (row ∷ rows) = memento_item row (memento_items rows)
 
--- a row before other items, where it is a page
+-- a row before other items, if it is a page
 abbrev pub page_item : List ℕ → Row → Items → Items
 page_item base (OfMemento ends m) more = more
 page_item base (OfPage page) more = item (page_json base page) more
@@ -45,13 +45,13 @@ abbrev pub page_items : List ℕ → List Row → Items
 page_items base [] = no_items
 page_items base (row ∷ rows) = page_item base row (page_items base rows)
 
--- a row's memento, where that is the first of all
+-- a row's memento, if that is the first of all
 abbrev pub if_first : Option Row → Option Memento
 if_first None = None
 if_first (Some (OfMemento ends m)) = if ends.first then Some m else None
 if_first (Some (OfPage page)) = None
 
--- a row's memento, where that is the last of all
+-- a row's memento, if that is the last of all
 abbrev pub if_last : Option Row → Option Memento
 if_last None = None
 if_last (Some (OfMemento ends m)) = if ends.last then Some m else None
@@ -65,7 +65,7 @@ first_of rows = if_first (slice_get rows 0)
 abbrev pub last_of : List Row → Option Memento
 last_of rows = if_last (slice_get rows (length rows - 1))
 
--- a member with a memento before others, where there is one
+-- a member with a memento before others, if there is one
 abbrev pub memento_member : List ℕ → Option Memento → Members → Members
 memento_member name None more = more
 memento_member name (Some m) more = member name (memento_json m) more
@@ -80,7 +80,7 @@ is_page (Some (OfPage page)) = true
 abbrev pub is_index : List Row → Bool
 is_index rows = is_page (slice_get rows 0)
 
--- what rows list: the mementos, with the first and the last of all where they are among them
+-- what rows list: the mementos, with the first and the last of all if they are among them
 abbrev pub mementos_json : List Row → Json
 mementos_json rows =
     object (member (codes "list") (array (memento_items rows))

@@ -15,16 +15,16 @@ use Rattle.timemap_formats.specs.declared.listing.Row.TheVariants.{OfMemento, Of
 use Rattle.timemap_formats.specs.declared.listing.Listing.{Listing}
 use Rattle.timemap_formats.specs.declared.listing.Head.{Head}
 
--- the text, where it is a clean one
+-- the text, if it is a clean one
 abbrev pub clean_at : List ℕ → Option (List ℕ)
 clean_at text =
     if nat_lt 0 (length text) && nat_le (length text) 8192 && list_all is_clean_byte text then Some text else None
 
--- what stands behind this front, where the text begins with it
+-- what stands behind this front, if the text begins with it
 abbrev pub behind : List ℕ → List ℕ → Option (List ℕ)
 behind front text = if starts_with nat_eq text front then Some (drop (length front) text) else None
 
--- what stands before this end, where the text ends with it
+-- what stands before this end, if the text ends with it
 abbrev pub before : List ℕ → List ℕ → Option (List ℕ)
 before end text =
     let n = length text - length end in
@@ -43,14 +43,14 @@ ends_of relations =
     else if bytes_eq relations (codes "first last memento") then Some (record { first = true; last = true })
     else None
 
--- a memento at this second, where both are named
+-- a memento at this second, if both are named
 abbrev pub memento_row : Option Ends → Option ℕ → Option (List ℕ) → Option Row
 memento_row None at uri = None
 memento_row (Some ends) None uri = None
 memento_row (Some ends) (Some at) None = None
 memento_row (Some ends) (Some at) (Some uri) = Some (OfMemento ends (record { at = at; uri = uri }))
 
--- a page with its period, where all three are named
+-- a page with its period, if all three are named
 abbrev pub page_row : Option (List ℕ) → Option ℕ → Option ℕ → Option Row
 page_row None from until = None
 page_row (Some place) None until = None
@@ -70,7 +70,7 @@ row_by front link (Some relations) =
 unfoldable pub row_of : List ℕ → Link → Option Row
 row_of front link = row_by front link (first_value (codes "rel") link.params)
 
--- a row before the others, where all can be read
+-- a row before the others, if all can be read
 abbrev pub with_row : Option Row → Option (List Row) → Option (List Row)
 with_row None rows = None
 with_row (Some row) rows = option_map (λ more. row ∷ more) rows
@@ -98,7 +98,7 @@ place_at base target = option_and_then clean_at (behind (front_at base) target)
 abbrev pub base_at : List ℕ → List ℕ → Option (List ℕ)
 base_at original target = option_and_then clean_at (before (codes "/timegate/" ++ original) target)
 
--- with the base, where it is known
+-- with the base, if it is known
 abbrev pub head_on : List ℕ → List ℕ → Option (List ℕ) → Option Head
 head_on original itself None = None
 head_on original itself (Some base) = head_by base (clean_at original) (place_at base itself)
@@ -107,7 +107,7 @@ head_on original itself (Some base) = head_by base (clean_at original) (place_at
 unfoldable pub head_of : List ℕ → List ℕ → List ℕ → Option Head
 head_of original gate itself = head_on original itself (base_at original gate)
 
--- a head and rows, where both can be read
+-- a head and rows, if both can be read
 abbrev pub with_rows : Head → Option (List Row) → Option Listing
 with_rows head None = None
 with_rows head (Some rows) = Some (record { head = head; rows = rows })
@@ -124,7 +124,7 @@ listing_of (a ∷ []) = None
 listing_of (a ∷ b ∷ []) = None
 listing_of (a ∷ b ∷ c ∷ links) = listing_below (head_of a.target b.target c.target) links
 
--- what a text lists: what its links do; none where it isn't link-format within the limits of what is read
+-- what a text lists: what its links do; none if it isn't link-format within the limits of what is read
 abbrev pub Lists : List ℕ → Option Listing → Type 0
 Lists text (Some listing) = (links : List Link) × limits.IsAnswer text (Ok links) × (listing_of links ≡ Some listing)
 Lists text None = (links : List Link) → limits.IsAnswer text (Ok links) → listing_of links ≡ None

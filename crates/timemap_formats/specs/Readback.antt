@@ -24,7 +24,7 @@ text_in (string s) = Some s
 text_in (array js) = None
 text_in (object ms) = None
 
--- a datetime and an address, where there are both
+-- a datetime and an address, if there are both
 abbrev pub both : Option (List ℕ) → Option (List ℕ) → Option (List ℕ × List ℕ)
 both None uri = None
 both (Some datetime) None = None
@@ -62,7 +62,7 @@ mementos_in text =
 abbrev pub as_found : Memento → List ℕ × List ℕ
 as_found m = (rfc3339 m.at, m.uri)
 
--- the rows of mementos in order: whether the head is the first of all is given, and it is the last where none follows
+-- the rows of mementos in order: whether the head is the first of all is given, and it is the last if none follows
 abbrev pub memento_rows : Bool → List Memento → List Row
 memento_rows first [] = []
 memento_rows first (m ∷ ms) = OfMemento (record { first = first; last = length ms == 0 }) m ∷ memento_rows false ms

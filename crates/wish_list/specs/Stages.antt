@@ -101,7 +101,7 @@ changed (Asks archive) stages = slice_set stages archive Out
 changed (Comes archive answer) stages = slice_set stages archive (stage_of answer)
 changed (Skips archive) stages = slice_set stages archive Skipped
 
--- the archives then: where it can't happen, nothing changes
+-- the archives then: if it can't happen, nothing changes
 abbrev pub after : Act → List Stage → List Stage
 after act stages = if can act stages then changed act stages else stages
 
@@ -137,7 +137,7 @@ abbrev pub times_asked : ℕ → List Act → ℕ
 times_asked archive [] = 0
 times_asked archive (act ∷ acts) = asks archive act + times_asked archive acts
 
--- Each archive is asked once or never, once where its stage says that it was: none is asked that is spared or skipped,
+-- Each archive is asked once or never, once if its stage says that it was: none is asked that is spared or skipped,
 -- and none twice.
 abbrev pub AreAskedOnce : Type 0
 AreAskedOnce = (spared : List Bool) (acts : List Act) (end : List Stage) (archive : ℕ)

@@ -16,7 +16,7 @@ second_of table original = lookup (bytes_eq original) table.entries
 abbrev pub asked : Seconds → List ℕ → Seconds
 asked table original = lru_cache (promoted (bytes_eq original) table.entries) table.cap
 
--- once an original was looked after in a second: it stands first, and where it wasn't there and there was no room, the
+-- once an original was looked after in a second: it stands first, and if it wasn't there and there was no room, the
 -- last is gone
 abbrev pub noted : Seconds → List ℕ → ℕ → Seconds
 noted table original second = lru_cache (put_entries bytes_eq table original second) table.cap

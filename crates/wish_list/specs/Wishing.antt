@@ -96,7 +96,7 @@ abbrev pub asked_if : Bool → Seconds → List ℕ → Seconds
 asked_if true table original = asked table original
 asked_if false table original = table
 
--- the second to note for an original that was looked after now: so that it is to be looked after again where an archive
+-- the second to note for an original that was looked after now: so that it is to be looked after again if an archive
 -- gave no harvest, in ten minutes, or in `again` seconds if that is less
 abbrev pub noted_second : ℕ → Bool → ℕ → ℕ
 noted_second again true now = now

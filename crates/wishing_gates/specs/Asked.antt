@@ -38,16 +38,16 @@ is_dated [] = true
 is_dated (value ∷ []) = is_some (asked_of value)
 is_dated (value ∷ next ∷ values) = false
 
--- the original that stands behind `/timegate/`, where a TimeGate can be asked with these values of Accept-Datetime
+-- the original that stands behind `/timegate/`, if a TimeGate can be asked with these values of Accept-Datetime
 abbrev pub gate_original : List ℕ → List (List ℕ) → Option (List ℕ)
 gate_original named asked = if is_dated asked then original_at named else None
 
--- the original that stands behind `/timemap/link/`, where the target begins so
+-- the original that stands behind `/timemap/link/`, if the target begins so
 abbrev pub listing_original : List ℕ → Option (List ℕ)
 listing_original target =
     if starts_with nat_eq target (codes "/timemap/link/") then original_at (drop 14 target) else None
 
--- A request that wishes for an original is a 404 exactly where nothing of the original is shown.
+-- A request that wishes for an original is a 404 exactly if nothing of the original is shown.
 abbrev pub IsAbsentWhereNothingIsShown : Type 0
 IsAbsentWhereNothingIsShown = (base : List ℕ) (s : StampedState) (q : Request) (original : List ℕ)
     → asked_in q ≡ Some original
