@@ -4,12 +4,12 @@
     bench/compare.py KIND SIZE INPUT TIMES COUNTED OURS.. -- PLAIN.. [-- EXPERT..]
 
 All must write the same bytes. COUNTED says what counts of the processor's time: `user`, or `processor` for user and system. A
-run does the job TIMES times, and what is told is of one job: the least, the middle and the most of $TURNS runs (7 where it
+run does the job TIMES times, and what is told is of one job: the least, the middle and the most of $TURNS runs (7 if it
 isn't set), since a machine that does other work as well can only make a run slower. The most memory that a run held is told too;
 less than 15 MB isn't seen, since a run begins as a copy of this script.
 
 With INSTRUCTIONS=1 each program runs once, and what is told are the millions of instructions that it executed outside the
-kernel: other work on the machine doesn't change them. `perf stat` counts where the processor lets it, else valgrind. Of a
+kernel: other work on the machine doesn't change them. `perf stat` counts if the processor lets it, else valgrind. Of a
 program whose last word is TIMES those are taken off that a run with 0 there takes: what it does once, as reading its input.
 
 Where $RESULTS names a file, a line for each program is written there: kind, size, program, and then the least, the middle and the

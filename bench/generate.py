@@ -57,7 +57,7 @@ PER_PAGE = 1000
 
 
 def asked(count):
-    """The commands that ask for the TimeMap of so many mementos: where they are many, for the index and each page."""
+    """The commands that ask for the TimeMap of so many mementos: if they are many, for the index and each page."""
     pages = -(-count // PER_PAGE) if count > PER_PAGE else 0
     parts = [ORIGINAL, *(f"page/{number}/{ORIGINAL}" for number in range(1, pages + 1))]
     return "".join(f"ask 1 GET 0 /timemap/link/{part}\n" for part in parts)

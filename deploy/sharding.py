@@ -12,7 +12,7 @@ last, with its gates on ports from P (8300) on, the one for peers last.
 
 Writes FOLDER/shard-K-replica-R.toml, FOLDER/shards.conf for nginx's `http` block, and FOLDER/programs, a line for each program:
 its host and its settings. The entry listens on 127.0.0.1:E (8200), the other servers of shards.conf on the ports behind it.
-Says for each shard how many originals it has; with `--from OLD` how many move, where there were OLD shards before.
+Says for each shard how many originals it has; with `--from OLD` how many move, if there were OLD shards before.
 An original that isn't plain (see PLAIN) is read by PROGRAM (`aggregator`), so that it is filed as it will be asked for.
 """
 import argparse
@@ -254,7 +254,7 @@ def write(given):
     if given.old:
         before = owners(given.old)
         moved = sum(before[slot] != owner[slot] for slot in slots.values())
-        print(f"{moved} of {len(originals)} originals move, where there were {given.old} shards")
+        print(f"{moved} of {len(originals)} originals move, if there were {given.old} shards")
 
 
 def main():

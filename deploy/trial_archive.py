@@ -2,7 +2,7 @@
 
     deploy/archive [PORT] [--copies N] [--many M] [--pages P] [--tls CERTIFICATE KEY] [--name NAME]
 
-Serves `/timemap/link/ORIGINAL` on 127.0.0.1 (PORT 8100, where none is given): N copies (40) over 24 years, but M (40) of
+Serves `/timemap/link/ORIGINAL` on 127.0.0.1 (PORT 8100, if none is given): N copies (40) over 24 years, but M (40) of
 `http://many.example/`, cut into P pages (1) that name each other as further TimeMaps, and `/web/DATETIME/ORIGINAL`, a page
 that says which copy it is. With `--tls` it speaks https alone, and names itself NAME (127.0.0.1:PORT). Scripts of any site may read
 what it says.

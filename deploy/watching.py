@@ -5,13 +5,13 @@ nothing: one that hangs, or whose standard output failed, so that it makes no ro
 
 Asks each gate of the settings, and looks in the journal for the last line that the unit (`maplewrench.service`) wrote, whatever
 it says: a gate, a round, or the log's word of a round that goes on, which comes each minute. So a round may take as long as it
-takes. The service is dead where a gate refuses a connection, where no gate answers within the patience (30), or where the last
-line, or the unit's start where none came since, is older than `oldest` and the settings' pause together. `oldest` is 900. It is
-86,400 where the settings have no `log = true`, or none of `publish`, `pull`, `tolerance` and `again`: then nothing is written
+takes. The service is dead if a gate refuses a connection, if no gate answers within the patience (30), or if the last
+line, or the unit's start if none came since, is older than `oldest` and the settings' pause together. `oldest` is 900. It is
+86,400 if the settings have no `log = true`, or none of `publish`, `pull`, `tolerance` and `again`: then nothing is written
 before a round's end. A gate that is silent while others answer may serve a slow reader, and is only told.
 
-Says in one line what it found. Ends with status 0 where all is well, where the unit isn't running, and where it was started
-within the grace (60); with 1 where it is dead, which `--restart` has systemd restart; with 2 where it can't tell.
+Says in one line what it found. Ends with status 0 if all is well, if the unit isn't running, and if it was started
+within the grace (60); with 1 if it is dead, which `--restart` has systemd restart; with 2 if it can't tell.
 deploy/maplewrench-watch.timer runs it each minute.
 """
 import argparse
@@ -54,22 +54,22 @@ def said_by(*words):
 
 
 def start_of(unit):
-    """When the unit was started, in seconds since 1970; None where it isn't running."""
+    """When the unit was started, in seconds since 1970; None if it isn't running."""
     state, _, stamp = said_by("systemctl", "show", unit, "--timestamp=unix", "--property=ActiveState,ActiveEnterTimestamp",
                               "--value").partition("\n")
     return int(stamp.strip().lstrip("@")) if state == "active" else None
 
 
 def last_line_of(unit):
-    """When the unit's program last wrote a line; 0 where it never did."""
+    """When the unit's program last wrote a line; 0 if it never did."""
     ran = subprocess.run(["journalctl", "--quiet", "--unit", unit, "--output=short-unix", "--lines=1", "--grep=^(gate|round|log:) "],
                          capture_output=True, text=True)
     first = ran.stdout.partition(" ")[0]
-    return float(first) if first else 0.0    # its status is 1 where no line matches
+    return float(first) if first else 0.0    # its status is 1 if no line matches
 
 
 def faults_of(gates, age, oldest):
-    """Why the service counts as dead: nothing where it doesn't."""
+    """Why the service counts as dead: nothing if it doesn't."""
     faults = [f"gate {gate} {REFUSES}" for gate, does in gates.items() if does == REFUSES]
     if gates and all(does == SILENT for does in gates.values()):
         faults.append("no gate answers")

@@ -61,7 +61,7 @@ def index(pages):
 
 
 def convert(text, form):
-    """What the program writes of a text; None where it says that the text is no listing."""
+    """What the program writes of a text; None if it says that the text is no listing."""
     done = subprocess.run([FORMATS, form], input=text.encode(), capture_output=True, timeout=PATIENCE)
     return done.stdout.decode()[:-1] if done.returncode == 0 else None
 

@@ -28,7 +28,7 @@ def connect(port):
 
 
 def read_reply(stream, has_body=True):
-    """Status, headers and body of the next reply; CLOSED where the connection ends first."""
+    """Status, headers and body of the next reply; CLOSED if the connection ends first."""
     line = stream.readline()
     if not line:
         return CLOSED, {}, b""

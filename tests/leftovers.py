@@ -1,6 +1,6 @@
 #!/usr/bin/env python3
-"""What replicas keep of a clock that was ahead, and of an original and an archive that left the settings: all of it where they are
-restarted one after the other, and nothing where all are stopped at once. And what a reader gets when a replica is told to end.
+"""What replicas keep of a clock that was ahead, and of an original and an archive that left the settings: all of it if they are
+restarted one after the other, and nothing if all are stopped at once. And what a reader gets when a replica is told to end.
 
     ./run --build && tests/leftovers.py
 """

@@ -34,7 +34,7 @@ run_refused() {
     timeout 60 env "REFUSE=$1" "LD_PRELOAD=$work/refuse.so" "${@:2}" >"$work/out" 2>"$work/err"
 }
 
-# A command that ends where it is refused: check_ending NAME INPUT EXPECTED COMMAND..
+# A command that ends if it is refused: check_ending NAME INPUT EXPECTED COMMAND..
 check_ending() {
     local name=$1 input=$2 expected=$3 number status count unneeded=0
     shift 3
@@ -77,7 +77,7 @@ check_calls() {
 }
 
 # Makes public calls one by one, refuses each request in turn, and counts the refusals of each call, which names itself where it
-# is refused. What other calls here ask for is refused too, and isn't counted. A call that says that it asks for none fails where it
+# is refused. What other calls here ask for is refused too, and isn't counted. A call that says that it asks for none fails if it
 # is refused. The calls of several programs: refuse_calls COMMAND.. notes those of one, and count_calls tells of all.
 refuse_calls() {
     local number count

@@ -300,7 +300,7 @@ SPELLINGS = "return Array.from(document.querySelectorAll('#others:not([hidden]) 
 
 
 class WishingGate:
-    """A gate that is played: for each address the hosts of the copies that it knows, or None where it is broken, which the test
+    """A gate that is played: for each address the hosts of the copies that it knows, or None if it is broken, which the test
     changes; and what it was asked for."""
 
     def __init__(self, stack):

@@ -139,7 +139,7 @@ REFUSED = {
 
 
 def text_with(**changed):
-    """The sample with these values, or without a key where it is None."""
+    """The sample with these values, or without a key if it is None."""
     return "".join(f"{key} = {value}\n" for key, value in {**SAMPLE, **changed}.items() if value is not None)
 
 

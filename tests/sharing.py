@@ -73,7 +73,7 @@ def try_known():
 
 
 def number_shown(service, original):
-    """The number of the memento that is shown; 0 where nothing is."""
+    """The number of the memento that is shown; 0 if nothing is."""
     where = service.shows(original)
     return int(where.rpartition("/")[2]) if where else 0
 

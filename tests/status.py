@@ -251,7 +251,7 @@ def try_faults(stack):
 
 
 def try_promtool(told):
-    """Prometheus' own tool, where it is installed."""
+    """Prometheus' own tool, if it is installed."""
     if shutil.which("promtool") is None:
         return "promtool isn't installed"
     ran = subprocess.run(["promtool", "check", "metrics"], input=told.text, capture_output=True, text=True, check=False)

@@ -89,7 +89,7 @@ def try_what_wishes_nothing():
 
 
 def try_without_the_key():
-    """Nothing is wished for where the settings don't have the key."""
+    """Nothing is wished for if the settings don't have the key."""
     with contextlib.ExitStack() as stack:
         archive = Played(stack, lambda _: GOOD)
         service = Service(stack, archives=[("a.example", archive.address)], originals=originals(1), rounds=3, pause=1)

@@ -1,7 +1,7 @@
 //! The reader of an archive's page. Links of a page mostly differ in their target and their datetime alone: what stood
 //! between the two, and from there to the next link's target, is kept of the last link that was a memento and no more.
 //! Where the next link has the same bytes there, its reading can only be the same. Every other link is read by the
-//! grammar; and so is each where nothing is to be guessed.
+//! grammar; and so is each if nothing is to be guessed.
 use crate::dates::{self, DateReader};
 use crate::scan::{find_unclean, find_unplain, is, Piece, BLANK, CLEAN, NAME, PLAIN, TARGET, TOKEN};
 use crate::texts::{Memento, Texts};

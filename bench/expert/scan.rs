@@ -52,7 +52,7 @@ pub fn load(text: &[u8], at: usize) -> __m128i {
     unsafe { _mm_loadu_si128(bytes.as_ptr().cast()) }
 }
 
-/// The place of the first byte from `at` on that isn't clean, and the end of the text where all are. A byte is clean if
+/// The place of the first byte from `at` on that isn't clean, and the end of the text if all are. A byte is clean if
 /// its low and its high half have a bit in common in two tables.
 #[inline(always)]
 pub fn find_unclean(text: &[u8], mut at: usize) -> usize {
@@ -74,7 +74,7 @@ pub fn find_unclean(text: &[u8], mut at: usize) -> usize {
     text.len()
 }
 
-/// The place of the first byte from `at` on that is a control byte, `"`, `\` or 0x7F, and the end of the text where
+/// The place of the first byte from `at` on that is a control byte, `"`, `\` or 0x7F, and the end of the text if
 /// none is.
 #[inline(always)]
 pub fn find_unplain(text: &[u8], mut at: usize) -> usize {

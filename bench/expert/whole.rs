@@ -31,7 +31,7 @@ extern "C" {
     fn mmap(at: *mut u8, length: usize, protection: i32, flags: i32, file: i32, offset: i64) -> *mut u8;
 }
 
-/// A file in memory, with zeros behind it; None where it can't be mapped.
+/// A file in memory, with zeros behind it; None if it can't be mapped.
 fn mapped(file: &File) -> Option<&'static [u8]> {
     const PROT_READ: i32 = 1;
     const MAP_PRIVATE: i32 = 2;
@@ -74,7 +74,7 @@ struct Entry {
     mementos: Vec<Memento>,
 }
 
-/// What is known of an original, and where it has several entries their union, which is made when it is asked for.
+/// What is known of an original, and if it has several entries their union, which is made when it is asked for.
 #[derive(Default)]
 struct Known {
     entries: Vec<Entry>,

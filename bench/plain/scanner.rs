@@ -1,6 +1,6 @@
 //! The link-format scanner that a Rust programmer would write with std alone: an iterator over the links of a text, in
 //! one pass. A link comes with the first values of the parameters that its readers look at, which it lends from the
-//! text where nothing in them is escaped. What passes a limit is told at the end, since what comes behind it may be
+//! text if nothing in them is escaped. What passes a limit is told at the end, since what comes behind it may be
 //! worse.
 use std::borrow::Cow;
 
@@ -13,7 +13,7 @@ struct Value<'a> {
     escaped: bool,
 }
 
-/// A link: its target, how many parameters it has, and the first values of three; empty where a parameter has none.
+/// A link: its target, how many parameters it has, and the first values of three; empty if a parameter has none.
 #[derive(Default)]
 pub struct Link<'a> {
     pub target: &'a [u8],

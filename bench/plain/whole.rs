@@ -24,7 +24,7 @@ struct Entry {
     mementos: Vec<Memento>,
 }
 
-/// What is known of an original: its entries by archive, and where there are several the union of their mementos, which
+/// What is known of an original: its entries by archive, and if there are several the union of their mementos, which
 /// is made when it is first asked for after a change.
 #[derive(Default)]
 struct Known {

@@ -98,7 +98,7 @@ def run_lines(lines, folder):
 
 
 def missing(said, wanted):
-    """The first of the texts that doesn't stand behind those before it; None where all do."""
+    """The first of the texts that doesn't stand behind those before it; None if all do."""
     at = 0
     for text in wanted:
         at = said.find(text, at)

@@ -3,7 +3,7 @@
 
     tests/memory/calls.py              prints their names, `function` or `Type::method`, in the order of their crates
     tests/memory/calls.py ROWS         compares them with the rows in the lines of the file ROWS, each up to a comma, and with the names
-                                    in `others`: status 1 where a call stands in neither or in both, or where a row or a name is
+                                    in `others`: status 1 if a call stands in neither or in both, or if a row or a name is
                                     that of no such call
 
 The row of `State::merge` is `StateMerge`, and that of `read_url` is `ReadUrl`.
@@ -63,7 +63,7 @@ def refusing_types(texts):
 
 
 def owner_of(text, call):
-    """The type in whose `impl` a call stands: '' where it is a function, and None where it is in anything else."""
+    """The type in whose `impl` a call stands: '' if it is a function, and None if it is in anything else."""
     if text[call.start()] != " ":
         return ""
     return [item[1] for item in ITEM.finditer(text, 0, call.start())][-1]

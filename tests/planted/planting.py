@@ -57,7 +57,7 @@ def write_texts(texts):
 
 
 def replaced(text, old, new, what):
-    """The text with another in place of this one. A ValueError where that doesn't stand there just once."""
+    """The text with another in place of this one. A ValueError if that doesn't stand there just once."""
     if text.count(old) != 1:
         raise ValueError(f"{what}: {old!r} stands there {text.count(old)} times")
     return text.replace(old, new)
@@ -97,7 +97,7 @@ def do_texts_stand(name, planted, plant):
 
 
 def failed_test(said):
-    """The line of a test that failed, in what `rt try --test` said; None where there is none. One that didn't end in time
+    """The line of a test that failed, in what `rt try --test` said; None if there is none. One that didn't end in time
     is called FAILED too, and says nothing of a bug."""
     for found in re.finditer(r"^test .* FAILED\n(.*)$", said, re.M):
         if "no-answer" not in found[1]:
