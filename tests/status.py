@@ -118,11 +118,12 @@ def walked_archives(stack):
     """Archives of which each ends its walks in another way, and in which way."""
     silent, closed = free_ports(1), lambda _: b""
     page = link("http://m.example/1")
+    two = page + "," + link("http://m.example/3", "Sun, 02 Jan 2000 00:00:00 GMT")
 
     def losing(target):
         return reply(f"</lost>;rel=timemap,{page}") if target == BASE + ORIGINAL else reply(status=404)
 
-    answers = {"whole": lambda _: reply(page), "part": losing, "status": failing(), "encoded": lambda _: reply(page, "Content-Encoding: gzip"),
+    answers = {"whole": lambda _: reply(two), "part": losing, "status": failing(), "encoded": lambda _: reply(page, "Content-Encoding: gzip"),
                "no_page": lambda _: reply("nonsense"), "no_answer": closed}
     archives = [(outcome.replace("_", "-") + ".example", Played(stack, answer).address) for outcome, answer in answers.items()]
     return [*archives, ("nobody.example", f"http://127.0.0.1:{silent[0]}")]
