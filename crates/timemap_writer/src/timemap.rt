@@ -172,8 +172,8 @@ fn push_head(
     Ok(())
 }
 
-/// Appends the line of a page in the index at this place, after a comma and the end of the line before, for the mementos
-/// that the page lists. Its pieces are as few as in `push_memento`.
+/// Appends the line of a page in the index at this place, after a comma and the end of the line before, for the
+/// mementos that the page lists. Its pieces are as few as in `push_memento`.
 fn push_page(
     out: &mut Vec<u8>,
     dates: &mut DateWriter,
