@@ -110,6 +110,14 @@ def free_ports(count, in_a_row=False):
             return list(tried)
 
 
+def dead_ports(stack, count):
+    """So many ports at which nobody listens, nor can: they are bound, and refuse connections."""
+    held = [stack.enter_context(socket.socket()) for _ in range(count)]
+    for each in held:
+        each.bind(("127.0.0.1", 0))
+    return [each.getsockname()[1] for each in held]
+
+
 def ask(port, target, method="GET", source="127.0.0.1", patience=PATIENCE, **headers):
     """The status of the reply to this target, word for word; its fields by their names in lower case, with a comma between the
     values of one that comes twice; and its body."""
