@@ -392,12 +392,16 @@ class Service:
             count -= line.startswith("round ")
 
     def logs_until(self, text):
-        """The lines of the log up to the first that has this text."""
+        """The lines of the log up to the first that has this text. A service that doesn't write it in time is killed, so that the
+        test goes on and says what is missing."""
+        late = threading.Timer(2 * PATIENCE, self.process.kill)
+        late.start()
         lines = []
         while line := self.complaint():
             lines.append(line)
             if text in line:
                 break
+        late.cancel()
         return lines
 
     def get(self, target, gate=0, **headers):
