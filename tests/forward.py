@@ -17,8 +17,8 @@ import threading
 import time
 import tomllib
 
-from playing import (BASE, PATIENCE, PROGRAM, TOP, Listener, Played, ask, comes_true, free_ports, get, holds, link, needs, reload_nginx, reply, same,
-                     settings_text, start, told, wait_for)
+from playing import (BASE, PATIENCE, PROGRAM, TOP, Listener, Played, ask, comes_true, dead_ports, free_ports, get, holds, link, needs, reload_nginx,
+                     reply, same, settings_text, start, told, wait_for)
 
 ORIGINALS = [f"http://a.example/{number}" for number in range(4)]
 
@@ -313,7 +313,7 @@ def try_few_connections(stack, folder):
 def try_own_answers(stack, folder):
     """Each way to an answer that the forward makes itself."""
     known = Known(stack, folder)
-    names, [down] = known.names, free_ports(1)
+    names, [down] = known.names, dead_ports(stack, 1)
     known.fails("renamed", [("better.test", names[0][1]), ("securer.test", names[1][1])])
     known.fails("removed", names[:1], (200, 502))
     known.fails("down", [(name, f"http://127.0.0.1:{down}") for name, _ in names])

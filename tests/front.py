@@ -13,7 +13,7 @@ import resource
 import socket
 import tempfile
 
-from playing import ORIGINAL, PATIENCE, TOP, Played, ask, children, free_ports, holds, needs, nginx, nginx_of_shards, reply, same
+from playing import ORIGINAL, PATIENCE, TOP, Played, ask, children, dead_ports, free_ports, holds, needs, nginx, nginx_of_shards, reply, same
 import sharding
 
 DATETIME = "Mon, 04 Mar 2001 05:06:07 GMT"
@@ -122,7 +122,7 @@ def try_rate(stack, gate):
 
 def try_unready(stack, good):
     """A gate that knows nothing yet, and one that is down, beside one that knows something."""
-    for what, other in (("knows nothing yet", Played(stack, knows_nothing_yet).port), ("is down", free_ports(1)[0])):
+    for what, other in (("knows nothing yet", Played(stack, knows_nothing_yet).port), ("is down", dead_ports(stack, 1)[0])):
         port = nginx(stack, [other, good.port], *QUICK)
         before = len(good.heads)
         same(f"beside a gate that {what} each reader is led on", {ask(port, "/timegate/" + ORIGINAL)[0] for _ in range(8)}, {302})
@@ -192,7 +192,7 @@ def try_shards(stack):
     before = sum(len(gate.heads) for gate in gates)
     same("an unknown original is 404", ask(entry, "/timegate/http://nobody.example/")[0], 404)
     same("for one request to one gate", sum(len(gate.heads) for gate in gates) - before, 1)
-    for kind, port in (("knows nothing yet", Played(stack, knows_nothing_yet).port), ("is down", free_ports(1)[0])):
+    for kind, port in (("knows nothing yet", Played(stack, knows_nothing_yet).port), ("is down", dead_ports(stack, 1)[0])):
         entry = serve_shards(stack, [[port, gates[0].port], [port, gates[2].port]])
         same(f"if a replica of each shard {kind} an unknown original is 404", {ask(entry, "/timegate/http://nobody.example/")[0] for _ in range(6)}, {404})
         entry = serve_shards(stack, [[port], [port]])
@@ -218,7 +218,7 @@ def main():
         try_unready(stack, gates[0])
         try_nobody(stack, "no gate knows anything yet", [Played(stack, knows_nothing_yet).port for _ in range(2)])
         try_nobody(stack, "the one gate knows nothing yet", [Played(stack, knows_nothing_yet).port])
-        try_nobody(stack, "all gates are down", free_ports(2))
+        try_nobody(stack, "all gates are down", dead_ports(stack, 2))
         try_peers(stack)
         try_shards(stack)
     print("nginx passed on the longest replies, asked one gate for what nobody has, and said 503 if no gate serves")

@@ -10,8 +10,8 @@ import pathlib
 import subprocess
 import tempfile
 
-from playing import (BASE, ENVIRONMENT, ORIGINAL, TOP, NoGate, Played, Service, comes_true, compiled, delta, free_ports, get, holds, link, reply,
-                     same, told)
+from playing import (BASE, ENVIRONMENT, ORIGINAL, TOP, NoGate, Played, Service, comes_true, compiled, dead_ports, delta, free_ports, get, holds, link,
+                     reply, same, told)
 
 BAD_MACHINE = 3
 OTHER = "http://b.example/"
@@ -37,14 +37,13 @@ def said_of(log):
 def try_rounds(log):
     """Archives of which one refuses, one loses a page, one is away and one is well; peers that are away, tell garbage, leave
     merges out, refuse, and are well."""
-    away, nobody = (f"http://127.0.0.1:{port}" for port in free_ports(2))
-
     def losing(target):
         if target == BASE + ORIGINAL:
             return reply(f"</lost>;rel=timemap,{link('http://m.example/1')}")
         return reply(link("http://m.example/2")) if target == BASE + OTHER else reply(status=500)
 
     with contextlib.ExitStack() as stack:
+        away, nobody = (f"http://127.0.0.1:{port}" for port in dead_ports(stack, 2))
         refusing = Played(stack, lambda target: reply(status=503) if target == BASE + OTHER else reply())
         losing, well = Played(stack, losing), Played(stack, lambda _: reply(link("http://m.example/3")))
         garbage, gap = Played(stack, lambda _: reply("nonsense")), Played(stack, lambda _: reply(delta(7, 1, 2)))

@@ -110,6 +110,14 @@ def free_ports(count, in_a_row=False):
             return list(tried)
 
 
+def dead_ports(stack, count):
+    """So many ports at which nobody listens, nor can: they are bound, and refuse connections."""
+    held = [stack.enter_context(socket.socket()) for _ in range(count)]
+    for each in held:
+        each.bind(("127.0.0.1", 0))
+    return [each.getsockname()[1] for each in held]
+
+
 def ask(port, target, method="GET", source="127.0.0.1", patience=PATIENCE, **headers):
     """The status of the reply to this target, word for word; its fields by their names in lower case, with a comma between the
     values of one that comes twice; and its body."""
@@ -384,12 +392,16 @@ class Service:
             count -= line.startswith("round ")
 
     def logs_until(self, text):
-        """The lines of the log up to the first that has this text."""
+        """The lines of the log up to the first that has this text. A service that doesn't write it in time is killed, so that the
+        test goes on and says what is missing."""
+        late = threading.Timer(2 * PATIENCE, self.process.kill)
+        late.start()
         lines = []
         while line := self.complaint():
             lines.append(line)
             if text in line:
                 break
+        late.cancel()
         return lines
 
     def get(self, target, gate=0, **headers):

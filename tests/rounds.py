@@ -9,8 +9,8 @@ import re
 import threading
 import time
 
-from playing import (BASE, CHUNKED, MEMENTO, ORIGINAL, PATIENCE, Played, Service, ask, chunk, delta, free_ports, holds, link, reply, same,
-                     told)
+from playing import (BASE, CHUNKED, MEMENTO, ORIGINAL, PATIENCE, Played, Service, ask, chunk, dead_ports, delta, free_ports, holds, link,
+                     reply, same, told)
 
 LATER = "http://m.example/2"
 FIRST, SECOND = "Sat, 01 Jan 2000 00:00:00 GMT", "Mon, 03 Jan 2000 00:00:00 GMT"
@@ -337,7 +337,7 @@ PULLS = [
 def try_pulls():
     """Which answers of a peer are taken, and from where it is asked next."""
     with contextlib.ExitStack() as stack:
-        nobody = f"http://127.0.0.1:{free_ports(1)[0]}"
+        nobody = f"http://127.0.0.1:{dead_ports(stack, 1)[0]}"
         peer = Played(stack, lambda _: PULLS[len(peer.heads) - 1][2])
         service = Service(stack, peers=[nobody, peer.address + "/"], rounds=len(PULLS))
         for number, (what, asked, _, taken) in enumerate(PULLS, 1):

@@ -21,7 +21,7 @@ import threading
 import time
 import urllib.request
 
-from playing import ORIGINAL, PROGRAM, TOP, free_ports, holds, needs, nginx_text, settings_text, start, wait_for
+from playing import ORIGINAL, PROGRAM, TOP, dead_ports, free_ports, holds, needs, nginx_text, settings_text, start, wait_for
 
 MANY = "http://many.example/"
 SLOW = 300    # seconds that a page of 50,000 copies may take on a machine that is busy
@@ -448,7 +448,7 @@ def watched_settings(folder, gate, port, plain, dead):
 
 def try_status(stack, browser, folder, front, port, plain):
     """The operators' page, of a service with 100 archives of which some are dead."""
-    gate, dead = free_ports(2)
+    [gate], [dead] = free_ports(1), dead_ports(stack, 1)
     for path in ("/status", "/metrics"):
         holds(f"a stranger sees no {path}", front.get(path, source="127.0.0.2")[0] == 403)
     status, headers, text = front.get("/status")

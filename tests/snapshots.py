@@ -106,7 +106,7 @@ def is_kept(what, service, kept):
 
 def logged(service):
     """The line of the log about the snapshot that comes next."""
-    return service.logs_until("snapshot: ")[-1]
+    return next(reversed(service.logs_until("snapshot: ")), "")
 
 
 def pages():

@@ -13,7 +13,7 @@ import socket
 import subprocess
 import time
 
-from playing import (BASE, ORIGINAL, TOP, NoGate, Played, Service, ask, comes_true, delta, entry, free_ports, holds, link, reply, same)
+from playing import (BASE, ORIGINAL, TOP, NoGate, Played, Service, ask, comes_true, dead_ports, delta, entry, free_ports, holds, link, reply, same)
 
 OTHER = "http://b.example/"
 UNKNOWN = "http://c.example/"
@@ -116,13 +116,14 @@ def failing(count=10**9, text=None):
 
 def walked_archives(stack):
     """Archives of which each ends its walks in another way, and in which way."""
-    silent, closed = free_ports(1), lambda _: b""
+    silent, closed = dead_ports(stack, 1), lambda _: b""
     page = link("http://m.example/1")
+    two = page + "," + link("http://m.example/3", "Sun, 02 Jan 2000 00:00:00 GMT")
 
     def losing(target):
         return reply(f"</lost>;rel=timemap,{page}") if target == BASE + ORIGINAL else reply(status=404)
 
-    answers = {"whole": lambda _: reply(page), "part": losing, "status": failing(), "encoded": lambda _: reply(page, "Content-Encoding: gzip"),
+    answers = {"whole": lambda _: reply(two), "part": losing, "status": failing(), "encoded": lambda _: reply(page, "Content-Encoding: gzip"),
                "no_page": lambda _: reply("nonsense"), "no_answer": closed}
     archives = [(outcome.replace("_", "-") + ".example", Played(stack, answer).address) for outcome, answer in answers.items()]
     return [*archives, ("nobody.example", f"http://127.0.0.1:{silent[0]}")]
@@ -132,7 +133,7 @@ def try_rounds(stack):
     """Two rounds of archives and peers that end in each way, and two gates that readers ask."""
     news, gap = Played(stack, lambda _: reply(delta(7, 0, 1, entry(ORIGINAL, "http://m.example/2")))), Played(stack, lambda _: reply(delta(7, 1, 2)))
     closed, garbage = Played(stack, lambda _: reply(status=403)), Played(stack, lambda _: reply("nonsense"))
-    (away,) = free_ports(1)
+    (away,) = dead_ports(stack, 1)
     peers = [news.address, gap.address, closed.address, garbage.address, f"http://127.0.0.1:{away}"]
     begun = int(time.time())
     archives = walked_archives(stack)

@@ -362,13 +362,10 @@ fn answer_of(
     })
 }
 
-/// The bytes of a body: the body's own block, if nobody else holds it.
+/// The bytes of a body, copied at once. `BytesMut::into_vec` would move them to the front of their block one by one.
 fn body_of(alloc: Global, collected: Collected) -> Result<Vec<u8>, AllocError>
     ensures { IfOk result (λ body. body.items ≡ collected_bytes collected) }
 {
     let bytes = collected.to_bytes()?;
-    match bytes.try_into_mut() {
-        Ok(own) => Ok(own.into_vec()?),
-        Err(shared) => Ok(shared.as_slice().to_vec(alloc)?),
-    }
+    bytes.as_slice().to_vec(alloc)
 }

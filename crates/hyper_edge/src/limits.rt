@@ -64,15 +64,22 @@ pub(crate) fn wait_within(
     end: Option<Instant>,
 ) -> Result<(), FetchFault> {
     let Some(end) = end else {
-        thread::sleep(clock, pause);
+        rest(clock, pause);
         return Ok(());
     };
     let now = Instant::now(clock).map_err(|_| FetchFault::Failed)?;
     let left = end.duration_since(now);
     if left <= pause {
-        thread::sleep(clock, left);
+        rest(clock, left);
         return Err(FetchFault::Failed);
     }
-    thread::sleep(clock, pause);
+    rest(clock, pause);
     Ok(())
+}
+
+/// Sleeps for this long, and not at all if that is no time: even then the system would let others run first.
+fn rest(clock: &impl Clock, pause: Duration) {
+    if pause != Duration::ZERO {
+        thread::sleep(clock, pause);
+    }
 }

@@ -20,6 +20,7 @@ fn nothing_is_shown(rt: HostRuntime) -> Result<()> {
     for (target, status) in [
         ("/timegate/http://a.example/", 404),
         ("/timemap/link/http://a.example/", 404),
+        ("/timemap/link/page/1/http://a.example/", 404),
         ("/timegate/nonsense", 400),
         ("/timemap/link/nonsense", 400),
     ] {

@@ -4,7 +4,6 @@ use Rattle.link_format.specs.Grammar.{Link}
 use Rattle.memento_time.specs.declared.mementos.Memento.{Memento}
 use Rattle.timemap_writer.specs.declared.lines.Place.{Place}
 use Rattle.timemap_writer.specs.TimeMap.{head_links}
-use Rattle.timemap_writer.specs.Pages.{page_link}
 
 -- the address of a place
 abbrev pub address_of : Place → List ℕ
@@ -13,7 +12,3 @@ address_of place = place.service.now ++ place.path.now ++ place.original.now
 -- what a text at a place states first
 abbrev pub head_at : Place → List Memento → List Link
 head_at place mementos = head_links place.service.now place.original.now (address_of place) mementos
-
--- the link to a page in the index at a place
-abbrev pub page_link_at : Place → List Memento → ℕ → Link
-page_link_at index mementos page = page_link index.service.now index.original.now mementos page

@@ -1,13 +1,13 @@
 //! TimeMaps, and the `Link` header of a redirect.
-ghost use Rattle.std.specs.Prelude.{◌≡◌, ◌==◌, ◌&&◌, not, ◌++◌, length, IfOk, OnOk, codes};
+ghost use Rattle.std.specs.Prelude.{◌≡◌, ◌≤◌, ◌==◌, ◌&&◌, not, ◌++◌, length, IfOk, OnOk, codes};
 ghost use Rattle.link_format.specs.Grammar.{IsTarget};
 ghost use Rattle.link_format.specs.Writing.{followed, joined, link_text};
-ghost use Rattle.timemap_writer.specs.TimeMap.{lines_text, timemap_text, gate_links};
-ghost use Rattle.timemap_writer.specs.Pages.{pages, IsPage, stretch, page_path, page_text, index_text};
+ghost use Rattle.timemap_writer.specs.TimeMap.{lines_text, timemap_link, timemap_text, gate_links};
+ghost use Rattle.timemap_writer.specs.Pages.{pages, IsPage, stretch, page_address, page_path, page_text, index_text};
 ghost use Rattle.timemap_writer.specs.Pages.{stretch_links};
-ghost use Rattle.timemap_writer.specs.Places.{head_at, page_link_at};
+ghost use Rattle.timemap_writer.specs.Places.{head_at};
 
-use crate::lines::{Place, push_memento, push_original, push_timegate, push_timemap};
+use crate::lines::{Place, datetime, push_memento, push_original, push_timegate, push_timemap};
 use crate::service::Service;
 use memento_time::{DateWriter, Memento, NoMemory, Original};
 use std::alloc::Global;
@@ -97,7 +97,7 @@ pub fn write_index(
     };
     push_head(&mut text, alloc, &mut dates, &place, mementos)?;
     for page in 1..count + 1 {
-        push_page(&mut text, alloc, &mut dates, &place, mementos, page)?;
+        push_page(&mut text, &mut dates, &place, page, stretch(mementos, page))?;
     }
     text.extend_from_slice(b"\n")?;
     Ok(text)
@@ -172,28 +172,31 @@ fn push_head(
     Ok(())
 }
 
-/// Appends the line for a page of the index at this place, after a comma and the end of the line before.
+/// Appends the line of a page in the index at this place, after a comma and the end of the line before, for the
+/// mementos that the page lists. Its pieces are as few as in `push_memento`.
 fn push_page(
     out: &mut Vec<u8>,
-    alloc: Global,
     dates: &mut DateWriter,
     index: &Place<'_>,
-    mementos: &[Memento],
     page: usize,
+    mementos: &[Memento],
 ) -> Result<(), NoMemory>
-    requires { IsPage mementos.now page }
-    ensures { OnOk result (out.new.items
-        ≡ out.old.items ++ codes ",\n" ++ link_text (page_link_at index.now mementos.now page)) }
+    requires { 1 ≤ length mementos.now }
+    ensures { OnOk result (out.new.items ≡ out.old.items ++ codes ",\n"
+        ++ link_text (timemap_link (codes "timemap") (page_address index.now.service.now index.now.original.now page) mementos.now)) }
 {
-    out.extend_from_slice(b",\n")?;
-    let path = page_path(alloc, page)?;
-    let place = Place {
-        service: index.service,
-        path: &path,
-        original: index.original,
-    };
-    let stretch = stretch(mementos, page);
-    push_timemap(out, alloc, dates, b"timemap", &place, stretch)?;
+    let (first, last) = (&mementos[0], &mementos[mementos.len() - 1]);
+    out.extend_from_slice(b",\n<")?;
+    out.extend_from_slice(index.service.base())?;
+    out.extend_from_slice(b"/timemap/link/page/")?;
+    write_decimal(out, page as u64)?;
+    out.extend_from_slice(b"/")?;
+    out.extend_from_slice(index.original.as_bytes())?;
+    out.extend_from_slice(b">; rel=\"timemap\"; type=\"application/link-format\"; from=\"")?;
+    out.extend_from_slice(&datetime(dates, first))?;
+    out.extend_from_slice(b"\"; until=\"")?;
+    out.extend_from_slice(&datetime(dates, last))?;
+    out.push(b'"')?;
     Ok(())
 }
 

@@ -44,7 +44,7 @@ fn ends_of_lines(text: &[u8]) -> u64
 {
     let mut count = 0;
     let mut rest = text;
-    'blocks: while !rest.is_empty() {
+    'parts: while !rest.is_empty() {
         let (block, after) = rest.split_at(rest.len().min(BLOCK));
         count += u64::from(ends_in_block(block));
         rest = after;
