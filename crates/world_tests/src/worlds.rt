@@ -4,7 +4,7 @@ use anyhow::{Context, Result};
 use knowledge_tests::makers::{get, harvest};
 use replica_exchange::Cursor;
 use replica_world::{
-    EventAnswer, Asked, Event, Question, Refused, Said, World, asked_after, replicas_agree,
+    Asked, Event, EventAnswer, Question, Refused, Said, World, asked_after, replicas_agree,
 };
 use std::alloc::Global;
 use std::test::*;
