@@ -52,7 +52,7 @@ notices 'a comment says something else' crates/memento_index/src/laws.rt 'There 
 notices 'a quoted line is another' crates/harvest_lattice/specs/Knowledge.antt \
     'other.revision ≤ h.revision' 'other.revision < h.revision' 'has no line'
 notices 'a planted text stands no longer' crates/timemap_reader/src/role.rt \
-    '!lists(&rel, b"self")' '!lists(&rel, b"SELF")' 'stands in'
+    '!lists(&rel, b"self")' '!lists(&rel, b"SELF")' 'stands there 0 times'
 notices 'a sentence is too long' docs/DEFINITIONS.md 'The notation: `ℕ` is a number, ' \
     "The notation is this$(printf ', and %s' {1..20}): \`ℕ\` is a number, " 'at line .* has .* words'
 notices 'a command of scripts has another form' examples/README.md '| `sendfrom I N` |' '| `sendfrom N I` |' \
