@@ -5,7 +5,7 @@ use Rattle.harvester.specs.declared.faults.WalkFault.TheVariants as fault
 use Rattle.aggregator_service.specs.declared.lines.Reason.{Reason}
 use Rattle.aggregator_service.specs.declared.lines.Reason.TheVariants as reason
 use Rattle.aggregator_service.specs.declared.reasons.Reasons.{Reasons}
-use Rattle.aggregator_service.specs.Notes.{one_more}
+use Rattle.service_status.specs.Counts.{one_more}
 
 -- the reason that a fault is
 abbrev pub reason_of : WalkFault → Reason

@@ -10,6 +10,7 @@ use Rattle.memento_time.specs.declared.mementos.Memento.{Memento}
 use Rattle.memento_time.specs.Mementos.{memento_cmp}
 use Rattle.memento_sets.specs.Sets as set
 use Rattle.memento_sets.proofs.Sets.{contains-empty}
+use Rattle.memento_sets.proofs.UnitedLemmas.{or_false}
 use Rattle.memento_sets.specs.Maps.{join_values}
 use Rattle.memento_sets.specs.MementoSets.{Mementos}
 use Rattle.harvest_lattice.specs.Lattice.{Kept, least, whole, held, not_before, join_kept}
@@ -55,11 +56,7 @@ has_some (Some s) m h = (s, refl)
 
 has_either : (u v : Option Mementos) (m : Memento) → has_at (both_held u v) m ≡ (has_at u m || has_at v m)
 has_either None v m = refl
-has_either (Some s) None m = beside (set.contains s m)
-  where
-    beside : (b : Bool) → b ≡ (b || false)
-    beside true = refl
-    beside false = refl
+has_either (Some s) None m = sym (or_false (set.contains s m))
 has_either (Some s) (Some t) m = contains-union s t m
 
 tested : (b : Bool) (v : Option Mementos) (m : Memento) → has_at (cond b v None) m ≡ true → has_at v m ≡ true

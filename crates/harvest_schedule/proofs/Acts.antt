@@ -1,5 +1,6 @@
 -- What one act changes.
 use Rattle.std.proofs.Common.{◌≡◌, ℕ, ◌+◌, ◌≤◌, ◌==◌, Bool, true, false, nat_lt, List, [], ◌∷◌, ◌++◌, length, Contains, Some, None, if◌then◌else◌, refl, sym, ap, ◌∙◌, arith, length-append}
+use Rattle.std.proofs.lemmas.Option.{same_Some, none-some}
 use Rattle.harvest_schedule.specs.declared.moods.Limits.{Limits}
 use Rattle.harvest_schedule.specs.Moods.{comes_again}
 use Rattle.harvest_schedule.specs.Standing.{Standing, walks}
@@ -8,16 +9,10 @@ use Rattle.harvest_schedule.specs.Steps.{Act, Begun, Can, Ended, Handed, Passed,
 use Rattle.harvest_schedule.specs.Runs.{IsOfRound, begins, comes, count_of, ends, finishes, hands, one_if, passes, settles}
 use Rattle.harvest_schedule.proofs.Counts.{below, below_next, count_cons, count_push, count_without, length_without}
 
-some_is : (x y : ℕ) → Some x ≡ Some y → x ≡ y
-some_is x y e = cc
-
-none_is_some : (y : ℕ) → None ≡ Some y → ⊥
-none_is_some y e = cc
-
 -- the job of a list from which none comes again
 next_is_by : (b : Bool) (next original : ℕ) → (if b then Some next else None) ≡ Some original → original ≡ next
-next_is_by true next original e = some_is original next (sym e)
-next_is_by false next original e = absurd (none_is_some original e)
+next_is_by true next original e = same_Some original next (sym e)
+next_is_by false next original e = absurd (none-some original e)
 
 -- the list goes on by the job of an original
 pub record Advances (k original : ℕ) (s t : Standing) : Type 0 where
@@ -49,7 +44,7 @@ advances_by k original [] s is job =
       grows = omega arith;
     }
 advances_by k original (x ∷ rest) s is job =
-    let same : original ≡ x = some_is original x (sym job) in
+    let same : original ≡ x = same_Some original x (sym job) in
     let e : one_if (original == k) ≡ one_if (x == k) = ap (λ n. one_if (n == k)) same in
     let c : count_of k s.again ≡ one_if (x == k) + count_of k rest = ap (count_of k) is ∙ count_cons k x rest in
     record {

@@ -1,19 +1,11 @@
 -- What a call answers, from what it found of the archive.
 use Rattle.std.proofs.Common.{◌≡◌, ℕ, ◌<◌, Bool, true, false, List, Some, length, get_or, ◌↔◌, IsTrue, if◌then◌else◌, slice_get, slice_set, refl, sym, ap, subst, ◌∙◌}
 use Rattle.std.proofs.lemmas.List.{set-get_or}
-use Rattle.std.proofs.lemmas.Option.{slice_get_read}
+use Rattle.std.proofs.lemmas.Option.{slice_get_read, same_Some}
+use Rattle.std.proofs.lemmas.Bool.{true≢false, false≢true}
 use Rattle.harvest_schedule.specs.declared.moods.Limits.{Limits}
 use Rattle.harvest_schedule.specs.Standing.{Standing}
 use Rattle.harvest_schedule.specs.Steps.{Act, Answers, Can, changed}
-
-true_isnt_false : true ≡ false → ⊥
-true_isnt_false e = cc
-
-false_isnt_true : false ≡ true → ⊥
-false_isnt_true e = cc
-
-some_is : (x y : Standing) → Some x ≡ Some y → x ≡ y
-some_is x y e = cc
 
 read : (xs : List Standing) (archive : ℕ) (s : Standing) → archive < length xs → s ≡ get_or xs archive s → slice_get xs archive ≡ Some s
 read xs archive s within is = slice_get_read xs (length xs) archive s refl within is
@@ -29,12 +21,12 @@ told true limits archive act xs s next within is can after = record {
     can = can.0 refl;
     standings = ap (slice_set xs archive) after;
   };
-  no = λ e. absurd (true_isnt_false e);
-  same = λ e. absurd (true_isnt_false e);
+  no = λ e. absurd (true≢false e);
+  same = λ e. absurd (true≢false e);
 }
 told false limits archive act xs s next within is can after = record {
-  yes = λ e. absurd (false_isnt_true e);
+  yes = λ e. absurd (false≢true e);
   no = λ _. λ found at can_it.
-      false_isnt_true (can.1 (subst (Can act) (some_is found s (sym at ∙ read xs archive s within is)) can_it));
+      false≢true (can.1 (subst (Can act) (same_Some found s (sym at ∙ read xs archive s within is)) can_it));
   same = λ _. ap (slice_set xs archive) (after ∙ is) ∙ set-get_or xs archive s;
 }

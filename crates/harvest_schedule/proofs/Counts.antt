@@ -6,6 +6,7 @@ use Rattle.std.proofs.lemmas.Bool.{cases_Bool}
 use Rattle.std.proofs.lemmas.Bool.Decides.{nat_tests}
 use Rattle.std.proofs.lemmas.List.Edits.{length-remove}
 use Rattle.std.proofs.lemmas.List.Sums.{sum_by-cons, sum_by_push, sum_by-remove, fails_before_first, passes_at_first}
+use Rattle.std.proofs.lemmas.Option.{same_Some, none-some}
 use Rattle.harvest_schedule.specs.Lanes.{without}
 use Rattle.harvest_schedule.specs.Runs.{count_of, one_if}
 
@@ -63,15 +64,9 @@ pub one_if_le : (b : Bool) → one_if b ≤ 1
 one_if_le true = omega arith
 one_if_le false = omega arith
 
-some_is : (i j : ℕ) → Some i ≡ Some j → i ≡ j
-some_is i j e = cc
-
-none_is_some : (i : ℕ) → None ≡ Some i → ⊥
-none_is_some i e = cc
-
 place_by : (b : Bool) (place i : ℕ) → cond b (Some place) None ≡ Some i → i ≡ place
-place_by true place i e = some_is i place (sym e)
-place_by false place i e = absurd (none_is_some i e)
+place_by true place i e = same_Some i place (sym e)
+place_by false place i e = absurd (none-some i e)
 
 -- what is removed at the first place of an original
 pub taken_out : (o i : ℕ) (xs : List ℕ) → Some i ≡ position (λ x. x == o) xs → remove xs i ≡ without o xs
@@ -79,7 +74,7 @@ taken_out o i xs e =
     ap (remove xs) (place_by (nat_lt (position_or_len (λ x. x == o) xs) (length xs)) (position_or_len (λ x. x == o) xs) i (sym e))
 
 nowhere_by : (b : Bool) (place : ℕ) → b ≡ true → None ≡ cond b (Some place) None → ⊥
-nowhere_by true place is e = none_is_some place e
+nowhere_by true place is e = none-some place e
 nowhere_by false place is e = (let c : false ≡ true = is in cc)
 
 -- an original that stands among others has a place

@@ -1,6 +1,7 @@
 -- What a round comes to, from the acts of an archive.
 use Rattle.std.proofs.Common.{◌≡◌, ⊎_elim, inl, inr, ℕ, ◌+◌, ◌<◌, ◌≤◌, Bool, true, false, nat_lt, List, [], ◌∷◌, Some, None, IsNone, if◌then◌else◌, refl, sym, ap, subst, ◌∙◌, arith}
 use Rattle.std.proofs.lemmas.Bool.Decides.{nat_tests}
+use Rattle.std.proofs.lemmas.Bool.{true≢false}
 use Rattle.harvest_schedule.specs.declared.moods.Limits.{Limits}
 use Rattle.harvest_schedule.specs.declared.moods.Pace.{Pace}
 use Rattle.harvest_schedule.specs.Moods.{SleepsAt}
@@ -120,18 +121,15 @@ all_fair limits acts s t begun one leads k = fair_of limits k acts t (from_begin
 
 -- ---- the end of a round
 
-true_isnt_false : true ≡ false → ⊥
-true_isnt_false e = cc
-
 some_isnt_none : (b : Bool) (next : ℕ) → IsNone (if b then Some next else None) → b ≡ false
-some_isnt_none true next none = absurd (true_isnt_false none)
+some_isnt_none true next none = absurd (true≢false none)
 some_isnt_none false next none = refl
 
 none_left : (k : ℕ) (again : List ℕ) (next originals : ℕ) → IsNone (job_by again next originals) → (count_of k again ≡ 0) × (originals ≤ next)
 none_left k [] next originals none =
     let e : nat_lt next originals ≡ false = some_isnt_none (nat_lt next originals) next none in
     (refl, grind (arith, nat_tests, e))
-none_left k (x ∷ rest) next originals none = absurd (true_isnt_false none)
+none_left k (x ∷ rest) next originals none = absurd (true≢false none)
 
 done_with : (limits : Limits) (k : ℕ) (acts : List Act) (t : Standing) → FromBegin limits k acts t → t.out ≡ [] → IsNone (job_of t)
     → k < t.originals → times (settles limits k) acts ≡ 1

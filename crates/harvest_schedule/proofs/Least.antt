@@ -2,6 +2,7 @@
 use Rattle.std.proofs.Common.{◌≡◌, ◌⊎◌, ⊎_elim, inl, inr, ℕ, ◌<◌, ◌≤◌, true, false, List, [], ◌∷◌, All, Contains, IfSome, IsNone, Option, min, refl, sym, subst, ◌∙◌, arith, rules}
 use Rattle.std.specs.List.{fold, reduce}
 use Rattle.std.proofs.lemmas.List.Elements.{All-nil, All-cons, Contains-append_right}
+use Rattle.std.proofs.lemmas.Bool.{true≢false}
 use Rattle.harvest_schedule.proofs.Counts.{less_or_not}
 
 least_bounds : (a : ℕ) (xs : List ℕ) → (fold min a xs ≤ a) × All (λ x. fold min a xs ≤ x) xs
@@ -23,15 +24,12 @@ least_reached a (x ∷ xs) r e =
     (λ (h : Contains xs r). inr (Contains-append_right (x ∷ []) xs r h))
     (least_reached (min a x) xs r e)
 
-true_isnt_false : true ≡ false → ⊥
-true_isnt_false e = cc
-
 cons_isnt_nil : (x : ℕ) (xs : List ℕ) → x ∷ xs ≡ [] → ⊥
 cons_isnt_nil x xs e = cc
 
 none_by : (xs : List ℕ) → (IsNone (reduce min xs) → xs ≡ []) × (xs ≡ [] → IsNone (reduce min xs))
 none_by [] = (λ _. refl, λ _. refl)
-none_by (x ∷ xs) = (λ e. absurd (true_isnt_false e), λ e. absurd (cons_isnt_nil x xs e))
+none_by (x ∷ xs) = (λ e. absurd (true≢false e), λ e. absurd (cons_isnt_nil x xs e))
 
 -- there is no least number where there is none
 pub least_of_none : (xs : List ℕ) (r : Option ℕ) → r ≡ reduce min xs → (IsNone r → xs ≡ []) × (xs ≡ [] → IsNone r)

@@ -4,7 +4,7 @@ use Rattle.std.proofs.Math.ListN.{length-set}
 use Rattle.std.proofs.lemmas.Bool.{cases_Bool}
 use Rattle.std.proofs.lemmas.Bool.Decides.{nat_tests}
 use Rattle.std.proofs.lemmas.List.{get_or-set_same, get_or-set_other}
-use Rattle.std.proofs.lemmas.Option.{get_or_from_slice_get, slice_get-map, slice_get_read, slice_get_within}
+use Rattle.std.proofs.lemmas.Option.{get_or_from_slice_get, slice_get-map, slice_get_read, slice_get_within, same_Some}
 use Rattle.harvest_schedule.specs.declared.moods.Limits.{Limits}
 use Rattle.harvest_schedule.specs.Standing.{Standing}
 use Rattle.harvest_schedule.specs.Lanes.{begun}
@@ -20,9 +20,6 @@ get_set_other : (xs : List Standing) (i j : ℕ) (x y : Standing) → j ≢ i �
 get_set_other xs i j x y other at =
     slice_get_read (slice_set xs i x) (length xs) j y (sym (length-set xs i x)) (slice_get_within xs j y at)
     (sym (get_or-set_other xs i j x y other ∙ get_or_from_slice_get xs j y y at))
-
-some_is : (x y : Standing) → Some x ≡ Some y → x ≡ y
-some_is x y e = cc
 
 same_or_other : (i j : ℕ) → (i ≡ j) ⊎ (j ≢ i)
 same_or_other i j =
@@ -41,7 +38,7 @@ acts_other archive other act calls n = (let t : (other == archive) ≡ false = g
 written : (limits : Limits) (archive other : ℕ) (act : Act) (old new : List Standing) (s : Standing) → other ≡ archive
     → slice_get old archive ≡ Some s → Does limits other act old new → Can act s × (slice_get new archive ≡ Some (changed limits act s))
 written limits archive other act old new s same at does =
-    let is : does.standing ≡ s = some_is does.standing s (sym does.at ∙ (ap (slice_get old) same ∙ at)) in (
+    let is : does.standing ≡ s = same_Some does.standing s (sym does.at ∙ (ap (slice_get old) same ∙ at)) in (
       subst (Can act) is does.can,
       subst (λ (x : Standing). slice_get new archive ≡ Some (changed limits act x)) is
           (subst (λ k. slice_get new k ≡ Some (changed limits act does.standing)) same
@@ -57,7 +54,7 @@ unwritten limits archive other act old new s apart at does =
 
 pub each_is_led : EachIsLed
 each_is_led limits [] old new archive s t runs at_old at_new =
-    some_is t s (sym at_new ∙ (ap (λ xs. slice_get xs archive) runs ∙ at_old))
+    same_Some t s (sym at_new ∙ (ap (λ xs. slice_get xs archive) runs ∙ at_old))
 each_is_led limits (Of other act ∷ calls) old new archive s t runs at_old at_new =
     ⊎_elim
     (λ (same : other ≡ archive).

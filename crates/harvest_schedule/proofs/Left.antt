@@ -1,6 +1,7 @@
 -- What is left of a round.
 use Rattle.std.proofs.Common.{◌≡◌, ℕ, ◌+◌, ◌-◌, ◌<◌, Bool, true, false, nat_lt, List, [], ◌∷◌, ◌++◌, length, Contains, Some, None, if◌then◌else◌, refl, sym, ap, subst, ◌∙◌, arith, length-append}
 use Rattle.std.proofs.lemmas.Bool.Decides.{nat_tests}
+use Rattle.std.proofs.lemmas.Option.{none-some}
 use Rattle.harvest_schedule.specs.declared.moods.Limits.{Limits}
 use Rattle.harvest_schedule.specs.Moods.{comes_again}
 use Rattle.harvest_schedule.specs.Standing.{Standing}
@@ -10,12 +11,9 @@ use Rattle.harvest_schedule.specs.Runs.{AllCounted, IsOfRound, IsOneRound, Leads
 use Rattle.harvest_schedule.proofs.Acts.{Advances, advances}
 use Rattle.harvest_schedule.proofs.Counts.{length_without}
 
-none_is_some : (y : ℕ) → None ≡ Some y → ⊥
-none_is_some y e = cc
-
 some_by : (b : Bool) (next original : ℕ) → (if b then Some next else None) ≡ Some original → b ≡ true
 some_by true next original e = refl
-some_by false next original e = absurd (none_is_some original e)
+some_by false next original e = absurd (none-some original e)
 
 -- one less is left once the list goes on
 left_by : (original : ℕ) (again : List ℕ) (s : Standing) → s.again ≡ again → job_by again s.next s.originals ≡ Some original

@@ -2,6 +2,7 @@
 use Rattle.std.proofs.Common.{◌≡◌, ℕ, ◌<◌, ◌≤◌, ◌==◌, Bool, true, false, nat_le, List, [], ◌∷◌, Option, Some, None, IsSome, if◌then◌else◌, max, refl, sym, ap, subst, arith, rules}
 use Rattle.std.specs.Prelude.{⊤}
 use Rattle.std.proofs.lemmas.Bool.Decides.{nat_tests}
+use Rattle.std.proofs.lemmas.Bool.{false≢true}
 use Rattle.harvest_schedule.specs.declared.moods.Limits.{Limits}
 use Rattle.harvest_schedule.specs.declared.moods.Pace.{Pace}
 use Rattle.harvest_schedule.specs.declared.moods.Mood.{Mood}
@@ -176,12 +177,9 @@ heeded_if : (b : Bool) (limits : Limits) (now until failed : ℕ)
 heeded_if true limits now until failed = (omega arith, omega arith)
 heeded_if false limits now until failed = omega arith
 
-false_isnt_true : false ≡ true → ⊥
-false_isnt_true e = cc
-
 heeded_tolerance : (tolerance : Option ℕ) (limits : Limits) (now until failed : ℕ) → IsSome tolerance
     → Heeds until (moods.failing_by tolerance limits now until failed (Aside until failed))
-heeded_tolerance None limits now until failed some = absurd (false_isnt_true some)
+heeded_tolerance None limits now until failed some = absurd (false≢true some)
 heeded_tolerance (Some tolerance) limits now until failed some = heeded_if (nat_le tolerance failed) limits now until failed
 
 heeded_mood : (limits : Limits) (now until : ℕ) (mood : Mood) → IsSome limits.tolerance

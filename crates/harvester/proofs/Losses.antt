@@ -13,17 +13,17 @@ use Rattle.harvester.specs.Closure.{Lost, urls}
 use Rattle.harvester.specs.Tries.{Came, Try, HasCome, answer_of, loss_of, answers_of, losses_of}
 use Rattle.harvester.specs.Tries.Came.{Good, Failing, Unanswered}
 use Rattle.harvester.specs.Walks.{IsReached, EndsIn, IsOutcome}
-use Rattle.harvester.proofs.ListFacts.{no_element, Contains-cases}
 use Rattle.harvester.proofs.Failing.{says_or_fails}
 use Rattle.harvester.proofs.Reach.{came, fresh, same_try}
 use Rattle.harvester.proofs.Tried.{entry_of, try_answered, try_lost, loss_tried}
+use Rattle.memento_time.proofs.ListFacts.{no_element, first_or_later}
 
 -- of one URL there is no good answer and a loss
 good_or_loss : (faults : List ℕ → FetchFault → Type 0) (job : Job) (u : List ℕ) (c : Came) (e : Entry) (page : Page) (l : Lost) → HasCome faults job u c → Contains (answer_of u c) e
     → Says job e page → Contains (loss_of u c) l → ⊥
 good_or_loss faults job u (Good a p) e page l h c says d = no_element l d
 good_or_loss faults job u (Failing a f) e page l h c says d =
-    let here : (u, a) ≡ e = ⊎_elim (λ at. at) (λ none. absurd (no_element e none)) (Contains-cases (u, a) [] e c) in
+    let here : (u, a) ≡ e = ⊎_elim (λ at. at) (λ none. absurd (no_element e none)) (first_or_later (u, a) [] e c) in
     says_or_fails job (u, a) page f (subst (λ (x : Entry). Says job x page) (sym here) says) h.1
 good_or_loss faults job u (Unanswered f) e page l h c says d = no_element e c
 
@@ -38,7 +38,7 @@ good_is_kept faults job ts r e page c says lost =
 
 -- a list of one element has no other
 one_of : (es : List Entry) (x e : Entry) → es ≡ x ∷ [] → Contains es e → x ≡ e
-one_of es x e is c = ⊎_elim (λ at. at) (λ none. absurd (no_element e none)) (Contains-cases x [] e (subst (λ (ys : List Entry). Contains ys e) is c))
+one_of es x e is c = ⊎_elim (λ at. at) (λ none. absurd (no_element e none)) (first_or_later x [] e (subst (λ (ys : List Entry). Contains ys e) is c))
 
 none_of_none : {A : Type 0} (es : List A) (e : A) → es ≡ [] → Contains es e → ⊥
 none_of_none {A} es e is c = no_element e (subst (λ (ys : List A). Contains ys e) is c)

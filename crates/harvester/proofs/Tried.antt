@@ -16,7 +16,7 @@ use Rattle.harvester.specs.Answers.{Entry}
 use Rattle.harvester.specs.Closure.{Lost, urls}
 use Rattle.harvester.specs.Tries.{Came, Try, answer_of, loss_of, page_of, answers_of, losses_of, pages_of}
 use Rattle.harvester.specs.Tries.Came.{Good, Failing, Unanswered}
-use Rattle.harvester.proofs.ListFacts.{no_element, first_element, later_element, Contains-cases}
+use Rattle.memento_time.proofs.ListFacts.{no_element, first_element, later_element, first_or_later}
 
 -- where one URL more was tried
 module _ (ts : List Try) (t : Try) where
@@ -39,7 +39,7 @@ in_flat_map f (z ∷ xs) x y c d =
     ⊎_elim
     (λ here. Contains-append_left (f z) (flat_map f xs) y (subst (λ w. Contains (f w) y) (sym here) d))
     (λ there. Contains-append_right (f z) (flat_map f xs) y (in_flat_map f xs x y there d))
-    (Contains-cases z xs x c)
+    (first_or_later z xs x c)
 
 pub from_flat_map : {A B : Type 0} (f : A → List B) (xs : List A) (y : B) → Contains (flat_map f xs) y → (x : A) × Contains xs x × Contains (f x) y
 from_flat_map f [] y c = absurd (no_element y c)
@@ -50,7 +50,7 @@ from_flat_map f (z ∷ xs) y c =
     (Contains-append_cases (f z) (flat_map f xs) y c)
 
 only : {A : Type 0} (y x : A) → Contains (y ∷ []) x → y ≡ x
-only y x c = ⊎_elim (λ e. e) (λ none. absurd (no_element x none)) (Contains-cases y [] x c)
+only y x c = ⊎_elim (λ e. e) (λ none. absurd (no_element x none)) (first_or_later y [] x c)
 
 -- a URL of a list stands in an element of it
 pub entry_of : {A : Type 0} (es : List (List ℕ × A)) (u : List ℕ) → Contains (urls es) u → (e : List ℕ × A) × Contains es e × (e.0 ≡ u)
@@ -59,7 +59,7 @@ entry_of (e ∷ es) u c =
     ⊎_elim
     (λ here. (e, first_element e es, here))
     (λ there. let f = entry_of es u there in (f.0, later_element e es f.0 f.1, f.2))
-    (Contains-cases e.0 (urls es) u c)
+    (first_or_later e.0 (urls es) u c)
 
 pub url_taken : {A : Type 0} (es : List (List ℕ × A)) (e : List ℕ × A) → Contains es e → Contains (urls es) e.0
 url_taken [] e c = absurd (no_element e c)
@@ -67,7 +67,7 @@ url_taken {A} (x ∷ es) e c =
     ⊎_elim
     (λ here. subst (λ (y : List ℕ × A). Contains (urls (x ∷ es)) y.0) here (first_element x.0 (urls es)))
     (λ there. later_element x.0 (urls es) e.0 (url_taken es e there))
-    (Contains-cases x es e c)
+    (first_or_later x es e c)
 
 -- the URL of an answer or of a loss is the one that was tried
 answer_url : (u : List ℕ) (c : Came) (e : Entry) → Contains (answer_of u c) e → u ≡ e.0

@@ -7,24 +7,22 @@ use Rattle.std.specs.Fmt.{decimal}
 use Rattle.std.specs.List.{list_all}
 use Rattle.std.specs.Str.{IsUtf8}
 use Rattle.std.specs.Str.Parse.{AllDigits, IsNumeral, digits_value, without_leading_plus}
-use Rattle.std.proofs.lemmas.Bool.{and_parts, cases_lt}
+use Rattle.std.proofs.lemmas.Bool.{and_parts, cases_lt, not-true, and_from}
 use Rattle.std.proofs.lemmas.Bool.Decides.{nat_tests}
 use Rattle.std.proofs.lemmas.Fmt.{IsAscii-from_digits}
 use Rattle.std.proofs.lemmas.Str.{IsUtf8-from_ascii}
 use Rattle.std.proofs.lemmas.Str.Parse.{digit_from_value}
 use Rattle.std.proofs.lemmas.List.Elements.{Contains-append_left, Contains-append_right, Contains-append_cases}
+use Rattle.std.proofs.lemmas.Option.{same_Some}
 use Rattle.memento_time.specs.BeforeEpoch.{is_before_epoch}
 use Rattle.memento_time.specs.Blanks.{trim_blanks}
 use Rattle.memento_time.specs.Names.{day_names}
 use Rattle.memento_time.specs.Second.{Asks, Reads}
 use Rattle.memento_time.specs.SecondOf.{asked_of}
 use Rattle.memento_time.proofs.SecondOfLemmas.{Asks-asked_of}
+use Rattle.memento_time.proofs.ListFacts.{no_element, first_element, first_or_later}
 use Rattle.harvester.specs.Answers.{Entry}
 use Rattle.harvester.specs.Patience.{IsLongestAsked, asked_patience, is_number, longer}
-use Rattle.harvester.proofs.ListFacts.{no_element, first_element, Contains-cases}
-
-some_same : (s t : ℕ) → Some s ≡ Some t → s ≡ t
-some_same s t is = cc
 
 none_or_some : (o : Option ℕ) (s : ℕ) → o ≡ None → o ≡ Some s → ⊥
 none_or_some o s p q = cc
@@ -35,7 +33,7 @@ module _ (now : ℕ) (es : List Entry) (e : Entry) where
   old_or_new : (x : Entry) → Contains (es ++ e ∷ []) x → Contains es x ⊎ (e ≡ x)
   old_or_new x c =
       ⊎_elim (λ old. inl old)
-      (λ new. ⊎_elim (λ is. inr is) (λ none. absurd (no_element x none)) (Contains-cases e [] x new))
+      (λ new. ⊎_elim (λ is. inr is) (λ none. absurd (no_element x none)) (first_or_later e [] x new))
       (Contains-append_cases es (e ∷ []) x c)
 
   is_new : Contains (es ++ e ∷ []) e
@@ -54,7 +52,7 @@ module _ (now : ℕ) (es : List Entry) (e : Entry) where
     (e, is_new, is),
     λ x t c asks. ⊎_elim
         (λ old. absurd (none_or_some _ t (was x old) asks))
-        (λ new. let same = some_same s t (sym (same_asked (Some s) is x new) ∙ asks) in omega (arith, same))
+        (λ new. let same = same_Some s t (sym (same_asked (Some s) is x new) ∙ asks) in omega (arith, same))
         (old_or_new x c),
   )
   longest_with (Some l) None is was = (
@@ -71,7 +69,7 @@ module _ (now : ℕ) (es : List Entry) (e : Entry) where
         (cases_lt l s),
     λ x t c asks. ⊎_elim
         (λ old. let few = was.1 x t old asks in omega (arith, few))
-        (λ new. let same = some_same s t (sym (same_asked (Some s) is x new) ∙ asks) in omega (arith, same))
+        (λ new. let same = same_Some s t (sym (same_asked (Some s) is x new) ∙ asks) in omega (arith, same))
         (old_or_new x c),
   )
 
@@ -90,9 +88,6 @@ pub digits_tested : (text : List ℕ) → AllDigits 10 text → list_all is_asci
 digits_tested [] all = refl
 digits_tested (c ∷ cs) all = rw (digit_tested c all.0) (digits_tested cs all.1)
 
-both_true : (x y : Bool) → x ≡ true → y ≡ true → (x && y) ≡ true
-both_true x y p q = rw (p, q) refl
-
 -- a text that is a number is one in std's words, and the other way round
 pub number_is : (text : List ℕ) → is_number text ≡ true → IsNumeral 10 text
 number_is [] is = absurd (let no : false ≡ true = is in cc)
@@ -103,7 +98,7 @@ pub number_tested : (text : List ℕ) → IsNumeral 10 text → is_number text �
 number_tested [] is = let no : 0 < 0 = is.0 in absurd (omega (arith, no))
 number_tested (c ∷ cs) is =
     let some : not (length (c ∷ cs) == 0) ≡ true = grind (arith, nat_tests) in
-    both_true (not (length (c ∷ cs) == 0)) (list_all is_ascii_digit (c ∷ cs)) some (digits_tested (c ∷ cs) is.1)
+    and_from (not (length (c ∷ cs) == 0)) (list_all is_ascii_digit (c ∷ cs)) some (digits_tested (c ∷ cs) is.1)
 
 early_length : (t : List ℕ) → is_before_epoch t ≡ true → length t ≡ 29
 unfolding is_before_epoch
@@ -117,10 +112,6 @@ no_date text other =
       | Some s ↦ λ is. absurd (⊎_elim (λ reads. other reads.len) (λ first. other (early_length (trim_blanks text) first.early)) (Asks-asked_of text s is))
     ] refl
 
-not_true : (b : Bool) → not b ≡ true → b ≡ false
-not_true true is = absurd (let no : false ≡ true = is in cc)
-not_true false is = refl
-
 second_false : (x y z : Bool) → y ≡ false → (x && (y && z)) ≡ false
 second_false true y z is = rw is refl
 second_false false y z is = refl
@@ -131,9 +122,9 @@ none_begins [] all name c = absurd (no_element name c)
 none_begins (n ∷ ns) all name c =
     let parts = and_parts (not (is_ascii_digit (slice_index n 0))) (list_all (λ (n : List ℕ). not (is_ascii_digit (slice_index n 0))) ns) all in
     ⊎_elim
-    (λ same. subst (λ (x : List ℕ). is_ascii_digit (slice_index x 0) ≡ false) same (not_true (is_ascii_digit (slice_index n 0)) parts.0))
+    (λ same. subst (λ (x : List ℕ). is_ascii_digit (slice_index x 0) ≡ false) same (not-true (is_ascii_digit (slice_index n 0)) parts.0))
     (λ rest. none_begins ns parts.1 name rest)
-    (Contains-cases n ns name c)
+    (first_or_later n ns name c)
 
 -- a text that begins with the name of a day is no number
 pub no_number : (text : List ℕ) → Contains day_names (take 3 text) → is_number text ≡ false

@@ -11,7 +11,7 @@ use Rattle.http.specs.Request.{IsHeadFor, body_of, head_of}
 use Rattle.http.specs.Steps.{AppendsField, StepsTo}
 use Rattle.hyper_edge.specs.Exchanges.{fields_of_agent}
 
-ok_same : {A E : Type 0} (r : Result A E) (x y : A) → r ≡ Ok x → r ≡ Ok y → x ≡ y
+pub ok_same : {A E : Type 0} (r : Result A E) (x y : A) → r ≡ Ok x → r ≡ Ok y → x ≡ y
 ok_same r x y p q = cc
 
 err_not_ok : {A E : Type 0} (e : E) (x : A) → Err e ≡ Ok x → ⊥

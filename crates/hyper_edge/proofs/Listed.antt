@@ -12,9 +12,7 @@ use Rattle.url.specs.declared.slicing.Position.TheVariants.{BeforeHost, AfterPor
 use Rattle.hyper_edge.specs.declared.hosts.AllowedHost.{AllowedHost}
 use Rattle.hyper_edge.specs.Addresses.{is_allowed}
 use Rattle.hyper_edge.specs.Hosts.{AreAllowed, IsEntryOf, IsListed, IsListedText, Spells, url_around}
-
-ok_same : {A E : Type 0} (r : Result A E) (x y : A) → r ≡ Ok x → r ≡ Ok y → x ≡ y
-ok_same r x y p q = cc
+use Rattle.hyper_edge.proofs.Building.{ok_same}
 
 -- what is left of the addresses of a listed URL's host
 pub left_allowed : (hosts : Option (Bor (List AllowedHost))) (given : Bor (List AllowedHost)) (url : Parts) (host : Host (List ℕ)) (found left : List SocketAddr)

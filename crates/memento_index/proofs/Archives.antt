@@ -22,22 +22,19 @@ use Rattle.memento_sets.specs.MementoSets.{Mementos}
 use Rattle.memento_sets.proofs.Sets.{two_parts, less_from}
 use Rattle.harvest_lattice.specs.Lattice.{Key, key_cmp, Kept, Entries, held}
 use Rattle.harvest_lattice.specs.Knowledge.{mementos_of, shown_of}
-use Rattle.harvest_lattice.proofs.Knowledge.{has_at, in_entry, out_entry, contains-shown_of, same_key}
+use Rattle.harvest_lattice.proofs.Knowledge.{has_at, in_entry, out_entry, contains-shown_of, same_key, original_itself}
 use Rattle.harvest_lattice.proofs.ShelfLemmas.{same_text}
 use Rattle.harvest_lattice.proofs.Walked.{value_at}
+use Rattle.harvest_lattice.proofs.ShownLemmas.{row_shows}
 use Rattle.memento_index.specs.Showing.{showing_by, showing, IsShowing, AreShowing}
-
--- whether an entry is of the original and has the memento
-abbrev shows : List ℕ → Memento → Key × Kept → Bool
-shows o m e = eq_by_cmp text_cmp o e.0.1 && set.contains (mementos_of e.1) m
 
 -- the archives of the entries that do
 abbrev archives_in : List (Key × Kept) → List ℕ → Memento → List (List ℕ)
-archives_in es o m = map (λ e. e.0.0) (filter (shows o m) es)
+archives_in es o m = map (λ e. e.0.0) (filter (row_shows o m) es)
 
 -- and that of one more, if it does
 abbrev archives_if : Bool → Key × Kept → List (Key × Kept) → List ℕ → Memento → List (List ℕ)
-archives_if b e es o m = map (λ e. e.0.0) (cond b (e ∷ filter (shows o m) es) (filter (shows o m) es))
+archives_if b e es o m = map (λ e. e.0.0) (cond b (e ∷ filter (row_shows o m) es) (filter (row_shows o m) es))
 
 -- ---- how many they are
 
@@ -145,17 +142,14 @@ found_passes p k v (e ∷ es) found pass =
       | false ↦ λ t is. or_right (p e) (list_any p es) (found_passes p k v es is pass)
     ] refl found
 
-text_itself : (a : List ℕ) → eq_by_cmp text_cmp a a ≡ true
-text_itself a = ap is_eq (tied_itself nat_list_cmp_total a)
-
 any_archive : (a : List ℕ) (es : List (Key × Kept)) (o : List ℕ) (m : Memento)
-    → list_any (λ e. shows o m e && eq_by_cmp text_cmp a e.0.0) es ≡ list_any (eq_by_cmp text_cmp a)
+    → list_any (λ e. row_shows o m e && eq_by_cmp text_cmp a e.0.0) es ≡ list_any (eq_by_cmp text_cmp a)
     (archives_in es o m)
 any_archive a [] o m = refl
 any_archive a (e ∷ es) o m =
     let rest = any_archive a es o m in
-    elim (shows o m e) as (λ b. ((b && eq_by_cmp text_cmp a e.0.0)
-    || list_any (λ e. shows o m e && eq_by_cmp text_cmp a e.0.0) es) ≡ list_any (eq_by_cmp text_cmp a)
+    elim (row_shows o m e) as (λ b. ((b && eq_by_cmp text_cmp a e.0.0)
+    || list_any (λ e. row_shows o m e && eq_by_cmp text_cmp a e.0.0) es) ≡ list_any (eq_by_cmp text_cmp a)
     (archives_if b e es o m)) [
       | true ↦ ap (λ r. eq_by_cmp text_cmp a e.0.0 || r) rest
       | false ↦ rest
@@ -164,8 +158,8 @@ any_archive a (e ∷ es) o m =
 stands_there : (x : Entries) (o : List ℕ) (m : Memento) (archive : List ℕ) → IsShowing x o m archive → Contains (archives_in (fmap.entries x) o m) archive
 stands_there x o m archive w =
     let found : fmap.find key_cmp (archive, o) (fmap.entries x) ≡ Some w.kept = sym (fmap.get-entries x (archive, o)) ∙ w.stands in
-    let passes = and_from _ _ (and_from _ _ (text_itself o) (entry_shows x o m archive w)) (text_itself archive) in
-    let one = found_passes (λ e. shows o m e && eq_by_cmp text_cmp archive e.0.0) (archive, o) w.kept (fmap.entries x) found passes in
+    let passes = and_from _ _ (and_from _ _ (original_itself o) (entry_shows x o m archive w)) (original_itself archive) in
+    let one = found_passes (λ e. row_shows o m e && eq_by_cmp text_cmp archive e.0.0) (archive, o) w.kept (fmap.entries x) found passes in
     let any = Any-from_list_any (eq_by_cmp text_cmp archive) (archives_in (fmap.entries x) o m) (sym (any_archive archive (fmap.entries x) o m) ∙ one) in
     subst (Contains (archives_in (fmap.entries x) o m)) (sym (same_text archive any.1 any.4)) (any.0, any.2, any.3)
 
@@ -191,7 +185,7 @@ listed_where_shown x o m = (there, back)
   where
     there : set.contains (shown_of x o) m ≡ true → (archive : List ℕ) × IsShowing x o m archive
     there h =
-        let w = Any-from_list_any (shows o m) (fmap.entries x) (sym (contains-shown_of x o m) ∙ h) in
+        let w = Any-from_list_any (row_shows o m) (fmap.entries x) (sym (contains-shown_of x o m) ∙ h) in
         let p = and_parts (eq_by_cmp text_cmp o w.1.0.1) (set.contains (mementos_of w.1.1) m) w.4 in
         let at = value_at x w.0 w.1 (slice_get_read (fmap.entries x) (length (fmap.entries x)) w.0 w.1 refl w.2 (sym w.3)) in
         (w.1.0.0, one_shows x o m w.1 at p.0 p.1)
@@ -200,5 +194,5 @@ listed_where_shown x o m = (there, back)
     back s =
         let w = s.1 in
         contains-shown_of x o m
-        ∙ found_passes (shows o m) (s.0, o) w.kept (fmap.entries x) (sym (fmap.get-entries x (s.0, o)) ∙ w.stands)
-        (and_from _ _ (text_itself o) (entry_shows x o m s.0 w))
+        ∙ found_passes (row_shows o m) (s.0, o) w.kept (fmap.entries x) (sym (fmap.get-entries x (s.0, o)) ∙ w.stands)
+        (and_from _ _ (original_itself o) (entry_shows x o m s.0 w))

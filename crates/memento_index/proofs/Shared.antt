@@ -3,6 +3,7 @@ use Rattle.std.proofs.Common.{◌≡◌, ℕ, ◌+◌, ◌≤◌, ◌==◌, true
 use Rattle.std.specs.Arc.{arc_value}
 use Rattle.std.specs.List.{AllByRecursion, list_all}
 use Rattle.std.proofs.lemmas.Bool.Decides.{Decides-eqb}
+use Rattle.std.proofs.lemmas.Bool.{and_parts}
 use Rattle.std.specs.List.Sorted.{IsStrictlySortedBy}
 use Rattle.std.specs.declared.cmp.Ordering.TheVariants.{Less}
 use Rattle.memento_time.specs.Mementos.{memento_cmp}
@@ -10,7 +11,6 @@ use Rattle.memento_time.specs.declared.mementos.Memento.{Memento}
 use Rattle.memento_sets.specs.Sets as set
 use Rattle.memento_sets.specs.MementoSets.{Mementos}
 use Rattle.memento_sets.proofs.Ordered.{items_in_order}
-use Rattle.memento_sets.proofs.Same.{halves_true}
 use Rattle.memento_sets.proofs.Sets.{items_sorted}
 use Rattle.memento_index.specs.declared.counted.Counted.{Counted}
 use Rattle.memento_index.specs.declared.counted.Step.{Step}
@@ -77,8 +77,8 @@ pub beside_ones : (ms : List Memento) (ns : List ℕ) → length ms ≡ length n
 beside_ones [] ns same ones = refl
 beside_ones (m ∷ ms) [] same ones = absurd (omega (arith, same))
 beside_ones (m ∷ ms) (n ∷ ns) same ones =
-    let one : n ≡ 1 = (Decides-eqb n 1).0 (halves_true (n == 1) (list_all (λ n. n == 1) ns) ones).0 in
-    let rest = beside_ones ms ns (omega (arith, same)) (halves_true (n == 1) (list_all (λ n. n == 1) ns) ones).1 in
+    let one : n ≡ 1 = (Decides-eqb n 1).0 (and_parts (n == 1) (list_all (λ n. n == 1) ns) ones).0 in
+    let rest = beside_ones ms ns (omega (arith, same)) (and_parts (n == 1) (list_all (λ n. n == 1) ns) ones).1 in
     ap (λ k. record { memento = m; count = k } ∷ beside ms ns) one ∙ ap (λ es. record { memento = m; count = 1 } ∷ es) rest
 
 -- so the set of a tally's mementos lists them as they are

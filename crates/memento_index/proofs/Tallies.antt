@@ -22,6 +22,7 @@ use Rattle.std.proofs.lemmas.List.Sums.{sum_by-cons}
 use Rattle.std.specs.List.Sorted.{IsPermutation}
 use Rattle.memento_index.specs.declared.counted.Step.{Step}
 use Rattle.memento_index.specs.declared.counted.Counted.{Counted}
+use Rattle.memento_sets.proofs.Searched.{less}
 
 -- what comes off the one list goes onto the other
 pub moved : (list rest lifted : List Counted) (e : Counted) → list ≡ rest ++ e ∷ [] → whole rest (lifted ++ e ∷ []) ≡ whole list lifted
@@ -35,9 +36,6 @@ moved_back list lifted rest e is = sym (moved (list ++ e ∷ []) list rest e ref
 -- all but the last are below a memento that the last is below
 less_than : (a b c : Memento) → memento_cmp a b ≡ Less → memento_cmp b c ≡ Less → memento_cmp a c ≡ Less
 less_than a b c = memento_cmp_total.trans a b c
-
-turned : (a b : Memento) → memento_cmp a b ≡ Greater → memento_cmp b a ≡ Less
-turned a b h = memento_cmp_total.antisymm b a ∙ ap ordering_reverse h
 
 all_above : (m : Memento) (n : Memento) (es : List Counted) → memento_cmp m n ≡ Less → AreAbove n es → AreAbove m es
 all_above m n [] lt above = tt
@@ -149,7 +147,7 @@ above_top list lifted rest e is up =
 pub above_all : (m : Memento) (rest : List Counted) (e : Counted) → memento_cmp e.memento m ≡ Greater
     → AreAbove e.memento (reverse rest) → AreAbove m (reverse (rest ++ e ∷ []))
 above_all m rest e gt above =
-    subst (AreAbove m) (sym (reverse-append rest (e ∷ []))) (turned e.memento m gt, all_above m e.memento (reverse rest) (turned e.memento m gt) above)
+    subst (AreAbove m) (sym (reverse-append rest (e ∷ []))) (less e.memento m gt, all_above m e.memento (reverse rest) (less e.memento m gt) above)
 
 pub same_memento : (a b : Memento) → memento_cmp a b ≡ Equal → a ≡ b
 same_memento a b tie = memento_cmp_exact a b tie

@@ -5,7 +5,7 @@ use Rattle.std.specs.declared.cmp.Ordering.TheVariants.{Less}
 use Rattle.std.specs.List.{list_any, dedup, dedup_from, AllByRecursion}
 use Rattle.std.specs.List.Sorted.{IsStrictlySortedBy, IsPermutation}
 use Rattle.std.specs.Ordering.{eq_by_cmp, is_lt}
-use Rattle.std.specs.Cmp.{eq_by_cmp_equiv, Equal-is}
+use Rattle.std.specs.Cmp.{eq_by_cmp_equiv, Equal-is, both_ways}
 use Rattle.std.specs.FinMap.{is_sorted}
 use Rattle.std.specs.FinMap.Entries.{below_all}
 use Rattle.std.proofs.lemmas.List.Folds.{list_any-append}
@@ -72,11 +72,6 @@ set_of_members xs ys same = same_set memento_cmp_total memento_cmp_exact _ _ (λ
 
     has : (list : List Memento) (m : Memento) → Contains list m → list_any (eq_by_cmp memento_cmp m) list ≡ true
     has list m h = list_any-from_Contains (eq_by_cmp_equiv memento_cmp_total) m list h
-
-    both_ways : (a b : Bool) → (a ≡ true → b ≡ true) → (b ≡ true → a ≡ true) → a ≡ b
-    both_ways true b f g = sym (f refl)
-    both_ways false true f g = g refl
-    both_ways false false f g = refl
 
 pub set-append : (xs ys : List Memento) → set.from_list {R = memento_cmp} (xs ++ ys) ≡ set.union (set.from_list xs) (set.from_list ys)
 set-append xs ys = same_set memento_cmp_total memento_cmp_exact _ _ (λ m.

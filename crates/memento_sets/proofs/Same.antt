@@ -1,15 +1,12 @@
 -- When two mementos are the same.
-use Rattle.std.proofs.Common.{◌≡◌, ◌==◌, ◌&&◌, Bool, true, false, refl, sym, subst, true≢false}
+use Rattle.std.proofs.Common.{◌≡◌, ◌==◌, ◌&&◌, Bool, true, false, refl, sym, subst}
 use Rattle.std.specs.Bool.{Decides}
 use Rattle.std.specs.Cmp.Derive.{both_true}
 use Rattle.std.specs.Cmp.Lexicographic.{pointwise}
 use Rattle.std.proofs.lemmas.Bool.Decides.{Decides-eqb}
+use Rattle.std.proofs.lemmas.Bool.{and_parts}
 use Rattle.std.proofs.lemmas.Slice.Eq.{bytes_eq-Decides}
 use Rattle.memento_time.specs.declared.mementos.Memento.{Memento}
-
-pub halves_true : (a b : Bool) → (a && b) ≡ true → (a ≡ true) × (b ≡ true)
-halves_true true b is = (refl, is)
-halves_true false b is = absurd (true≢false (sym is))
 
 -- two mementos are the same where their moments and their texts are
 same_memento : Memento → Memento → Bool
@@ -24,7 +21,7 @@ same_memento-Decides a b = (told, λ is. subst (λ m. same_memento a m ≡ true)
 
     told : same_memento a b ≡ true → a ≡ b
     told is =
-        let halves = halves_true (a.at == b.at) (pointwise ◌==◌ a.uri b.uri) is in
+        let halves = and_parts (a.at == b.at) (pointwise ◌==◌ a.uri b.uri) is in
         let at : a.at ≡ b.at = (Decides-eqb a.at b.at).0 halves.0 in
         let uri : a.uri ≡ b.uri = (bytes_eq-Decides a.uri b.uri).0 halves.1 in
         λ i. record { at = at i; uri = uri i }

@@ -136,10 +136,10 @@ any_next p m now was rest is = ap (λ b. b || list_any p rest) is ∙ or_next (p
 
 pub any_none : (p : Memento → Bool) (b : Bool) (rest : List Memento) → rest ≡ [] → (b || list_any p rest) ≡ b
 any_none p b rest none = ap (λ (xs : List Memento). b || list_any p xs) none ∙ or_false b
-  where
-    or_false : (a : Bool) → (a || false) ≡ a
-    or_false true = refl
-    or_false false = refl
+
+pub or_false : (a : Bool) → (a || false) ≡ a
+or_false true = refl
+or_false false = refl
 
 -- lists with the members of two are the union of their sets
 pub united_is : (new old added : List Memento) → ((m : Memento)

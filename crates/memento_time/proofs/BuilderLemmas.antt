@@ -1,6 +1,6 @@
 -- One memento more in a builder, and the mementos that are built from it one by one.
 use Rattle.std.proofs.Common.{◌≡◌, ℕ, ◌+◌, ◌<◌, ◌≤◌, ◌^◌, List, [], ◌∷◌, ◌++◌, length, take, drop, All, refl, sym, ap, subst, ◌∙◌, arith, get_or, length-append, append_assoc}
-use Rattle.std.proofs.lemmas.List.{take-append-le, drop-append-le, length-drop, take_all, drop-drop, drop_more}
+use Rattle.std.proofs.lemmas.List.{take-append-le, drop-append-le, length-drop, take_all, drop-drop, drop_more, nil_from_length}
 use Rattle.std.proofs.lemmas.List.Elements.{All-append, All-cons, All-nil, All-head, All-tail}
 use Rattle.memento_time.specs.Builder.{listed, total, IsBuilder}
 use Rattle.memento_time.specs.Text.{IsClean}
@@ -10,14 +10,10 @@ use Rattle.memento_time.specs.declared.mementos.Memento.{Memento}
 abbrev HasAddress : Memento → Type 0
 HasAddress m = IsClean m.uri
 
-empty : (bytes : List ℕ) → length bytes ≡ 0 → bytes ≡ []
-empty [] e = refl
-empty (b ∷ bytes) e = absurd (omega arith)
-
 pub listed_push : (marks : List (ℕ × ℕ)) (bytes : List ℕ) (at : ℕ) (text : List ℕ) → total marks ≡ length bytes
     → listed (marks ++ (at, length text) ∷ []) (bytes ++ text) ≡ listed marks bytes ++ record { at = at; uri = text } ∷ []
 listed_push [] bytes at text whole =
-    let none = empty bytes (sym whole) in
+    let none = nil_from_length bytes (sym whole) in
     rw (none, take_all (length text) text (omega arith))
 listed_push (mark ∷ marks) bytes at text whole =
     let le : mark.1 ≤ length bytes = omega arith in

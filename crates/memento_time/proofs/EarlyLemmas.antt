@@ -1,9 +1,9 @@
 -- The texts that pass the test of dates before 1970 are the IMF-fixdates of those years.
 use Rattle.std.proofs.Common.{◌≡◌, ℕ, zero, suc, ◌+◌, ◌-◌, ◌*◌, ◌/◌, ◌%◌, ◌<◌, ◌≤◌, Bool, true, false, ◌&&◌, ◌==◌, nat_lt, List, [], ◌∷◌, ◌++◌, length, take, drop, get_or, refl, sym, ap, ◌∙◌, arith}
-use Rattle.std.proofs.lemmas.Bool.{and_parts, ltb-true}
+use Rattle.std.proofs.lemmas.Bool.{and_parts, ltb-true, and_from}
 use Rattle.std.proofs.lemmas.Bool.Decides.{Decides-eqb, nat_tests}
 use Rattle.std.proofs.lemmas.Slice.Eq.{bytes_eq-Decides}
-use Rattle.std.proofs.lemmas.List.{length-take, take-append-drop}
+use Rattle.std.proofs.lemmas.List.{length-take, take-append-drop, nil_from_length}
 use Rattle.std.specs.Char.{is_ascii_digit}
 use Rattle.std.specs.Int.{IsInRange}
 use Rattle.std.specs.List.{list_any, list_all, zip}
@@ -15,7 +15,7 @@ use Rattle.memento_time.specs.BeforeEpoch.{date_form, fits, is_name, is_year_bef
 use Rattle.memento_time.specs.Names.{day_names, month_names}
 use Rattle.memento_time.specs.Civil.{civil_time}
 use Rattle.memento_time.specs.Second.{Reads}
-use Rattle.memento_time.proofs.CivilLemmas.{civil_time-valid}
+use Rattle.memento_time.proofs.CivilLemmas.{civil_time-valid, days_at_most}
 use Rattle.memento_time.proofs.ReadLemmas.{tail_of, drop-imf, imf_fixdate-tail_of, length-day_name, length-month_name}
 
 -- ---- bytes
@@ -210,13 +210,9 @@ zone_fits text h =
     let g = same_fits 71 space.0 (77 ∷ 84 ∷ []) refl refl space.2 in
     let m = same_fits 77 g.0 (84 ∷ []) refl refl g.2 in
     let t = same_fits 84 m.0 [] refl refl m.2 in
-    space.1 ∙ ap (λ rest. 32 ∷ rest) (g.1 ∙ ap (λ rest. 71 ∷ rest) (m.1 ∙ ap (λ rest. 77 ∷ rest) (t.1 ∙ ap (λ rest. 84 ∷ rest) (no_more t.0 t.2.len))))
-  where
-    no_more : (xs : List ℕ) → length xs ≡ 0 → xs ≡ []
-    no_more [] e = refl
-    no_more (x ∷ xs) e = absurd (omega arith)
+    space.1 ∙ ap (λ rest. 32 ∷ rest) (g.1 ∙ ap (λ rest. 71 ∷ rest) (m.1 ∙ ap (λ rest. 77 ∷ rest) (t.1 ∙ ap (λ rest. 84 ∷ rest) (nil_from_length t.0 t.2.len))))
 
--- ---- both ways
+-- ---- and_from ways
 
 -- a text with this form, these names and an early year
 early_parts : (text : List ℕ) → Fits text date_form → is_name day_names (take 3 text) ≡ true → is_name month_names (take 3 (drop 8 text)) ≡ true
@@ -260,9 +256,6 @@ early-IsBeforeEpoch text e =
     let by_form = and_parts _ _ by_day.0 in
     early_parts text (record { len = (Decides-eqb (length text) 29).0 by_form.0; all = by_form.1 }) by_day.1 by_month.1 by_year.1
 
-both : (a b : Bool) → a ≡ true → b ≡ true → (a && b) ≡ true
-both a b h k = rw (h, k)
-
 -- the numbers that the text has at the digits' places
 digits_fit : (a b c e f g day year hour min sec : ℕ) → day < 100 → year < 10000 → hour < 100 → min < 100 → sec < 100
     → list_all fits (zip (a ∷ b ∷ c ∷ 44 ∷ 32 ∷ (two_digits day
@@ -291,7 +284,7 @@ bytes_early : (a b c e f g day year hour min sec : ℕ) → day < 100 → year <
     ++ 58 ∷ (two_digits min ++ 58 ∷ (two_digits sec ++ 32 ∷ 71 ∷ 77 ∷ 84 ∷ [])))))) ≡ true
 unfolding is_before_epoch
 bytes_early a b c e f g day year hour min sec hd hy hh hm hs name month early =
-    both _ _ (both _ _ (both _ _ (both _ _ refl (digits_fit a b c e f g day year hour min sec hd hy hh hm hs)) name) month) early
+    and_from _ _ (and_from _ _ (and_from _ _ (and_from _ _ refl (digits_fit a b c e f g day year hour min sec hd hy hh hm hs)) name) month) early
 
 pub IsBeforeEpoch-early : (text : List ℕ) → IsBeforeEpoch text → is_before_epoch text ≡ true
 IsBeforeEpoch-early text h =
@@ -314,9 +307,6 @@ IsBeforeEpoch-early text h =
 
 -- ---- texts that are read
 
-month_most : (y m : ℕ) → days_in_month y m ≤ 31
-month_most y m = grind (arith, nat_tests)
-
 -- a text that reads as a second has the form
 pub Reads_fits : (text : List ℕ) (s : ℕ) → Reads text s → list_all fits (zip text date_form) ≡ true
 Reads_fits text s h =
@@ -324,7 +314,7 @@ Reads_fits text s h =
     let valid = civil_time-valid s h.second in
     let d = three (take 3 text) (omega (arith, h.len, length-take 3 text)) in
     let m = three (month_name p.mon) (length-month_name p.mon valid.0.1) in
-    let day : p.day < 100 = omega (arith, valid.0.2.1, month_most p.year p.mon) in
+    let day : p.day < 100 = omega (arith, valid.0.2.1, days_at_most p.year p.mon) in
     let year : p.year < 10000 = omega (arith, valid.0.0.1) in
     let whole : text ≡ d.0 ∷ d.1 ∷ d.2 ∷ 44 ∷ 32 ∷ (two_digits p.day
     ++ 32 ∷ m.0 ∷ m.1 ∷ m.2 ∷ 32 ∷ (four_digits p.year ++ 32 ∷

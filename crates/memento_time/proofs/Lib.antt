@@ -12,3 +12,4 @@ pub mod SetLemmas
 pub mod BuilderLemmas
 pub mod DayLemmas
 pub mod BlockLemmas
+pub mod ListFacts

@@ -82,7 +82,7 @@ from_year p = 32 ∷ (four_digits p.year
 abbrev pub from_month : Parts → List ℕ
 from_month p = month_name p.mon ++ from_year p
 
-from_two : (a b : ℕ) → 48 + a / 10 ≡ 48 + b / 10 → 48 + a % 10 ≡ 48 + b % 10 → a ≡ b
+pub from_two : (a b : ℕ) → 48 + a / 10 ≡ 48 + b / 10 → 48 + a % 10 ≡ 48 + b % 10 → a ≡ b
 from_two a b h k = omega arith
 
 from_four : (a b : ℕ) → a / 100 ≡ b / 100 → a % 100 ≡ b % 100 → a ≡ b

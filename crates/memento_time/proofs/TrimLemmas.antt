@@ -28,7 +28,7 @@ start_cut test (x ∷ xs) =
       | false ↦ λ e. rw e (record { before = []; parts = refl; blank = refl; first = λ b bs same. ap test (sym (same_head x b xs bs same)) ∙ e })
     ] refl
 
-all_append : (test : ℕ → Bool) (xs ys : List ℕ) → list_all test xs ≡ true → list_all test ys ≡ true → list_all test (xs ++ ys) ≡ true
+pub all_append : (test : ℕ → Bool) (xs ys : List ℕ) → list_all test xs ≡ true → list_all test ys ≡ true → list_all test (xs ++ ys) ≡ true
 all_append test xs ys h k = rw (list_all-append test xs ys, h, k)
 
 all_reverse : (test : ℕ → Bool) (xs : List ℕ) → list_all test xs ≡ true → list_all test (reverse xs) ≡ true

@@ -2,7 +2,7 @@
 use Rattle.std.proofs.Common.{◌≡◌, ◌⊎◌, ◌≤◌, ℕ, Bool, true, false, not, ◌&&◌, ◌||◌, List, [], ◌∷◌, ◌++◌, length, drop, refl, sym, ap, subst, ◌∙◌, inl, inr, arith}
 use Rattle.std.specs.Prelude.{bytes_eq, codes, nat_eq, ◌==◌, if◌then◌else◌}
 use Rattle.std.specs.List.{starts_with}
-use Rattle.std.proofs.lemmas.Bool.{and_parts, cases_Bool, true≢false}
+use Rattle.std.proofs.lemmas.Bool.{and_parts, cases_Bool, true≢false, not-true}
 use Rattle.std.proofs.lemmas.Slice.Eq.{bytes_eq-Decides}
 use Rattle.timegate.proofs.Promises.{front_is}
 use Rattle.original_sets.specs.Sets.{stands}
@@ -133,12 +133,8 @@ not_not : (b : Bool) → b ≡ not (not b)
 not_not true = refl
 not_not false = refl
 
-not_true : (b : Bool) → not b ≡ true → b ≡ false
-not_true true h = sym h
-not_true false h = refl
-
 swapped_bare : (rest : List ℕ) → may_swap rest ≡ true → Www rest ≡ false
-swapped_bare rest h = not_true (Www rest) (and_parts (not (length (authority rest) == 0)) (not (Www rest)) h).1
+swapped_bare rest h = not-true (Www rest) (and_parts (not (length (authority rest) == 0)) (not (Www rest)) h).1
 
 -- the spellings of what is spelled so
 back : (is_secure has_www : Bool) (rest : List ℕ) → (has_www ≡ false → Www rest ≡ false) → other_spellings (text_of is_secure has_www rest) ≡ others is_secure has_www rest

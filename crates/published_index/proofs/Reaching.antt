@@ -24,6 +24,7 @@ use Rattle.published_index.specs.Batches.{merges_of}
 use Rattle.published_index.specs.Cursors.{Histories, IsDeltaOf, HasReached, state_of, with_merge, with_delta, with_publish}
 use Rattle.published_index.specs.Views.{MergerView}
 use Rattle.published_index.proofs.Folding.{merges-append}
+use Rattle.replica_events.proofs.Sound.{start_within}
 
 -- ---- more merges
 
@@ -60,14 +61,6 @@ reached_with_publish histories m reached peer =
     subst (λ (l : List Merge). IfSome (map.get m.cursors peer) (Reaches histories peer (state_after l))) (published m) (reached peer)
 
 -- ---- a delta more
-
-starts_within : (s : StampedState) (cursor : Option Cursor) → start_from s cursor ≤ s.number
-starts_within s None = omega arith
-starts_within s (Some c) = within ((c.incarnation == s.incarnation) && nat_le c.number s.number) refl
-  where
-    within : (b : Bool) → ((c.incarnation == s.incarnation) && nat_le c.number s.number) ≡ b → cond b c.number 0 ≤ s.number
-    within true is = grind (arith, nat_tests)
-    within false is = omega arith
 
 -- the first merges of a list are the first so many of it
 take_counted : (ms : List Merge) (count : ℕ) → take (length (take count ms)) ms ≡ take count ms
@@ -128,7 +121,7 @@ module _ (histories : Histories) (m : MergerView) (peer : ℕ) (d : Delta) where
         let s = of.stamped in
         let from : ℕ = start_from s of.cursor in
         let before : AtMost (state_after (take from ms)) (state_of m) = subst (λ (n : ℕ). AtMost (state_after (take n ms)) (state_of m)) (ap (λ (e : Delta). e.start) of.is) start in
-        let reaches = delta_reaches ms of.count s of.merges from (state_of m) (starts_within s of.cursor) before in
+        let reaches = delta_reaches ms of.count s of.merges from (state_of m) (start_within s of.cursor) before in
         subst (λ (n : ℕ). AtMost (state_after (take n ms)) grown) (sym (ap (λ (e : Delta). e.end) of.is))
         (subst (λ (x : Entries). AtMost (state_after (take s.number ms)) x) (sym (joined ∙ ap (λ (e : Delta). join (state_of m) e.state) of.is)) reaches)
 

@@ -5,7 +5,7 @@ use Rattle.std.specs.Coded.{coded_option}
 use Rattle.std.specs.List.{list_any}
 use Rattle.std.specs.Ordering.{eq_by_cmp}
 use Rattle.std.specs.FinMap as map
-use Rattle.std.proofs.lemmas.Bool.{true≢false}
+use Rattle.std.proofs.lemmas.Bool.{true≢false, and_parts}
 use Rattle.std.proofs.lemmas.Bool.Decides.{Decides-eqb}
 use Rattle.std.proofs.lemmas.List.Folds.{list_any-append}
 use base.Stored.{Gv, gnil, gnum, gcons}
@@ -15,16 +15,12 @@ use Rattle.memento_sets.specs.Maps.{join_values}
 use Rattle.memento_sets.proofs.Maps.{get-tabulate}
 use Rattle.harvest_lattice.specs.Lattice.{Key, key_cmp, Kept, Entries, coded_kept, join, join_kept}
 use Rattle.harvest_lattice.specs.Knowledge.{lat}
-use Rattle.harvest_lattice.proofs.Entries.{key_cmp_total, key_cmp_exact, get-join}
+use Rattle.harvest_lattice.proofs.Entries.{key_cmp_total, key_cmp_exact, get-join, none_joined}
 use Rattle.replica_exchange.specs.Stamps.{StampedState, IsStamped, IsRestamped, IsAbsorbed}
 use Rattle.replica_exchange.proofs.StampLemmas.{absorbed_is_stamped}
 use Rattle.published_index.specs.Stamping.{same_code, is_same_entry, stamp_with, stamps_with, stamped_with}
 
 -- ---- whether two entries are the same
-
-both_true : (a b : Bool) → (a && b) ≡ true → (a ≡ true) × (b ≡ true)
-both_true true b is = (refl, is)
-both_true false b is = absurd (true≢false (sym is))
 
 same_code-itself : (a : Gv) → same_code a a ≡ true
 same_code-itself gnil = refl
@@ -41,7 +37,7 @@ same_code-is (gnum m) (gcons a b) is = absurd (true≢false (sym is))
 same_code-is (gcons x y) gnil is = absurd (true≢false (sym is))
 same_code-is (gcons x y) (gnum n) is = absurd (true≢false (sym is))
 same_code-is (gcons x y) (gcons a b) is =
-    let each = both_true (same_code x a) (same_code y b) is in
+    let each = and_parts (same_code x a) (same_code y b) is in
     let head = same_code-is x a each.0 in
     let tail = same_code-is y b each.1 in
     λ i. gcons (head i) (tail i)
@@ -57,11 +53,6 @@ same_entry a b same =
 
 -- ---- the stamps after a merge
 
-nothing_before : (was more : Option Kept) → join_values join_kept was more ≡ None → was ≡ None
-nothing_before None more none = refl
-nothing_before (Some v) None none = none
-nothing_before (Some v) (Some w) none = cc none
-
 -- at a key that has neither an entry nor a stamp there is none
 where_any : (now was : Option Kept) (stamp : Option ℕ) (next : ℕ) → (now ≡ None → was ≡ None)
     → cond (is_some now || is_some stamp) (cond (is_same_entry now was) stamp (Some next)) None ≡ cond (is_same_entry now was) stamp (Some next)
@@ -76,7 +67,7 @@ get-stamps_with s y k =
     list_any-append (eq_by_cmp key_cmp k) (map.keys now) (map.keys s.stamps) ∙ (λ i. sym (map.contains_key-keys now k) i || sym (map.contains_key-keys s.stamps k) i) in
     get-tabulate key_cmp_total key_cmp_exact (map.keys now ++ map.keys s.stamps) (stamp_with s now) k
     ∙ (ap (λ (b : Bool). cond b (stamp_with s now k) None) any
-    ∙ where_any (map.get now k) (map.get s.entries k) (map.get s.stamps k) (s.number + 1) (λ none. nothing_before (map.get s.entries k) (map.get y k) (sym (get-join s.entries y k) ∙ none)))
+    ∙ where_any (map.get now k) (map.get s.entries k) (map.get s.stamps k) (s.number + 1) (λ none. none_joined join_kept (map.get s.entries k) (map.get y k) (sym (get-join s.entries y k) ∙ none)))
 
 restamped : (now was : Option Kept) (stamp stamped : Option ℕ) (next : ℕ) (b : Bool) → is_same_entry now was ≡ b → stamped ≡ cond b stamp (Some next)
     → ((now ≡ was) × (stamped ≡ stamp)) ⊎ ((¬ (now ≡ was)) × (stamped ≡ Some next))

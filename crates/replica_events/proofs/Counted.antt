@@ -25,6 +25,7 @@ use Rattle.replica_events.proofs.Moments.{at_first, no_message_at_first, course_
 use Rattle.replica_events.proofs.Histories.{IsRestart, Stood, stood, grows, not_empty, no_restart_yet, no_restart_push}
 use Rattle.replica_events.proofs.Changes as change
 use Rattle.replica_events.proofs.Changes.{IsIdle, idle_not_restarted, Change, happened_as, IsKept, run_keeps, course_keeps}
+use Rattle.replica_events.proofs.SentFirst.{idle_sends_nothing}
 
 -- ---- one event more
 
@@ -77,10 +78,6 @@ refused_counts false = refl
 idle_restarts : (event : Event) (answer : EventAnswer) → IsIdle event answer → restart_of event answer ≡ 0
 idle_restarts event answer (inl (why, answer_is)) = ap (restart_of event) answer_is ∙ refused_counts (is_restart event)
 idle_restarts event answer (inr (i, q, reply, event_is, answer_is)) = ap (λ (e : Event). restart_of e answer) event_is
-
-idle_unsent : (event : Event) (answer : EventAnswer) → IsIdle event answer → (k : ℕ) → ¬ (answer ≡ Ok (Sent k))
-idle_unsent event answer (inl (why, answer_is)) k other = cc
-idle_unsent event answer (inr (i, q, reply, event_is, answer_is)) k other = cc
 
 idle_merges : (event : Event) (answer : EventAnswer) → IsIdle event answer → (i : ℕ) → merge_of i event answer ≡ 0
 idle_merges event answer (inl (why, answer_is)) i = ap (merge_of i event) answer_is ∙ refused_counts (is_merge_of i event)
@@ -298,7 +295,7 @@ module _ (count : ℕ) (history : History) (w : World) (counts : Counts count hi
   change_counts : (event : Event) (answer : EventAnswer) (new : World) → Change w event answer new → Counts count (history ++ (event, answer) ∷ []) new
   change_counts event answer new (change.idle idle is) =
       no_merge event answer new (ap (λ (w : World). w.last) is) (ap (λ (w : World). w.replicas) is) (idle_restarts event answer idle) (idle_not_restarted event answer idle)
-      (idle_merges event answer idle) (unsent event answer new (ap (λ (w : World). w.messages) is) (idle_unsent event answer idle))
+      (idle_merges event answer idle) (unsent event answer new (ap (λ (w : World). w.messages) is) (idle_sends_nothing event answer idle))
   change_counts event answer new (change.took i h r there event_is answer_is is) =
       happened_as (Counts count) history event (Take i h) answer (Ok Taken) new _ event_is answer_is is
       (merges_once (Take i h) (Ok Taken) i r (after_merge r (h ∷ []) (merge.Harvest h)) there refl (length_push r.merges (merge.Harvest h)) refl (λ j restarts. let other = restarts.1 in cc)

@@ -6,7 +6,6 @@ use Rattle.std.proofs.lemmas.List.Elements.{Contains-append_left, Contains-appen
 use Rattle.harvest_lattice.specs.Lattice.{Entries}
 use Rattle.harvest_lattice.specs.Knowledge.{Harvested, adds}
 use Rattle.replica_exchange.specs.StateText.{IsTextOf}
-use Rattle.replica_exchange.proofs.OneReading.{one_state_of_a_text}
 use Rattle.timegate.specs.declared.reply.Reply.{Reply}
 use Rattle.timegate.specs.declared.request.Request.{Request}
 use Rattle.replica_events.specs.declared.event.Event.{Event}
@@ -17,6 +16,7 @@ use Rattle.memento_index.specs.declared.merge.Merge.TheVariants as merge
 use Rattle.replica_exchange.specs.declared.delta.Delta.{Delta}
 use Rattle.replica_exchange.specs.DeltaText.{delta_text}
 use Rattle.replica_exchange.specs.CursorRule.{delta_from}
+use Rattle.replica_exchange.proofs.StateLemmas.{one_state}
 use Rattle.replica_events.specs.World.{Knowledge, World, Replica, Message, EventAnswer, Course, IsText, at_number, replica, message, with_replica}
 use Rattle.replica_events.specs.World.{with_message, after_merge, after_join, sent_by, new_replica, start, after_restart}
 use Rattle.replica_events.specs.Agreement.{HasTaken, SameHarvests}
@@ -174,7 +174,7 @@ received history w i bytes s r explains there text =
     from h (inl (event_is, answer_is)) = cc
     from h (inr (inl (others, state, event_is, answer_is, also, at))) =
         let bytes_is : bytes ≡ others = cc in
-        let same : state ≡ s = one_state_of_a_text bytes state s (subst (λ (b : List ℕ). IsTextOf b state) (sym bytes_is) also.text) text.text in
+        let same : state ≡ s = one_state bytes state s (subst (λ (b : List ℕ). IsTextOf b state) (sym bytes_is) also.text) text.text in
         subst (λ (s : Entries). Contains (adds s) h) same at
     from h (inr (inr (message, event_is, answer_is, c))) = cc
 

@@ -6,8 +6,8 @@ use Rattle.harvest_lattice.specs.Lattice.{Entries}
 use Rattle.replica_exchange.specs.declared.cursor.Cursor.{Cursor}
 use Rattle.replica_exchange.specs.Stamps.{StampedState}
 use Rattle.replica_exchange.specs.CursorRule.{fits}
-use Rattle.replica_exchange.proofs.OneReading.{one_state_of_a_text}
 use Rattle.replica_exchange.proofs.StampLemmas.{one_stamped}
+use Rattle.replica_exchange.proofs.StateLemmas.{one_state}
 use Rattle.replica_events.specs.declared.event.Event.{Event}
 use Rattle.replica_events.specs.declared.event.Event.TheVariants.{Take, Send, SendFrom, Deliver, Receive, Restart, Ask}
 use Rattle.replica_events.specs.declared.event.Said.{Said}
@@ -46,7 +46,7 @@ named_once x w a n b m p q = (p.0 ∙ sym q.0, p.1 ∙ sym q.1)
 text_once : (bytes : List ℕ) (F : Entries → EventAnswer → World → Type 0) (G : EventAnswer → World → Type 0) → ((s : Entries) → Once (F s)) → Once G
     → Once (IfText bytes F G)
 text_once bytes F G f g a n b m (inl (s, p, x)) (inl (t, q, y)) =
-    let same : s ≡ t = one_state_of_a_text bytes s t p.text q.text in
+    let same : s ≡ t = one_state bytes s t p.text q.text in
     f t a n b m (subst (λ (s : Entries). F s a n) same x) y
 text_once bytes F G f g a n b m (inl (s, p, x)) (inr (none, y)) = absurd (none s p)
 text_once bytes F G f g a n b m (inr (none, x)) (inl (t, q, y)) = absurd (none t q)

@@ -72,7 +72,7 @@ idle_joins_nothing : (event : Event) (answer : EventAnswer) → IsIdle event ans
 idle_joins_nothing event answer (inl (why, is)) said = cc
 idle_joins_nothing event answer (inr (i, q, reply, _, is)) said = cc
 
-idle_sends_nothing : (event : Event) (answer : EventAnswer) → IsIdle event answer → (k : ℕ) → ¬ (answer ≡ Ok (Sent k))
+pub idle_sends_nothing : (event : Event) (answer : EventAnswer) → IsIdle event answer → (k : ℕ) → ¬ (answer ≡ Ok (Sent k))
 idle_sends_nothing event answer (inl (why, is)) k said = cc
 idle_sends_nothing event answer (inr (i, q, reply, _, is)) k said = cc
 

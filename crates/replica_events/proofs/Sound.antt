@@ -277,7 +277,7 @@ sound_joined logs w i k r m sound there found fit =
         at false elsewhere = still_reached logs w sound i r there (merge.State m.delta.state) m.taken (taken_from r.cursors m.sender m.delta) same peer c elsewhere
 
 -- a message tells what its sender has taken
-start_within : (s : StampedState) (c : Option Cursor) → start_from s c ≤ s.number
+pub start_within : (s : StampedState) (c : Option Cursor) → start_from s c ≤ s.number
 start_within s None = omega arith
 start_within s (Some c) =
     elim ((c.incarnation == s.incarnation) && nat_le c.number s.number) as (λ b. ((c.incarnation == s.incarnation) && nat_le c.number s.number) ≡ b → cond b c.number 0 ≤ s.number) [

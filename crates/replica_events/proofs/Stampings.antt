@@ -13,7 +13,8 @@ use Rattle.memento_index.specs.Merges.{adds_of}
 use Rattle.memento_sets.specs.Maps.{join_values}
 use Rattle.harvest_lattice.specs.Lattice.{Key, key_cmp, Kept, join, join_kept, coded_kept}
 use Rattle.harvest_lattice.specs.Knowledge.{lat}
-use Rattle.harvest_lattice.proofs.Entries.{key_cmp_total, key_cmp_exact, get-join}
+use Rattle.harvest_lattice.proofs.Entries.{key_cmp_total, key_cmp_exact, get-join, none_joined}
+use Rattle.harvest_lattice.proofs.Knowledge.{same_key}
 use Rattle.replica_exchange.specs.Stamps.{Stamps, StampedState, IsStamped, IsRestamped, IsAbsorbed}
 use Rattle.replica_exchange.proofs.StampLemmas.{absorbed_is_stamped, stamped_at_first}
 
@@ -54,9 +55,6 @@ coded c x y = by_code (trees (c.code x) (c.code y))
 -- the key is one of these
 abbrev is_in : List Key → Key → Bool
 is_in keys k = list_any (eq_by_cmp key_cmp k) keys
-
-same_key : (k other : Key) → eq_by_cmp key_cmp k other ≡ true → k ≡ other
-same_key k other is = key_cmp_exact k other ((Equal-is (key_cmp k other)).0 is)
 
 module _ (s : StampedState) (m : Merge) where
   -- once the merge is absorbed, with these stamps
@@ -120,18 +118,12 @@ module _ (s : StampedState) (m : Merge) where
       at stamps right (inl stays) = (stamps, left keys stamps key right stays)
       at stamps right (inr changes) = (map.insert stamps key (s.number + 1), changed keys stamps key right changes)
 
-  -- where neither had an entry, neither has the join
-  nothing : (a b : Option Kept) → join_values join_kept a b ≡ None → a ≡ None
-  nothing None b is = refl
-  nothing (Some a) None is = is
-  nothing (Some a) (Some b) is = cc
-
   no_entry : (k : Key) → is_some (map.get (join s.entries (lat (adds_of m))) k) ≡ false → Leaves k
   no_entry k is = none_here (map.get (join s.entries (lat (adds_of m))) k) refl is
     where
       none_here : (o : Option Kept) → map.get (join s.entries (lat (adds_of m))) k ≡ o → is_some o ≡ false → Leaves k
       none_here None same is =
-          same ∙ sym (nothing (map.get s.entries k) (map.get (lat (adds_of m)) k) (sym (get-join s.entries (lat (adds_of m)) k) ∙ same))
+          same ∙ sym (none_joined join_kept (map.get s.entries k) (map.get (lat (adds_of m)) k) (sym (get-join s.entries (lat (adds_of m)) k) ∙ same))
       none_here (Some e) same is = absurd (true≢false is)
 
   absorbs : (t : StampedState) × IsAbsorbed s m t

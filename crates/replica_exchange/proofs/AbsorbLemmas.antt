@@ -13,8 +13,7 @@ use Rattle.harvest_lattice.specs.Lattice.{Key, key_cmp, Kept, Entries, KeptAtMos
 use Rattle.harvest_lattice.specs.Knowledge.{lat}
 use Rattle.harvest_lattice.specs.News.{IsNews}
 use Rattle.harvest_lattice.specs.Rows.{row_key, row_entry}
-use Rattle.harvest_lattice.proofs.Entries.{entry_semilattice, at_most_from_join, get-join}
-use Rattle.harvest_lattice.proofs.RowLemmas.{joined_with_none}
+use Rattle.harvest_lattice.proofs.Entries.{entry_semilattice, at_most_from_join, get-join, joined_with_none}
 use Rattle.memento_index.specs.declared.merge.Merge.{Merge}
 use Rattle.memento_index.specs.Merges.{adds_of}
 use Rattle.replica_exchange.specs.Stamps.{Stamps, StampedState, IsRestamped, IsAbsorbed}
@@ -61,7 +60,7 @@ module _ (x y news : Entries) (is : IsNews x y news) where
 
   -- and where there is none it stays
   unchanged : (k : Key) → fmap.get news k ≡ None → fmap.get (join x y) k ≡ fmap.get x k
-  unchanged k none = joined k None none ∙ joined_with_none (fmap.get x k)
+  unchanged k none = joined k None none ∙ joined_with_none join_kept (fmap.get x k)
 
 -- a key is among those of rows where a row has it
 among_rows : (rows : List Row) (k : Key) → is_among (map row_key rows) k ≡ is_some (fmap.find key_cmp k (map row_entry rows))

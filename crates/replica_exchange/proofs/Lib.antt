@@ -6,7 +6,6 @@ pub mod StateLemmas
 pub mod WritingLemmas
 pub mod StampLemmas
 pub mod DeltaLemmas
-pub mod OneReading
 pub mod CursorLemmas
 pub mod ShelfLemmas
 pub mod AbsorbLemmas

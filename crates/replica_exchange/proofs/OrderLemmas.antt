@@ -28,6 +28,7 @@ use Rattle.harvest_lattice.specs.Rows.{row_entry, keys_rise, map_with}
 use Rattle.harvest_lattice.proofs.Entries.{key_cmp_total, key_cmp_exact}
 use Rattle.harvest_lattice.proofs.Knowledge.{same_key}
 use Rattle.memento_time.specs.Mementos.{text_cmp}
+use Rattle.memento_time.proofs.ListFacts.{no_element, first_element, later_element, first_or_later}
 use Rattle.replica_exchange.specs.declared.order.OrderRow.{OrderRow}
 use Rattle.replica_exchange.specs.declared.stamps.ChangedKey.{ChangedKey}
 use Rattle.replica_exchange.specs.Stamps.{StampedState, is_above, entries_above}
@@ -40,34 +41,14 @@ use Rattle.replica_exchange.proofs.StampLemmas.{get-entries_above}
 
 -- ---- what a list contains
 
-nowhere : {X : Type 0} (x : X) → Contains [] x → ⊥
-nowhere x c = let none : c.0 < 0 = c.1 in omega (arith, none)
-
-here : {X : Type 0} (x : X) (xs : List X) → Contains (x ∷ xs) x
-here x xs = Contains-append_left (x ∷ []) xs x (Contains-push [] x)
-
-there : {X : Type 0} (y : X) (xs : List X) (x : X) → Contains xs x → Contains (y ∷ xs) x
-there y xs x c = Contains-append_right (y ∷ []) xs x c
-
-first_or_rest : {X : Type 0} (y : X) (xs : List X) (x : X) → Contains (y ∷ xs) x → (y ≡ x) ⊎ Contains xs x
-first_or_rest {X} y xs x c = split (Contains-append_cases (y ∷ []) xs x c)
-  where
-    one : Contains [] x ⊎ (y ≡ x) → y ≡ x
-    one (inl none) = absurd (nowhere x none)
-    one (inr same) = same
-
-    split : Contains (y ∷ []) x ⊎ Contains xs x → (y ≡ x) ⊎ Contains xs x
-    split (inl first) = inl (one (Contains-push_cases [] y x first))
-    split (inr rest) = inr rest
-
 flat_step : {X Y : Type 0} (f : X → List Y) (z : X) (zs : List X) (x : X) (y : Y) → Contains (f x) y → (Contains zs x → Contains (flat_map f zs) y) → (z ≡ x) ⊎ Contains zs x
     → Contains (flat_map f (z ∷ zs)) y
 flat_step {X} f z zs x y in_it rest (inl same) = Contains-append_left (f z) (flat_map f zs) y (subst (λ (q : X). Contains (f q) y) (sym same) in_it)
 flat_step f z zs x y in_it rest (inr c) = Contains-append_right (f z) (flat_map f zs) y (rest c)
 
 flat_contains : {X Y : Type 0} (f : X → List Y) (xs : List X) (x : X) (y : Y) → Contains (f x) y → Contains xs x → Contains (flat_map f xs) y
-flat_contains f [] x y in_it c = absurd (nowhere x c)
-flat_contains f (z ∷ zs) x y in_it c = flat_step f z zs x y in_it (flat_contains f zs x y in_it) (first_or_rest z zs x c)
+flat_contains f [] x y in_it c = absurd (no_element x c)
+flat_contains f (z ∷ zs) x y in_it c = flat_step f z zs x y in_it (flat_contains f zs x y in_it) (first_or_later z zs x c)
 
 flat_all : {X Y : Type 0} (P : X → Type 0) (Q : Y → Type 0) (f : X → List Y) → ((x : X) → P x → All Q (f x)) → (xs : List X) → All P xs → All Q (flat_map f xs)
 flat_all P Q f each [] all = All-nil Q
@@ -84,8 +65,8 @@ among_given [] number k h = absurd (true≢false (sym h))
 among_given (key ∷ keys) number k h =
     let rest = among_given keys number k in
     elim (eq_by_cmp key_cmp k (key_of key)) as (λ b. eq_by_cmp key_cmp k (key_of key) ≡ b → (b || is_among (map key_of keys) k) ≡ true → Contains (map (given_at number) (key ∷ keys)) (number, k)) [
-      | true ↦ λ t _. subst (λ (q : Key). Contains (map (given_at number) (key ∷ keys)) (number, q)) (sym (same_key k (key_of key) t)) (here (given_at number key) (map (given_at number) keys))
-      | false ↦ λ _ other. there (given_at number key) (map (given_at number) keys) (number, k) (rest other)
+      | true ↦ λ t _. subst (λ (q : Key). Contains (map (given_at number) (key ∷ keys)) (number, q)) (sym (same_key k (key_of key) t)) (first_element (given_at number key) (map (given_at number) keys))
+      | false ↦ λ _ other. later_element (given_at number key) (map (given_at number) keys) (number, k) (rest other)
     ] refl h
 
 rises_more : (keys : List ChangedKey) (number : ℕ) (rows : List (ℕ × Key)) → IsNonDecreasingBy stamp_of rows → All (λ (row : ℕ × Key). row.0 ≤ number) rows
@@ -174,7 +155,7 @@ module _ (shelves : Shelves) (ordered : IsOrdered text_cmp shelves) where
   on_shelf archive original slots stamp (Some v) there has =
       let found : lookup (is_at (text_cmp original)) (fmap.entries slots) ≡ Some (Some stamp) = lookup-find text_cmp original (fmap.entries slots)
       ∙ (sym (fmap.get-entries slots original) ∙ (there ∙ ap (λ (v : Option ℕ). Some v) has)) in
-      flat_contains (λ (e : List ℕ × Option ℕ). row_with (archive, e.0) e.1) (fmap.entries slots) (original, Some stamp) (stamp, (archive, original)) (here (stamp, (archive, original)) [])
+      flat_contains (λ (e : List ℕ × Option ℕ). row_with (archive, e.0) e.1) (fmap.entries slots) (original, Some stamp) (stamp, (archive, original)) (first_element (stamp, (archive, original)) [])
       (Contains-from_lookup same_text original (Some stamp) (fmap.entries slots) found)
 
   in_order : (archive original : List ℕ) (stamp : ℕ) (o : Option Slots) → tree.get text_cmp shelves archive ≡ o → filled (slot_of o original) ≡ Some stamp
@@ -321,7 +302,7 @@ module _ (s : StampedState) (start : ℕ) where
   its_entry : (k : Key) (stamp : ℕ) (e : Kept) → fmap.get s.stamps k ≡ Some stamp → fmap.get s.entries k ≡ Some e → Contains (standing_entry s (stamp, k)) (k, e)
   its_entry k stamp e has there =
       subst (λ (b : Bool). Contains (cond b (entry_with k (fmap.get s.entries k)) []) (k, e)) (sym (ap (is_stamp stamp) has ∙ eq-eqb stamp stamp refl))
-      (subst (λ (o : Option Kept). Contains (entry_with k o) (k, e)) (sym there) (here (k, e) []))
+      (subst (λ (o : Option Kept). Contains (entry_with k o) (k, e)) (sym there) (first_element (k, e) []))
 
   -- the entries of the rows behind a start are those above it
   pub above_behind : (shelves : Shelves) (rows behind : List (ℕ × Key)) (number : ℕ) (es : List (Key × Kept)) → ((k : Key) → fmap.get s.stamps k ≡ filled (slot shelves k))
@@ -362,12 +343,12 @@ module _ (s : StampedState) (start : ℕ) where
       ] refl found
 
   find_some : (es : List (Key × Kept)) (k : Key) (e : Kept) → Contains es (k, e) → fmap.find key_cmp k es ≡ None → ⊥
-  find_some [] k e c none = nowhere (k, e) c
+  find_some [] k e c none = no_element (k, e) c
   find_some (x ∷ es) k e c none =
       let rest = find_some es k e in
       elim (eq_by_cmp key_cmp k x.0) as (λ b. eq_by_cmp key_cmp k x.0 ≡ b → cond b (Some x.1) (fmap.find key_cmp k es) ≡ None → ⊥) [
         | true ↦ λ t h. none-some x.1 (sym h)
-        | false ↦ λ t h. split t h rest (first_or_rest x es (k, e) c)
+        | false ↦ λ t h. split t h rest (first_or_later x es (k, e) c)
       ] refl none
     where
       split : eq_by_cmp key_cmp k x.0 ≡ false → fmap.find key_cmp k es ≡ None → (Contains es (k, e) → fmap.find key_cmp k es ≡ None → ⊥) → (x ≡ (k, e)) ⊎ Contains es (k, e) → ⊥

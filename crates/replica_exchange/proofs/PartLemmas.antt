@@ -21,6 +21,7 @@ use Rattle.harvest_lattice.specs.Lattice.{Key, Kept, least, first_of, whole}
 use Rattle.harvest_lattice.specs.Parts.{kept_in, kept_with}
 use Rattle.harvest_lattice.proofs.Parts.{entries_in, whole_in}
 use Rattle.harvest_lattice.proofs.Made.{kept_of_its_own}
+use Rattle.harvest_lattice.proofs.Entries.{same_items}
 use Rattle.replica_exchange.specs.declared.format.Format.{Format}
 use Rattle.replica_exchange.specs.declared.format.Format.TheVariants.{One, Two}
 use Rattle.replica_exchange.specs.StateText.{memento_lines, line_of_entry, whole_field, entry_line, part_line, part_text, old_entry_line, old_part_text}
@@ -94,11 +95,6 @@ items_of_made false mementos s rises is = absurd cc
 unmade : (rises : Bool) (mementos : List Memento) → rises ≡ true → ¬ (cond {A = Option Mementos} rises (Some (set.from_list mementos)) None ≡ None)
 unmade true mementos is none = absurd cc
 unmade false mementos is none = absurd cc
-
--- sets with the same items are one
-same_items : (x y : Mementos) → set.items x ≡ set.items y → x ≡ y
-same_items x y same =
-    sym (from_list-items memento_cmp_total memento_cmp_exact x) ∙ (ap (λ (ms : List Memento). set.from_list ms) same ∙ from_list-items memento_cmp_total memento_cmp_exact y)
 
 module _ (count : ℕ) (text rest : List ℕ) (mementos : List Memento) (listed : Begins (many count memento) text mementos rest) where
   pub set_found : (s : Mementos) → mementos_with mementos ≡ Some s → Begins (set_of count) text s rest

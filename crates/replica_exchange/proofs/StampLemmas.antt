@@ -9,14 +9,14 @@ use Rattle.std.specs.declared.cmp.Ordering.TheVariants.{Equal}
 use Rattle.std.proofs.lemmas.Grind.{flat_map-append}
 use Rattle.std.proofs.lemmas.List.{take-append-drop, take-append-le, length_push}
 use Rattle.std.proofs.lemmas.Option.{none-some}
-use Rattle.std.proofs.lemmas.Bool.{cases_lt, lt-ltb}
+use Rattle.std.proofs.lemmas.Bool.{cases_lt, lt-ltb, ltb-false}
 use Rattle.memento_index.specs.declared.merge.Merge.{Merge}
 use Rattle.memento_sets.specs.Maps.{join_values}
 use Rattle.memento_sets.proofs.Semilattice.{join_antisymm, values_semilattice}
 use Rattle.harvest_lattice.specs.Lattice.{Key, key_cmp, Kept, Entries, AtMost, join, join_kept}
 use Rattle.harvest_lattice.specs.Knowledge.{lat}
 use Rattle.memento_index.specs.Merges.{adds_of}
-use Rattle.harvest_lattice.proofs.Entries.{key_cmp_total, key_cmp_exact, entry_semilattice, get-join, joined_at_most, at_most_left}
+use Rattle.harvest_lattice.proofs.Entries.{key_cmp_total, key_cmp_exact, entry_semilattice, get-join, joined_at_most, at_most_left, joined_with_none}
 use Rattle.harvest_lattice.proofs.Knowledge.{lat-append, get-lat_nil}
 use Rattle.replica_exchange.specs.Stamps.{state_after, kept_after, IsSettled, IsStamp, StampedState, IsStampAt, IsStamped, IsRestamped, IsAbsorbed, is_above, above, entries_above}
 
@@ -214,13 +214,9 @@ above_suffices ms s n x is below = map.same_map key_cmp_total key_cmp_exact (joi
     nothing_new : (k : Key) → join_values join_kept (map.get x k) (map.get (state_after (take n ms)) k) ≡ map.get x k
     nothing_new k = (values_semilattice entry_semilattice).comm (map.get x k) (map.get (state_after (take n ms)) k) ∙ at_key (state_after (take n ms)) x k below
 
-    none : (a : Option Kept) → join_values join_kept a None ≡ a
-    none None = refl
-    none (Some a) = refl
-
     old : (k : Key) (stamp : ℕ) → IsStamp ms k stamp → stamp ≤ n → join_values join_kept (map.get x k) None ≡ join_values join_kept (map.get x k) (map.get s.entries k)
     old k stamp is_stamp le =
-        none (map.get x k)
+        joined_with_none join_kept (map.get x k)
         ∙ (sym (nothing_new k) ∙ ap (join_values join_kept (map.get x k)) (same_from ms k stamp n is_stamp le ∙ ap (λ (e : Entries). map.get e k) (sym is.entries)))
 
     at : (k : Key) (stamp : Option ℕ) → IsStampAt ms s.entries k stamp
@@ -229,15 +225,8 @@ above_suffices ms s n x is below = map.same_map key_cmp_total key_cmp_exact (joi
     at k (Some stamp) there =
         elim (nat_lt n stamp) as (λ b. nat_lt n stamp ≡ b → join_values join_kept (map.get x k) (cond b (map.get s.entries k) None) ≡ join_values join_kept (map.get x k) (map.get s.entries k)) [
           | true ↦ λ _. refl
-          | false ↦ λ fails. old k stamp there.1 (not_above n stamp fails)
+          | false ↦ λ fails. old k stamp there.1 (ltb-false n stamp fails)
         ] refl
-      where
-        not_above : (n stamp : ℕ) → nat_lt n stamp ≡ false → stamp ≤ n
-        not_above n stamp fails = cases (cases_lt n stamp)
-          where
-            cases : (n < stamp) ⊎ (stamp ≤ n) → stamp ≤ n
-            cases (inl lt) = let passes = lt-ltb n stamp lt in absurd (let both : true ≡ false = sym passes ∙ fails in cc)
-            cases (inr le) = le
 
 -- ---- the entries above a number, as a list
 

@@ -8,13 +8,15 @@ use Rattle.std.proofs.lemmas.Slice.Eq.{bytes_eq-Decides}
 use Rattle.text_fields.specs.Finds.{Finds}
 use Rattle.text_fields.specs.Parts.{parted}
 use Rattle.text_fields.proofs.PartLemmas.{parts_are}
-use Rattle.replica_world.specs.Fields.{◌>>=◌, field, number_field, line_of, lines_of, block_of}
+use Rattle.replica_world.specs.Fields.{field, number_field, line_of, lines_of, block_of}
 use Rattle.replica_world.specs.Form as form
 use Rattle.replica_world.specs.Form.{Form, form_text, form_of}
 use Rattle.replica_world.specs.Script.{Command, Found, Start, command_of, command_at, replicas_of, service_of, start_of, start_at}
 use Rattle.replica_world.specs.Layout.{IsLine, AreLines, IsBlock, Means, IsCommandAt, IsStartAt}
 use Rattle.replica_world.proofs.LaidOut.{line_is, block_is}
-use Rattle.replica_world.proofs.Forms.{bound, onward, kept, number_field_is, lacks_space, form_is}
+use Rattle.replica_world.proofs.Forms.{onward, kept, number_field_is, lacks_space, form_is}
+use Rattle.link_format.specs.Scan.{◌>>=◌}
+use Rattle.link_format.proofs.Sound.{bind_some}
 
 -- ---- lines in turn
 
@@ -24,8 +26,8 @@ next_lines : (count : ℕ) (text : List ℕ) → ((after : List ℕ) → Finds (
 next_lines count text fewer p = (there, here) where
   there : (line_of text >>= λ line. lines_of count line.1 >>= λ more. Some (line.0 ∷ more.0, more.1)) ≡ Some p → AreLines (suc count) text p.0 p.1
   there is =
-      let line = bound (line_of text) _ p is in
-      let more = bound (lines_of count line.0.1) _ p line.2 in
+      let line = bind_some (line_of text) _ p is in
+      let more = bind_some (lines_of count line.0.1) _ p line.2 in
       let laid = (fewer line.0.1 more.0).0 more.1 in
       let same = same_Some (line.0.0 ∷ more.0.0, more.0.1) p more.2 in
       subst (λ (q : List (List ℕ) × List ℕ). AreLines (suc count) text q.0 q.1) same (line.0.0, line.0.1, more.0.0, (line_is text line.0).0 line.1, laid, refl)
@@ -59,21 +61,21 @@ pair command other after rest same also = ap (λ (q : Command × List ℕ). Some
 means_there : (f : Form) (after : List ℕ) (c : Command × List ℕ) → command_of f after ≡ Some c → Means f after c.0 c.1
 unfolding command_of
 means_there (form.Take f) after c is =
-    let body = bound (block_of f.len after) _ c is in
+    let body = bind_some (block_of f.len after) _ c is in
     let same = alone _ _ c body.2 in
     (body.0.0, subst (λ (rest : List ℕ). IsBlock f.len after (body.0.0, rest)) (sym same.1) ((block_is f.len after body.0).0 body.1), same.0)
 means_there (form.Map replica original) after c is = alone _ after c is
 means_there (form.Gate replica original) after c is = alone _ after c is
 means_there (form.GateAt replica original asked) after c is = alone _ after c is
 means_there (form.Ask f) after c is =
-    let asked = bound (lines_of f.count after) _ c is in
+    let asked = bind_some (lines_of f.count after) _ c is in
     let same = alone _ _ c asked.2 in
     (asked.0.0, subst (λ (rest : List ℕ). AreLines f.count after asked.0.0 rest) (sym same.1) ((lines_are f.count after asked.0).0 asked.1), same.0)
 means_there (form.Send replica) after c is = alone _ after c is
 means_there (form.SendFrom replica merges) after c is = alone _ after c is
 means_there (form.Deliver replica message) after c is = alone _ after c is
 means_there (form.Receive replica len) after c is =
-    let body = bound (block_of len after) _ c is in
+    let body = bind_some (block_of len after) _ c is in
     let same = alone _ _ c body.2 in
     (body.0.0, subst (λ (rest : List ℕ). IsBlock len after (body.0.0, rest)) (sym same.1) ((block_is len after body.0).0 body.1), same.0)
 means_there (form.Restart replica) after c is = alone _ after c is
@@ -100,8 +102,8 @@ unfolding command_at
 command_is text c = (there, here) where
   there : (line_of text >>= λ line. form_of line.0 >>= λ said. command_of said line.1) ≡ Some c → IsCommandAt text c.0 c.1
   there is =
-      let line = bound (line_of text) _ c is in
-      let said = bound (form_of line.0.0) _ c line.2 in
+      let line = bind_some (line_of text) _ c is in
+      let said = bind_some (form_of line.0.0) _ c line.2 in
       let laid = (form_is line.0.0 said.0).0 said.1 in
       record {
         form = said.0;
@@ -133,12 +135,12 @@ start_is text s = (there, here) where
   there : (line_of text >>= λ line. (replicas_of line.0 >>= λ count. service_of count.1 >>= λ base. Some (record { replicas = count.0; base = base }))
       >>= λ begin. Some (begin, line.1)) ≡ Some s → IsStartAt text s.0 s.1
   there is =
-      let line = bound (line_of text) _ s is in
-      let begin = bound (start_of line.0.0) _ s line.2 in
-      let count = bound (replicas_of line.0.0) _ begin.0 begin.1 in
-      let base = bound (service_of count.0.1) _ begin.0 count.2 in
-      let word = bound (field line.0.0) _ count.0 count.1 in
-      let number = bound (number_field word.0.1) _ count.0 word.2 in
+      let line = bind_some (line_of text) _ s is in
+      let begin = bind_some (start_of line.0.0) _ s line.2 in
+      let count = bind_some (replicas_of line.0.0) _ begin.0 begin.1 in
+      let base = bind_some (service_of count.0.1) _ begin.0 count.2 in
+      let word = bind_some (field line.0.0) _ count.0 count.1 in
+      let number = bind_some (number_field word.0.1) _ count.0 word.2 in
       let some = kept _ _ count.0 number.2 in
       let range = few (bytes_eq word.0.0 (codes "replicas")) number.0.0 some.0 in
       let split = (parts_are 32 line.0.0 word.0).0 word.1 in

@@ -12,17 +12,14 @@ use Rattle.text_fields.specs.Decimals.{number_of}
 use Rattle.text_fields.specs.Parts.{Lacks, parted}
 use Rattle.text_fields.proofs.DecimalLemmas.{number_is, decimal_lacks}
 use Rattle.text_fields.proofs.PartLemmas.{parts_are, parts_none_lacks, parts_lacking}
-use Rattle.replica_world.specs.Fields.{◌>>=◌, field, number_field, word_field, is_visible}
+use Rattle.replica_world.specs.Fields.{field, number_field, word_field, is_visible}
 use Rattle.replica_world.specs.Form.{Form, TakeForm, AskForm, Take, Map, Gate, GateAt, Ask, Send, SendFrom, Deliver, Receive, Restart, form_text}
 use Rattle.replica_world.specs.Form.{IsNumber, IsWord, IsWritten, most_asked, take_word, take_of, map_of, gate_at, gate_of, ask_of, send_of}
 use Rattle.replica_world.specs.Form.{send_from_of, deliver_of, receive_of, restart_of, form_by_word, form_of}
+use Rattle.link_format.specs.Scan.{◌>>=◌}
+use Rattle.link_format.proofs.Sound.{bind_some}
 
 -- ---- one reading after another
-
--- where both are found
-pub bound : {A B : Type 0} (o : Option A) (next : A → Option B) (b : B) → (o >>= next) ≡ Some b → (a : A) × (o ≡ Some a) × (next a ≡ Some b)
-bound None next b is = absurd (let none : None ≡ Some b = is in cc)
-bound (Some a) next b is = (a, refl, is)
 
 -- the second goes on from what the first found
 pub onward : {A B : Type 0} (o : Option A) (next : A → Option B) (a : A) → o ≡ Some a → (o >>= next) ≡ next a
@@ -47,8 +44,8 @@ pub number_field_is : (text : List ℕ) → Finds (number_field text) (NumberAt 
 number_field_is text p = (there, here) where
   there : number_field text ≡ Some p → NumberAt text p
   there is =
-      let part = bound (field text) _ p is in
-      let n = bound (number_of part.0.0) _ p part.2 in
+      let part = bind_some (field text) _ p is in
+      let n = bind_some (number_of part.0.0) _ p part.2 in
       let split = (parts_are 32 text part.0).0 part.1 in
       let laid = (number_is part.0.0 n.0).0 n.1 in
       subst (NumberAt text) (same_Some (n.0, part.0.1) p n.2) (laid.0, split.1 ∙ ap (λ (d : List ℕ). d ++ 32 ∷ part.0.1) laid.1)
@@ -72,7 +69,7 @@ word_field_is : (text : List ℕ) → Finds (word_field text) (WordAt text)
 word_field_is text p = (there, here) where
   there : word_field text ≡ Some p → WordAt text p
   there is =
-      let part = bound (field text) _ p is in
+      let part = bind_some (field text) _ p is in
       let some = left (length part.0.0 == 0) part.0 p part.2 in
       let split = (parts_are 32 text part.0).0 part.1 in
       subst (WordAt text) some.1 ((some_bytes part.0.0 some.0, split.0), split.1)
@@ -155,11 +152,11 @@ Laid word fields f = IsWritten f × (word ≡ word_of f) × (fields ≡ fields_o
 take_laid : (is_whole : Bool) (fields : List ℕ) (f : Form) → take_of is_whole fields ≡ Some f → Laid (take_word is_whole) fields f
 unfolding take_of
 take_laid is_whole fields f is =
-    let replica = bound (number_field fields) _ f is in
-    let archive = bound (word_field replica.0.1) _ f replica.2 in
-    let revision = bound (number_field archive.0.1) _ f archive.2 in
-    let address = bound (word_field revision.0.1) _ f revision.2 in
-    let len = bound (number_field address.0.1) _ f address.2 in
+    let replica = bind_some (number_field fields) _ f is in
+    let archive = bind_some (word_field replica.0.1) _ f replica.2 in
+    let revision = bind_some (number_field archive.0.1) _ f archive.2 in
+    let address = bind_some (word_field revision.0.1) _ f revision.2 in
+    let len = bind_some (number_field address.0.1) _ f address.2 in
     let r = (number_field_is fields replica.0).0 replica.1 in
     let a = (word_field_is replica.0.1 archive.0).0 archive.1 in
     let v = (number_field_is archive.0.1 revision.0).0 revision.1 in
@@ -176,14 +173,14 @@ take_laid is_whole fields f is =
 map_laid : (fields : List ℕ) (f : Form) → map_of fields ≡ Some f → Laid (codes "map") fields f
 unfolding map_of
 map_laid fields f is =
-    let replica = bound (number_field fields) _ f is in
+    let replica = bind_some (number_field fields) _ f is in
     let r = (number_field_is fields replica.0).0 replica.1 in
     subst (Laid (codes "map") fields) (same_Some _ _ replica.2) (r.0, refl, r.1)
 
 gate_laid : (fields : List ℕ) (f : Form) → gate_of fields ≡ Some f → Laid (codes "gate") fields f
 unfolding gate_of
 gate_laid fields f is =
-    let replica = bound (number_field fields) _ f is in
+    let replica = bind_some (number_field fields) _ f is in
     subst (Laid (codes "gate") fields) (same_Some _ _ replica.2) (on replica.0.0 replica.0.1 ((number_field_is fields replica.0).0 replica.1) (field replica.0.1) refl) where
       on : (replica : ℕ) (rest : List ℕ) → NumberAt fields (replica, rest) → (found : Option (List ℕ × List ℕ)) → field rest ≡ found → Laid (codes "gate") fields (gate_at replica rest found)
       on replica rest r None is = ((r.0, parts_none_lacks 32 rest is), refl, r.1)
@@ -202,9 +199,9 @@ fits_both false count seen few = absurd (let both : false ≡ true = seen in cc)
 ask_laid : (fields : List ℕ) (f : Form) → ask_of fields ≡ Some f → Laid (codes "ask") fields f
 unfolding ask_of
 ask_laid fields f is =
-    let replica = bound (number_field fields) _ f is in
-    let method = bound (word_field replica.0.1) _ f replica.2 in
-    let count = bound (number_field method.0.1) _ f method.2 in
+    let replica = bind_some (number_field fields) _ f is in
+    let method = bind_some (word_field replica.0.1) _ f replica.2 in
+    let count = bind_some (number_field method.0.1) _ f method.2 in
     let some = kept _ _ f count.2 in
     let seen = fits (list_all is_visible method.0.0) count.0.0 some.0 in
     let r = (number_field_is fields replica.0).0 replica.1 in
@@ -219,15 +216,15 @@ ask_laid fields f is =
 send_laid : (fields : List ℕ) (f : Form) → send_of fields ≡ Some f → Laid (codes "send") fields f
 unfolding send_of
 send_laid fields f is =
-    let replica = bound (number_of fields) _ f is in
+    let replica = bind_some (number_of fields) _ f is in
     let r = (number_is fields replica.0).0 replica.1 in
     subst (Laid (codes "send") fields) (same_Some _ _ replica.2) (r.0, refl, r.1)
 
 send_from_laid : (fields : List ℕ) (f : Form) → send_from_of fields ≡ Some f → Laid (codes "sendfrom") fields f
 unfolding send_from_of
 send_from_laid fields f is =
-    let replica = bound (number_field fields) _ f is in
-    let merges = bound (number_of replica.0.1) _ f replica.2 in
+    let replica = bind_some (number_field fields) _ f is in
+    let merges = bind_some (number_of replica.0.1) _ f replica.2 in
     let r = (number_field_is fields replica.0).0 replica.1 in
     let n = (number_is replica.0.1 merges.0).0 merges.1 in
     subst (Laid (codes "sendfrom") fields) (same_Some _ _ merges.2) ((r.0, n.0), refl, r.1 ∙ ap (λ (t : List ℕ). decimal replica.0.0 ++ 32 ∷ t) n.1)
@@ -235,8 +232,8 @@ send_from_laid fields f is =
 deliver_laid : (fields : List ℕ) (f : Form) → deliver_of fields ≡ Some f → Laid (codes "deliver") fields f
 unfolding deliver_of
 deliver_laid fields f is =
-    let replica = bound (number_field fields) _ f is in
-    let message = bound (number_of replica.0.1) _ f replica.2 in
+    let replica = bind_some (number_field fields) _ f is in
+    let message = bind_some (number_of replica.0.1) _ f replica.2 in
     let r = (number_field_is fields replica.0).0 replica.1 in
     let m = (number_is replica.0.1 message.0).0 message.1 in
     subst (Laid (codes "deliver") fields) (same_Some _ _ message.2) ((r.0, m.0), refl, r.1 ∙ ap (λ (t : List ℕ). decimal replica.0.0 ++ 32 ∷ t) m.1)
@@ -244,8 +241,8 @@ deliver_laid fields f is =
 receive_laid : (fields : List ℕ) (f : Form) → receive_of fields ≡ Some f → Laid (codes "receive") fields f
 unfolding receive_of
 receive_laid fields f is =
-    let replica = bound (number_field fields) _ f is in
-    let len = bound (number_of replica.0.1) _ f replica.2 in
+    let replica = bind_some (number_field fields) _ f is in
+    let len = bind_some (number_of replica.0.1) _ f replica.2 in
     let r = (number_field_is fields replica.0).0 replica.1 in
     let n = (number_is replica.0.1 len.0).0 len.1 in
     subst (Laid (codes "receive") fields) (same_Some _ _ len.2) ((r.0, n.0), refl, r.1 ∙ ap (λ (t : List ℕ). decimal replica.0.0 ++ 32 ∷ t) n.1)
@@ -253,7 +250,7 @@ receive_laid fields f is =
 restart_laid : (fields : List ℕ) (f : Form) → restart_of fields ≡ Some f → Laid (codes "restart") fields f
 unfolding restart_of
 restart_laid fields f is =
-    let replica = bound (number_of fields) _ f is in
+    let replica = bind_some (number_of fields) _ f is in
     let r = (number_is fields replica.0).0 replica.1 in
     subst (Laid (codes "restart") fields) (same_Some _ _ replica.2) (r.0, refl, r.1)
 
@@ -342,7 +339,7 @@ unfolding form_of
 form_is line f = (there, here) where
   there : (field line >>= λ word. form_by_word word.0 word.1) ≡ Some f → IsWritten f × (line ≡ form_text f)
   there is =
-      let word = bound (field line) _ f is in
+      let word = bind_some (field line) _ f is in
       let laid = named_laid word.0.0 word.0.1 f word.2 in
       let split = (parts_are 32 line word.0).0 word.1 in
       (laid.0, split.1 ∙ (λ i. laid.1 i ++ 32 ∷ laid.2 i) ∙ sym (form_text-parts f))

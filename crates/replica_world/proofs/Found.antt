@@ -22,12 +22,12 @@ use Rattle.url.specs.Parts.{Parts}
 use Rattle.memento_time.specs.declared.mementos.Memento.{Memento}
 use Rattle.memento_time.specs.Mementos.{IsMemento, memento_cmp}
 use Rattle.memento_time.specs.Second.{IsSecond}
-use Rattle.memento_time.specs.Text.{IsOriginal, IsClean, IsCleanByte}
+use Rattle.memento_time.specs.Text.{IsOriginal, IsClean, IsCleanByte, before_fragment}
 use Rattle.memento_time.specs.Blanks.{trim_start}
 use Rattle.link_format.specs.Grammar.{Link}
 use Rattle.text_fields.specs.Parts.{Lacks}
 use Rattle.text_fields.proofs.DecimalLemmas.{decimal_lacks, decimal_digits}
-use Rattle.timemap_reader.specs.Address.{is_http_target, starts_with_any_case, same_word, memento_address, before_fragment}
+use Rattle.timemap_reader.specs.Address.{is_http_target, starts_with_any_case, same_word, memento_address}
 use Rattle.timemap_reader.specs.Page.{named, left_out, IsPageOf}
 use Rattle.timemap_reader.specs.Role.{is_memento_link, is_further_link, memento_of, further_of, datetime_of}
 use Rattle.timemap_reader.proofs.Cleans.{its_own}

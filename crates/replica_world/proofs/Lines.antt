@@ -3,7 +3,8 @@ use Rattle.std.proofs.Common.{◌≡◌, ℕ, suc, ◌+◌, ◌-◌, ◌<◌, Li
 use Rattle.std.proofs.Common.{arith, drop, Bool, ◌==◌, true, false, nat_eq, if◌then◌else◌}
 use Rattle.std.specs.List.{starts_with}
 use Rattle.std.proofs.lemmas.Grind.{common_steps}
-use Rattle.replica_world.specs.Fields.{◌>>=◌, line_of, lines_of, after_empty_lines}
+use Rattle.replica_world.specs.Fields.{line_of, lines_of, after_empty_lines}
+use Rattle.link_format.specs.Scan.{◌>>=◌}
 
 -- lines that were read before those that are found
 abbrev pub lines_after : List (List ℕ) → Option (List (List ℕ) × List ℕ) → Option (List (List ℕ) × List ℕ)

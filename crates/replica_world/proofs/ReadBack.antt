@@ -24,7 +24,7 @@ use Rattle.timemap_writer.specs.TimeMap.{memento_link, memento_links, original_l
 use Rattle.timemap_writer.specs.Pages.{pages, numbers, stretch, stretch_links, page_path, page_address, page_link, page_links, page_text, index_links, index_text}
 use Rattle.timemap_writer.proofs.Bases.{base_short}
 use Rattle.timemap_writer.proofs.Readings.{All-stretch, timemap_reads, page_reads, index_reads}
-use Rattle.timemap_writer.proofs.Stretches.{lines_taken}
+use Rattle.timemap_writer.proofs.Stretches.{lines_taken, line_count}
 use Rattle.replica_world.specs.ReadBack.{AreOnWeb, page_of, index_of}
 use Rattle.replica_world.proofs.Sizes.{page_is_short}
 use Rattle.replica_world.proofs.Found.{path_length, its_timemap, its_page, its_index}
@@ -146,13 +146,9 @@ text_length base original ms each =
     let inside : n ≤ length body = longer_right gate (self ++ lines) n (longer_right self lines n (lines_length separator true ms each)) in
     longer_left (link_text (original_link original) ++ body) (codes "\n") n (longer_right (link_text (original_link original)) body n inside)
 
-links_length : (first : Bool) (ms : List Memento) → length (memento_links first ms) ≡ length ms
-links_length first [] = refl
-links_length first (m ∷ ms) = ap (λ n. suc n) (links_length false ms)
-
 few_links : (base original : List ℕ) (ms : List Memento) → All IsMemento ms → IsShort (timemap_text base original ms) → FewLinks (timemap_links base original ms)
 few_links base original ms each short =
-    let count = links_length true ms in
+    let count = line_count true ms in
     omega (arith, text_length base original ms each, short, count)
 
 page_line : (address : List ℕ) (ms : List Memento) → 42 ≤ length (link_text (timemap_link (codes "timemap") address ms))

@@ -6,7 +6,7 @@ use Rattle.std.proofs.lemmas.Grind.{common_steps}
 use Rattle.std.proofs.lemmas.List.{length-append, take-append-le, drop-append-le, length-drop}
 use Rattle.text_fields.specs.Parts.{Lacks, parts_at}
 use Rattle.text_fields.proofs.PartLemmas.{no_split, parts_are, parts_none_lacks}
-use Rattle.replica_world.specs.Fields.{◌>>=◌, first_line, after_line_end, block_of, line_of, lines_of, longest_line}
+use Rattle.replica_world.specs.Fields.{first_line, after_line_end, block_of, line_of, lines_of, longest_line}
 use Rattle.replica_world.specs.Form as form
 use Rattle.replica_world.specs.Form.{Form, form_of}
 use Rattle.replica_events.specs.declared.event.Event.TheVariants.{Receive, Ask}
@@ -14,6 +14,7 @@ use Rattle.replica_world.specs.Script.{Command, Take, Step, Start, taking_of, co
 use Rattle.replica_world.specs.Layout.{IsLine}
 use Rattle.replica_world.specs.Reading.{IsSettledBy, before_more}
 use Rattle.replica_world.proofs.LaidOut.{line_is, is_no_block}
+use Rattle.link_format.specs.Scan.{◌>>=◌}
 
 -- ---- a line
 

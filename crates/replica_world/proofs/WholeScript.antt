@@ -2,7 +2,7 @@
 use Rattle.std.proofs.Common.{◌≡◌, ℕ, zero, suc, ◌+◌, ◌<◌, ◌≤◌, inl, inr, List, [], ◌∷◌, length, replicate, Option, Some, None, refl, sym, ap, subst, ◌∙◌, arith}
 use Rattle.std.specs.Prelude.{IfSome}
 use Rattle.std.proofs.lemmas.List.{length-append}
-use Rattle.replica_world.specs.Fields.{◌>>=◌, after_empty_lines, block_of, line_of, lines_of}
+use Rattle.replica_world.specs.Fields.{after_empty_lines, block_of, line_of, lines_of}
 use Rattle.replica_world.specs.Form as form
 use Rattle.replica_world.specs.Form.{Form, form_of}
 use Rattle.replica_world.specs.Script.{Commands, Found, Start, command_of, command_at, commands_within, commands_of, onward, start_of, start_at}
@@ -11,6 +11,7 @@ use Rattle.replica_world.specs.Performing.{IsFirstPerformed}
 use Rattle.replica_world.specs.Layout.{IsEnded, IsLine, IsCommandAt, IsReadAs}
 use Rattle.replica_world.proofs.LaidOut.{line_is, block_is, after_empty_lines_is}
 use Rattle.replica_world.proofs.Commands.{command_is}
+use Rattle.link_format.specs.Scan.{◌>>=◌}
 
 -- ---- what is left gets shorter
 

@@ -219,11 +219,6 @@ room_used old new drops shorter =
     let same : 1000000000 - new.pieces ≡ 1000000000 - old.pieces = ap (λ (n : ℕ). 1000000000 - n) drops.pieces in
     omega (arith, shorter, same)
 
--- what follows from a success
-pub on_ok : {T E : Type 0} {P Q : Type 0} (result : Result T E) → (P → Q) → OnOk result P → OnOk result Q
-on_ok (Ok u) follows p = follows p
-on_ok (Err e) follows p = tt
-
 -- ---- whose fault a failure is
 
 -- what a part of a replay answers is what the whole answers

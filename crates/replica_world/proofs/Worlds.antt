@@ -21,7 +21,7 @@ use Rattle.replica_exchange.specs.Stamps.{StampedState, IsStamped}
 use Rattle.replica_exchange.specs.DeltaText.{delta_text, IsDelta, IsDeltaText}
 use Rattle.replica_exchange.specs.CursorRule.{Held, delta_from, fits, taken_from}
 use Rattle.replica_exchange.proofs.StampLemmas.{absorbed_is_stamped}
-use Rattle.replica_exchange.proofs.OneReading.{one_delta_of_a_text}
+use Rattle.replica_exchange.proofs.DeltaLemmas.{one_delta_text}
 use Rattle.timegate.specs.declared.request.Request.{Request}
 use Rattle.timegate.specs.declared.reply.Reply.{Reply}
 use Rattle.timegate.specs.Reply.{reply_of}
@@ -281,7 +281,7 @@ sent_text bytes d delta text = record { delta = delta; text = inl text }
 
 same_message : (kept : Kept) (w : World) (k : ℕ) (m : SentMessage) (read : Delta) (f : FoundMessage kept w k m) → IsReadFrom m read → IsSame m read f.found
 same_message kept w k m read f is = record {
-  delta = one_delta_of_a_text m.bytes read f.found.delta is.text (sent_text m.bytes f.found.delta f.sent.delta (ap (λ (k : SentMessage). k.bytes) f.kept_is ∙ f.sent.text));
+  delta = one_delta_text m.bytes read f.found.delta is.text (sent_text m.bytes f.found.delta f.sent.delta (ap (λ (k : SentMessage). k.bytes) f.kept_is ∙ f.sent.text));
   sender = ap (λ (k : SentMessage). k.sender) f.kept_is;
   within = subst (λ (k : SentMessage). length k.bytes ≤ longest_text) f.kept_is is.within;
 }

@@ -5,11 +5,7 @@ use Rattle.std.specs.Option.{option_map, option_and_then}
 use Rattle.std.specs.Str.{is_utf8}
 use Rattle.text_fields.specs.Decimals.{number_of}
 use Rattle.text_fields.specs.Parts.{space, line_end, parts_at}
-
-infixl 10 ◌>>=◌
--- one reading after another: none if either has none
-abbrev pub ◌>>=◌ : {A B : Type 0} → Option A → (A → Option B) → Option B
-found >>= next = option_and_then next found
+use Rattle.link_format.specs.Scan.{◌>>=◌}
 
 -- the first line, and what follows it; the last line may lack its LF
 abbrev pub first_line : List ℕ → List ℕ × List ℕ

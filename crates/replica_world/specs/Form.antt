@@ -5,7 +5,8 @@ use Rattle.std.specs.Fmt.{decimal}
 use Rattle.std.specs.List.{list_all}
 use Rattle.text_fields.specs.Decimals.{number_of}
 use Rattle.text_fields.specs.Parts.{Lacks, space, parted}
-use Rattle.replica_world.specs.Fields.{◌>>=◌, field, number_field, word_field, is_visible}
+use Rattle.replica_world.specs.Fields.{field, number_field, word_field, is_visible}
+use Rattle.link_format.specs.Scan.{◌>>=◌}
 
 -- `take I ARCHIVE REVISION PAGEURL LENGTH ORIGINAL`, which takes a whole harvest, or the same behind `takepart`, which
 -- takes a part harvest

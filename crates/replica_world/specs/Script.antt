@@ -6,10 +6,11 @@ use Rattle.timegate.specs.declared.request.Request.{Request}
 use Rattle.timemap_writer.specs.Service.{base_of}
 use Rattle.replica_events.specs.declared.event.Event.{Event}
 use Rattle.replica_events.specs.declared.event.Event.TheVariants.{Send, SendFrom, Deliver, Receive, Restart, Ask}
-use Rattle.replica_world.specs.Fields.{◌>>=◌, field, line_of, after_empty_lines, number_field, utf8_text, block_of}
+use Rattle.replica_world.specs.Fields.{field, line_of, after_empty_lines, number_field, utf8_text, block_of}
 use Rattle.replica_world.specs.Fields.{lines_of}
 use Rattle.replica_world.specs.Form as form
 use Rattle.replica_world.specs.Form.{Form, TakeForm, form_of}
+use Rattle.link_format.specs.Scan.{◌>>=◌}
 
 -- the body of a page at an address, to be read and taken as a whole harvest or as a part harvest
 pub record Taking : Type 0 where

@@ -3,7 +3,7 @@ use Rattle.std.proofs.Common.{◌≡◌, ℕ, ◌<◌, ◌^◌, ◌==◌, ◌&&�
 use Rattle.std.specs.Prelude.{codes, flat_map, All, if◌then◌else◌}
 use Rattle.std.specs.List.{list_all}
 use Rattle.std.specs.Fmt.{decimal}
-use Rattle.std.proofs.lemmas.Bool.{true≢false}
+use Rattle.std.proofs.lemmas.Bool.{true≢false, and_parts}
 use Rattle.std.proofs.lemmas.Bool.Decides.{Decides-eqb}
 use Rattle.std.proofs.lemmas.Fmt.{decimal_injective}
 use Rattle.std.proofs.lemmas.List.Elements.{All-head, All-tail}
@@ -51,28 +51,20 @@ one_value a b x y same =
     let read : (a, x) ≡ (b, y) = sym (value_read a x) ∙ ap (λ (t : List ℕ). read_value t false) same ∙ value_read b y in
     (ap (λ (p : List ℕ × List ℕ). p.0) read, ap (λ (p : List ℕ × List ℕ). p.1) read)
 
-front : (a b : Bool) → (a && b) ≡ true → a ≡ true
-front true b h = refl
-front false b h = absurd (true≢false (sym h))
-
-back : (a b : Bool) → (a && b) ≡ true → b ≡ true
-back true b h = h
-back false b h = absurd (true≢false (sym h))
-
 -- a name ends at the first byte that can't stand in it
 one_name : (a b x y : List ℕ) (c d : ℕ) → IsName a → IsName b → is_name_byte c ≡ false → is_name_byte d ≡ false
     → a ++ c ∷ x ≡ b ++ d ∷ y → (a ≡ b) × (c ∷ x ≡ d ∷ y)
 one_name [] [] x y c d na nb ec ed same = (refl, same)
 one_name [] (e ∷ b) x y c d na nb ec ed same =
     let heads : c ≡ e = ap (λ (l : List ℕ). get_or l 0 0) same in
-    absurd (true≢false (sym (front (is_name_byte e) (list_all is_name_byte b) nb) ∙ (ap is_name_byte (sym heads) ∙ ec)))
+    absurd (true≢false (sym (and_parts (is_name_byte e) (list_all is_name_byte b) nb).0 ∙ (ap is_name_byte (sym heads) ∙ ec)))
 one_name (e ∷ a) [] x y c d na nb ec ed same =
     let heads : e ≡ d = ap (λ (l : List ℕ). get_or l 0 0) same in
-    absurd (true≢false (sym (front (is_name_byte e) (list_all is_name_byte a) na) ∙ (ap is_name_byte heads ∙ ed)))
+    absurd (true≢false (sym (and_parts (is_name_byte e) (list_all is_name_byte a) na).0 ∙ (ap is_name_byte heads ∙ ed)))
 one_name (e ∷ a) (f ∷ b) x y c d na nb ec ed same =
     let heads : e ≡ f = ap (λ (l : List ℕ). get_or l 0 0) same in
     let tails : a ++ c ∷ x ≡ b ++ d ∷ y = ap (λ (l : List ℕ). drop 1 l) same in
-    let rest = one_name a b x y c d (back (is_name_byte e) (list_all is_name_byte a) na) (back (is_name_byte f) (list_all is_name_byte b) nb) ec ed tails in
+    let rest = one_name a b x y c d (and_parts (is_name_byte e) (list_all is_name_byte a) na).1 (and_parts (is_name_byte f) (list_all is_name_byte b) nb).1 ec ed tails in
     ((λ i. heads i ∷ rest.0 i), rest.1)
 
 label_parts : (l : Label) (x : List ℕ) → label_text l ++ x ≡ l.0 ++ 61 ∷ 34 ∷ (escaped l.1 ++ 34 ∷ x)

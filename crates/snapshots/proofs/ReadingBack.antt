@@ -12,7 +12,7 @@ use Rattle.harvest_lattice.proofs.Knowledge.{lat-append, lat-adds, lat-nil}
 use Rattle.memento_index.specs.Merges.{adds_of}
 use Rattle.memento_index.specs.declared.merge.Merge.TheVariants.{State}
 use Rattle.replica_exchange.specs.StateText.{state_text, IsTextOf}
-use Rattle.replica_exchange.proofs.OneReading.{one_state_of_a_text}
+use Rattle.replica_exchange.proofs.StateLemmas.{one_state}
 use Rattle.snapshot_sections.specs.Sections.{first_line, last_line, section_text, snapshot_text, AreSections}
 use Rattle.snapshot_sections.proofs.Sections.{one_snapshot}
 use Rattle.snapshots.specs.Cuts.{join_all}
@@ -26,7 +26,7 @@ same_states [] (y ∷ ys) fit texts = absurd texts
 same_states (x ∷ xs) [] fit texts = absurd texts
 same_states (x ∷ xs) (y ∷ ys) fit texts =
     let own : IsTextOf (state_text x) x = record { state = fit.0.state; text = inl refl } in
-    let first : x ≡ y = one_state_of_a_text (state_text x) x y own texts.0 in
+    let first : x ≡ y = one_state (state_text x) x y own texts.0 in
     let rest : xs ≡ ys = same_states xs ys fit.1 texts.1 in
     λ i. first i ∷ rest i
 

@@ -149,7 +149,7 @@ redirected base known q original asked (Some m) is status =
     }
 
 -- nothing is shown where no memento can be chosen
-nothing_in : (ms : Mementos) (m : Memento) → set.items ms ≡ [] → ¬ (set.contains ms m ≡ true)
+pub nothing_in : (ms : Mementos) (m : Memento) → set.items ms ≡ [] → ¬ (set.contains ms m ≡ true)
 nothing_in ms m none held =
     let found : list_any (eq_by_cmp memento_cmp m) (set.items ms) ≡ true = sym (contains_key-keys ms m) ∙ held in
     let lost : list_any (eq_by_cmp memento_cmp m) [] ≡ true = subst (λ (xs : List Memento). list_any (eq_by_cmp memento_cmp m) xs ≡ true) none found in

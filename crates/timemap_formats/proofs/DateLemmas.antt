@@ -12,8 +12,8 @@ use Rattle.httpdate.specs.Text.{day_name, month_name, two_digits, four_digits, i
 use Rattle.memento_time.specs.Civil.{civil_time}
 use Rattle.memento_time.specs.Second.{IsSecond, imf}
 use Rattle.memento_time.specs.Text.{IsClean, is_clean_byte}
-use Rattle.memento_time.proofs.CivilLemmas.{civil_time-valid}
-use Rattle.memento_time.proofs.ReadLemmas.{tail_of, imf_fixdate-tail_of, wday_in_range, drop-imf, Reads-imf, Reads_unique}
+use Rattle.memento_time.proofs.CivilLemmas.{civil_time-valid, days_at_most}
+use Rattle.memento_time.proofs.ReadLemmas.{tail_of, imf_fixdate-tail_of, wday_in_range, drop-imf, Reads-imf, Reads_unique, from_two}
 use Rattle.memento_time.proofs.CleanLemmas.{clean_bytes}
 use Rattle.timemap_formats.specs.Dates.{rfc3339_date, digits_date, rfc3339, digits, month_digits}
 
@@ -91,9 +91,6 @@ two_clean n small = rw (digit_clean (48 + n / 10) (omega arith) (omega arith), d
 all_append : (a b : List ℕ) → list_all is_clean_byte a ≡ true → list_all is_clean_byte b ≡ true → list_all is_clean_byte (a ++ b) ≡ true
 all_append a b here there = list_all-append is_clean_byte a b ∙ rw (here, there) refl
 
-days_at_most : (y m : ℕ) → days_in_month y m ≤ 31
-days_at_most y m = grind (arith, nat_tests)
-
 date_clean : (p : Parts) → IsValid p → list_all is_clean_byte (rfc3339_date p) ≡ true
 date_clean p is =
     let month = two_clean p.mon (omega (arith, is.0.1.1)) in
@@ -146,9 +143,6 @@ tail_from_digits t m =
     44 ∷ 32 ∷ get_or t 6 0 ∷ get_or t 7 0 ∷ 32 ∷ (month_name m ++ 32 ∷ get_or t 0 0 ∷ get_or t 1 0 ∷ get_or t 2 0 ∷ get_or t 3 0
     ∷ 32 ∷ get_or t 8 0 ∷ get_or t 9 0 ∷ 58 ∷ get_or t 10 0 ∷ get_or t 11 0 ∷ 58 ∷ get_or t 12 0 ∷ get_or t 13 0 ∷ 32 ∷ 71 ∷ 77 ∷ 84 ∷ [])
 
-same_number : (a b : ℕ) → 48 + a / 10 ≡ 48 + b / 10 → 48 + a % 10 ≡ 48 + b % 10 → a ≡ b
-same_number a b tens ones = omega (arith, tens, ones)
-
 one_second : (s t : ℕ) → IsSecond s → IsSecond t → tail_of (civil_time s) ≡ tail_of (civil_time t) → s ≡ t
 one_second s t is it tails =
     let own = Reads-imf s is in
@@ -158,11 +152,11 @@ one_second s t is it tails =
 pub rfc3339_injective : (s t : ℕ) → IsSecond s → IsSecond t → rfc3339 s ≡ rfc3339 t → s ≡ t
 unfolding rfc3339
 rfc3339_injective s t is it e =
-    let month = same_number (civil_time s).mon (civil_time t).mon (ap (λ (x : List ℕ). get_or x 5 0) e) (ap (λ (x : List ℕ). get_or x 6 0) e) in
+    let month = from_two (civil_time s).mon (civil_time t).mon (ap (λ (x : List ℕ). get_or x 5 0) e) (ap (λ (x : List ℕ). get_or x 6 0) e) in
     one_second s t is it (λ i. tail_from (e i) (month i))
 
 pub digits_injective : (s t : ℕ) → IsSecond s → IsSecond t → digits s ≡ digits t → s ≡ t
 unfolding digits
 digits_injective s t is it e =
-    let month = same_number (civil_time s).mon (civil_time t).mon (ap (λ (x : List ℕ). get_or x 4 0) e) (ap (λ (x : List ℕ). get_or x 5 0) e) in
+    let month = from_two (civil_time s).mon (civil_time t).mon (ap (λ (x : List ℕ). get_or x 4 0) e) (ap (λ (x : List ℕ). get_or x 5 0) e) in
     one_second s t is it (λ i. tail_from_digits (e i) (month i))

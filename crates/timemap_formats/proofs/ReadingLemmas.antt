@@ -12,7 +12,7 @@ use Rattle.link_format.specs.Grammar.{Link, Reading}
 use Rattle.link_format.specs.Limits.{IsAnswer}
 use Rattle.link_format.specs.declared.fault.LinkFault.{LinkFault}
 use Rattle.link_format.specs.declared.fault.LinkFault.TheVariants.{NotLinkFormat, TooManyLinks, TooManyParams, TargetTooLong, NoMemory}
-use Rattle.link_format.proofs.Complete.{reading_complete}
+use Rattle.link_format.proofs.Complete.{reading_complete, one_reading}
 use Rattle.memento_time.specs.Text.{IsClean, is_clean_byte}
 use Rattle.memento_time.proofs.CleanLemmas.{clean_bytes, are_clean}
 use Rattle.timemap_formats.specs.declared.listing.Row.{Row}
@@ -118,24 +118,21 @@ listing_few (x ∷ []) few = refl
 listing_few (x ∷ y ∷ []) few = refl
 listing_few (x ∷ y ∷ z ∷ links) few = absurd (omega arith)
 
-one_answer : (text : List ℕ) (links others : List Link) → Reading text links → Reading text others → links ≡ others
-one_answer text links others is other = same_Some links others (sym (reading_complete is) ∙ reading_complete other)
-
 -- what the links of a text list is what the text does
 pub lists_links : (text : List ℕ) (links : List Link) (listing : Option Listing) → IsAnswer text (Ok links) → listing ≡ listing_of links → Lists text listing
 lists_links text links None answer is =
-    λ (others : List Link) (other : IsAnswer text (Ok others)). ap listing_of (one_answer text others links other.0 answer.0) ∙ sym is
+    λ (others : List Link) (other : IsAnswer text (Ok others)). ap listing_of (one_reading text others links other.0 answer.0) ∙ sym is
 lists_links text links (Some listing) answer is = (links, answer, sym is)
 
 -- a text with a fault of its own has no links within the limits
 pub lists_nothing : (text : List ℕ) (fault : LinkFault) → (fault ≡ NoMemory → ⊥) → IsAnswer text (Err fault) → Lists text None
 lists_nothing text (NotLinkFormat at) own answer = λ (others : List Link) (other : IsAnswer text (Ok others)). absurd (answer.0 others other.0)
 lists_nothing text TooManyLinks own answer =
-    λ (others : List Link) (other : IsAnswer text (Ok others)). absurd (answer.2 (rw (one_answer text answer.0 others answer.1 other.0) other.1))
+    λ (others : List Link) (other : IsAnswer text (Ok others)). absurd (answer.2 (rw (one_reading text answer.0 others answer.1 other.0) other.1))
 lists_nothing text TooManyParams own answer =
-    λ (others : List Link) (other : IsAnswer text (Ok others)). absurd (answer.3 (rw (one_answer text answer.0 others answer.1 other.0) other.2))
+    λ (others : List Link) (other : IsAnswer text (Ok others)). absurd (answer.3 (rw (one_reading text answer.0 others answer.1 other.0) other.2))
 lists_nothing text TargetTooLong own answer =
-    λ (others : List Link) (other : IsAnswer text (Ok others)). absurd (answer.4 (rw (one_answer text answer.0 others answer.1 other.0) other.3))
+    λ (others : List Link) (other : IsAnswer text (Ok others)). absurd (answer.4 (rw (one_reading text answer.0 others answer.1 other.0) other.3))
 lists_nothing text NoMemory own answer = absurd (own refl)
 
 pub refused_lists : {E : Type 0} (text : List ℕ) (fault : LinkFault) (r : Result (Option Listing) E) → IsAnswer text (Err fault)

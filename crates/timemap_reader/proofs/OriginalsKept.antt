@@ -15,6 +15,7 @@ use Rattle.std.proofs.lemmas.List.{length-reverse, get_or-reverse}
 use Rattle.std.proofs.lemmas.List.Concat.{flat_map-append}
 use Rattle.std.proofs.lemmas.List.Elements.{All-nil, All-cons, All-head, All-tail, All-append, All-weaker}
 use Rattle.std.proofs.lemmas.Slice.Eq.{bytes_eq-Decides}
+use Rattle.std.proofs.lemmas.Option.{none-some}
 use Rattle.percent_encoding.specs.declared.ascii_set.TheConstants.{CONTROLS}
 use Rattle.percent_encoding.specs.Percent.{IsKept, percent_encode_byte, percent_decode}
 use Rattle.percent_encoding.proofs.AsciiSetLemmas.{ascii_from_kept}
@@ -48,10 +49,11 @@ use Rattle.url.proofs.RoundTrip.{All-query_text, split_at_sign, split_own_scheme
 use Rattle.url.proofs.ParsedCanonical.{before_special}
 use Rattle.url_texts.specs.Followed.{begins_on_web, IsFollowed}
 use Rattle.timemap_reader.specs.declared.address.TheConstants.{ESCAPED}
-use Rattle.timemap_reader.specs.Address.{is_clean_byte, clean_byte_text, clean_text, is_http_scheme}
+use Rattle.timemap_reader.specs.Address.{clean_byte_text, clean_text, is_http_scheme}
 use Rattle.timemap_reader.specs.declared.original.OriginalFault.TheVariants.{TooLong}
 use Rattle.timemap_reader.specs.Original.{Reading, within_limit, original_of_url, original_reading}
 use Rattle.timemap_reader.proofs.Escapes.{clean_text_is, clean_text_clean, clean_text_nonempty}
+use Rattle.memento_time.specs.Text.{is_clean_byte}
 
 -- ---- a host in clean bytes is read as the host
 
@@ -113,12 +115,9 @@ no_default : default_port (codes "x") ≡ None
 unfolding default_port
 no_default = refl
 
-none_some : (n : ℕ) → None ≡ Some n → ⊥
-none_some n e = cc
-
 port_fits : (scheme : List ℕ) (port : Option ℕ) → IsPortOf scheme port → IsPortOf (codes "x") port
 port_fits scheme None valid = tt
-port_fits scheme (Some n) valid = (valid.0, λ e. none_some n (sym no_default ∙ e))
+port_fits scheme (Some n) valid = (valid.0, λ e. none-some n (sym no_default ∙ e))
 
 cannot : (h : List ℕ) (kind : SchemeType) → is_empty h ≡ false → kind ≡ NotSpecial → (not (not (is_empty h)) || is_file kind) ≡ true → ⊥
 cannot h kind some is e = let other : (not (not (is_empty h)) || is_file kind) ≡ false = rw (some, is) refl in true≢false (sym e ∙ other)

@@ -2,24 +2,16 @@
 use Rattle.std.proofs.Common.{◌≡◌, ℕ, suc, zero, Bool, true, false, not, ◌&&◌, ◌||◌, List, [], ◌∷◌, ◌++◌, length, cond, refl, sym, ap, subst, ◌∙◌}
 use Rattle.std.specs.Prelude.{bytes_eq, filter, slice_get, slice_set, Some}
 use Rattle.std.proofs.Math.Bool.{or-false}
-use Rattle.std.proofs.lemmas.Bool.{and_parts, or_parts, true≢false}
+use Rattle.std.proofs.lemmas.Bool.{and_parts, or_parts, true≢false, false_from_ne_true, not-true}
 use Rattle.std.proofs.lemmas.Slice.Eq.{bytes_eq-Decides}
 use Rattle.std.proofs.lemmas.List.Folds.{list_any-append}
 use Rattle.wish_list.specs.declared.queue.Wish.{Wish}
 use Rattle.wish_list.specs.Queue.{are_distinct, granted, is_of, isnt_of, stands}
 
-false_unless : (b : Bool) → (b ≡ true → ⊥) → b ≡ false
-false_unless true h = absurd (h refl)
-false_unless false h = refl
-
 -- two texts that differ do so in either order
 apart : (x y : List ℕ) → bytes_eq y x ≡ false → bytes_eq x y ≡ false
-apart x y h = false_unless (bytes_eq x y) (λ t. true≢false
+apart x y h = false_from_ne_true (bytes_eq x y) (λ t. true≢false
     (sym ((bytes_eq-Decides y x).1 (sym ((bytes_eq-Decides x y).0 t))) ∙ h))
-
-not_true : (b : Bool) → not b ≡ true → b ≡ false
-not_true true h = sym h
-not_true false h = refl
 
 both_true : (a b : Bool) → a ≡ false → b ≡ true → (not a && b) ≡ true
 both_true a b h k = ap (λ a. not a && b) h ∙ k
@@ -32,7 +24,7 @@ append_distinct (x ∷ xs) w h new =
     let other = or_parts (bytes_eq w.original x.original) (stands xs w.original) new in
     both_true (stands (xs ++ w ∷ []) x.original) (are_distinct (xs ++ w ∷ []))
     (list_any-append (is_of x.original) xs (w ∷ [])
-    ∙ (ap (λ b. b || (bytes_eq x.original w.original || false)) (not_true (stands xs x.original) first.0)
+    ∙ (ap (λ b. b || (bytes_eq x.original w.original || false)) (not-true (stands xs x.original) first.0)
     ∙ (or-false (bytes_eq x.original w.original) ∙ apart x.original w.original other.0)))
     (append_distinct xs w first.1 other.1)
 
@@ -75,6 +67,6 @@ filter_distinct p (x ∷ xs) h =
     let parts = and_parts (not (stands xs x.original)) (are_distinct xs) h in
     let rest : are_distinct (filter p xs) ≡ true = filter_distinct p xs parts.1 in
     elim (p x) as (λ b. are_distinct (cond b (x ∷ filter p xs) (filter p xs)) ≡ true) [
-      | true ↦ both_true (stands (filter p xs) x.original) (are_distinct (filter p xs)) (stands_less p xs x.original (not_true (stands xs x.original) parts.0)) rest
+      | true ↦ both_true (stands (filter p xs) x.original) (are_distinct (filter p xs)) (stands_less p xs x.original (not-true (stands xs x.original) parts.0)) rest
       | false ↦ rest
     ]

@@ -1,7 +1,7 @@
 -- How often archives are asked.
 use Rattle.std.proofs.Common.{◌≡◌, ◌⊎◌, ℕ, suc, zero, ◌+◌, Bool, true, false, List, [], ◌∷◌, refl, sym, ap, inl, inr, arith, map}
 use Rattle.std.specs.Prelude.{◌==◌, Option, Some, None, slice_get, slice_set, if◌then◌else◌}
-use Rattle.std.proofs.lemmas.Bool.{true≢false, cases_eq}
+use Rattle.std.proofs.lemmas.Bool.{true≢false, cases_eq, false_from_ne_true}
 use Rattle.std.proofs.lemmas.Bool.Decides.{Decides-eqb}
 use Rattle.wish_list.specs.declared.stages.Stage.{Stage}
 use Rattle.wish_list.specs.declared.stages.Stage.TheVariants.{Waits, Out, Has, HasNone, Failed, Skipped, Spared}
@@ -68,12 +68,8 @@ was (x ∷ xs) (suc archive) test n each h = was xs archive test n each h
 eqb_true : (a b : ℕ) → a ≡ b → (a == b) ≡ true
 eqb_true a b e = (Decides-eqb a b).1 e
 
-false_unless : (b : Bool) → (b ≡ true → ⊥) → b ≡ false
-false_unless true h = absurd (h refl)
-false_unless false h = refl
-
 eqb_false : (a b : ℕ) → (a ≡ b → ⊥) → (a == b) ≡ false
-eqb_false a b ne = false_unless (a == b) (λ t. ne ((Decides-eqb a b).0 t))
+eqb_false a b ne = false_from_ne_true (a == b) (λ t. ne ((Decides-eqb a b).0 t))
 
 asks_same : (a b : ℕ) → a ≡ b → asks a (Asks b) ≡ 1
 asks_same a b e = ap (λ (t : Bool). if t then 1 else 0) (eqb_true a b e)

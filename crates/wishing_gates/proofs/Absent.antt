@@ -4,7 +4,7 @@ use Rattle.std.specs.Prelude.{MatchOption, if◌then◌else◌}
 use Rattle.std.specs.List.{list_any}
 use Rattle.std.specs.Ordering.{eq_by_cmp}
 use Rattle.std.specs.FinMap.{contains_key-keys}
-use Rattle.std.proofs.lemmas.Bool.{true≢false}
+use Rattle.std.proofs.lemmas.Bool.{true≢false, false_from_ne_true}
 use Rattle.std.proofs.lemmas.Bool.Decides.{Decides-eqb}
 use Rattle.std.proofs.lemmas.Option.{none-some}
 use Rattle.memento_time.specs.Mementos.{memento_cmp}
@@ -21,14 +21,8 @@ use Rattle.timegate.specs.declared.route.Route.{Route}
 use Rattle.timegate.specs.declared.route.Route.TheVariants.{BadMethod, State, Delta, NoRoute, BadOriginal, BadDatetime, TimeGate, TimeMap, Page}
 use Rattle.timegate.specs.Route.{route_of}
 use Rattle.timegate.specs.Reply.{reply_at, reply_of, redirect, timemap, choice_at}
+use Rattle.timegate.proofs.Replies.{nothing_in}
 use Rattle.wishing_gates.specs.Asked.{IsAbsentWhereNothingIsShown, asked_in, is_page, list_in}
-
--- nothing is shown where no memento can be chosen
-nothing_in : (ms : Mementos) (m : Memento) → set.items ms ≡ [] → ¬ (set.contains ms m ≡ true)
-nothing_in ms m none held =
-    let found : list_any (eq_by_cmp memento_cmp m) (set.items ms) ≡ true = sym (contains_key-keys ms m) ∙ held in
-    let lost : list_any (eq_by_cmp memento_cmp m) [] ≡ true = subst (λ (xs : List Memento). list_any (eq_by_cmp memento_cmp m) xs ≡ true) none found in
-    absurd (true≢false (sym lost))
 
 -- a memento can be chosen exactly where one is shown
 chosen : (ms : Mementos) (asked : Option ℕ) → MatchOption (choice_at ms asked) (set.items ms ≡ []) (λ m. set.contains ms m ≡ true)
@@ -47,10 +41,6 @@ gate_absent : (base : List ℕ) (q : Request) (original : List ℕ) (ms : Mement
 gate_absent base q original ms None none = (λ _. none, λ _. refl)
 gate_absent base q original ms (Some m) there = (λ status. absurd (omega (arith, status)), λ none. absurd (nothing_in ms m none there))
 
-false_unless : (b : Bool) → (b ≡ true → ⊥) → b ≡ false
-false_unless true h = absurd (h refl)
-false_unless false h = refl
-
 found : (b : Bool) (x y : Reply) → b ≡ false → y.status ≡ 200 → (if b then x else y).status ≡ 404 → ⊥
 found true x y is other status = true≢false is
 found false x y is other status = omega (arith, other, status)
@@ -58,7 +48,7 @@ found false x y is other status = omega (arith, other, status)
 list_absent : (base : List ℕ) (q : Request) (original : List ℕ) (ms : List Memento) → ((timemap base q original ms).status ≡ 404) ↔ (ms ≡ [])
 list_absent base q original [] = (λ _. refl, λ _. refl)
 list_absent base q original (m ∷ ms) = (
-  λ status. absurd (found (length (m ∷ ms) == 0) _ _ (false_unless (length (m ∷ ms) == 0)
+  λ status. absurd (found (length (m ∷ ms) == 0) _ _ (false_from_ne_true (length (m ∷ ms) == 0)
       (λ t. let e = (Decides-eqb (length (m ∷ ms)) 0).0 t in omega (arith, e))) refl status),
   λ none. absurd (let n = ap (λ (xs : List Memento). length xs) none in omega (arith, n)),
 )

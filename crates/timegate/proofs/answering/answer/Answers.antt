@@ -1,6 +1,7 @@
 use Rattle.std.proofs.Common.{◌≡◌, subst, Result, Ok, Err}
 use Rattle.std.specs.Prelude.{IfOk, OnOk}
 use Rattle.harvest_lattice.specs.Knowledge.{shown_of}
+use Rattle.harvest_lattice.proofs.Outcomes.{on_ok_always}
 use Rattle.memento_time.specs.declared.faults.NoMemory.{NoMemory}
 use Rattle.timegate.specs.declared.reply.Reply.{Reply}
 use Rattle.timegate.specs.declared.route.Route.{Route}
@@ -22,9 +23,5 @@ returns-clause-knowledge c = λ known is taken. known_reply c.args.service.now c
 pub returns-clause-deltas : goal.returns-clause-deltas
 returns-clause-deltas c = λ cursor is. delta_reply c.args.service.now c.args.stamped.now c.args.request.now c.reply_at.result cursor is (returns-clause-state c)
 
-on_ok : {P : Type 0} (result : Result Reply NoMemory) → P → OnOk result P
-on_ok (Ok answer) p = p
-on_ok (Err fault) p = tt
-
 pub returns-clause-served : goal.returns-clause-served
-returns-clause-served c = on_ok c.reply_at.result (asked_served c.args.service.now c.in_ok-route.route (route_of c.args.request.now) c.in_ok-route.ensures.route c.in_ok-route.ensures.kept)
+returns-clause-served c = on_ok_always c.reply_at.result (asked_served c.args.service.now c.in_ok-route.route (route_of c.args.request.now) c.in_ok-route.ensures.route c.in_ok-route.ensures.kept)

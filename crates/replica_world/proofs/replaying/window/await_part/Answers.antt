@@ -1,6 +1,7 @@
 use Rattle.std.proofs.KnownBytes.{Keeps-refl}
+use Rattle.std.proofs.lemmas.Result.{on_ok_weaker}
 use Rattle.replica_world.proofs.Ends.{none_behind}
-use Rattle.replica_world.proofs.Windows.{skips_on, reads_on_on, reads_dropped, on_ok}
+use Rattle.replica_world.proofs.Windows.{skips_on, reads_on_on, reads_dropped}
 use Rattle.replica_world.proofs.replaying.window.await_part.Goals as goal
 
 pub returns-then-has_whole-clause-on : goal.returns-then-has_whole-clause-on
@@ -20,4 +21,4 @@ returns-clause-reader g c = λ begun read. c.read_part.ensures.reader begun (rea
 
 pub returns-clause-on : goal.returns-clause-on
 returns-clause-on g c =
-    on_ok c.read_part.result (λ on. reads_on_on _ _ _ _ _ _ (skips_on _ _ _ c.skip_empty_lines.ensures.drops c.skip_empty_lines.ensures.bytes) on) c.read_part.ensures.on
+    on_ok_weaker c.read_part.result (λ on. reads_on_on _ _ _ _ _ _ (skips_on _ _ _ c.skip_empty_lines.ensures.drops c.skip_empty_lines.ensures.bytes) on) c.read_part.ensures.on
