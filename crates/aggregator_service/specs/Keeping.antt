@@ -23,7 +23,7 @@ abbrev pub Starts : MergerView → MergerView → Type 0
 Starts m n = (states : List Entries) × ((n ≡ with_publish (with_states m states)) ⊎ TakesSome m states n)
 
 -- What a publish makes of it: what was appended waits for one that succeeds, and is then to be kept.
-abbrev pub noted : Keeping → Bool → Bool → Keeping
-noted keeping appended true =
+abbrev pub after_publish : Keeping → Bool → Bool → Keeping
+after_publish keeping appended true =
     record keeping { is_pending = false; is_behind = keeping.is_behind || (keeping.is_pending || appended) }
-noted keeping appended false = record keeping { is_pending = keeping.is_pending || appended }
+after_publish keeping appended false = record keeping { is_pending = keeping.is_pending || appended }

@@ -4,7 +4,7 @@ ghost use Rattle.memento_index.specs.declared.merge.Merge.TheVariants.{State as 
 ghost use Rattle.published_index.specs.Cursors.{with_publish};
 ghost use Rattle.published_index.specs.Events.{RunsAsEvents};
 ghost use Rattle.aggregator_service.specs.Dues.{IsDue};
-ghost use Rattle.aggregator_service.specs.Keeping.{noted, with_states, Starts, TakesSome};
+ghost use Rattle.aggregator_service.specs.Keeping.{after_publish, with_states, Starts, TakesSome};
 
 use crate::dues::Due;
 use crate::lines::{Line, SnapshotEnd};
@@ -49,7 +49,7 @@ impl Keeping {
 
     /// Notes what a publish came to, and whether something was appended before it.
     pub(crate) fn note_publish(&mut self, is_appended: bool, is_published: bool)
-        ensures { self.new ≡ noted self.old is_appended is_published }
+        ensures { self.new ≡ after_publish self.old is_appended is_published }
     {
         self.is_pending = self.is_pending || is_appended;
         if is_published {

@@ -1,6 +1,6 @@
 //! What a round notes of its walks, for the log.
 ghost use Rattle.std.specs.Prelude.{◌≡◌, ◌<◌, IfErr, IfSome, Some};
-ghost use Rattle.aggregator_service.specs.Notes.{IsFirst, counted, counts_words};
+ghost use Rattle.aggregator_service.specs.Notes.{IsFirst, counts_after, counts_words};
 
 use crate::lines::{Cause, Line, Matter, Want, name_text};
 use crate::logs::Log;
@@ -32,7 +32,7 @@ impl Counts {
 
     /// The counts with one more walk.
     fn with(self, walked: &Result<Harvest, WalkFault>) -> Counts
-        ensures { result ≡ counted self walked.now }
+        ensures { result ≡ counts_after self walked.now }
     {
         let walks = self.walks.saturating_add(1);
         match walked {
@@ -91,7 +91,7 @@ pub(crate) struct Noted {
 impl Noted {
     /// Takes in a walk that began at this URL.
     fn add(&mut self, url: &Clean, walked: &Result<Harvest, WalkFault>)
-        ensures counts { self.new.counts ≡ counted self.old.counts walked.now }
+        ensures counts { self.new.counts ≡ counts_after self.old.counts walked.now }
         ensures first { self.old.counts.failed ≡ 0
             → IfErr walked.now (λ fault. IfSome self.new.first (IsFirst url.now fault)) }
         ensures kept { 0 < self.old.counts.failed → self.new.first ≡ self.old.first }

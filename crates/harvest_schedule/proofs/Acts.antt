@@ -4,8 +4,8 @@ use Rattle.std.proofs.lemmas.Option.{same_Some, none-some}
 use Rattle.harvest_schedule.specs.declared.moods.Limits.{Limits}
 use Rattle.harvest_schedule.specs.Moods.{comes_again}
 use Rattle.harvest_schedule.specs.Standing.{Standing, walks}
-use Rattle.harvest_schedule.specs.Lanes.{advanced, advanced_by, job_by, without}
-use Rattle.harvest_schedule.specs.Steps.{Act, Begun, Can, Ended, Handed, Passed, WalkBegun, WalkEnded, changed}
+use Rattle.harvest_schedule.specs.Lanes.{after_advance, advanced_by, job_by, without}
+use Rattle.harvest_schedule.specs.Steps.{Act, Begun, Can, Ended, Handed, Passed, WalkBegun, WalkEnded, after_act}
 use Rattle.harvest_schedule.specs.Runs.{IsOfRound, begins, comes, count_of, ends, finishes, hands, one_if, passes, settles}
 use Rattle.harvest_schedule.proofs.Counts.{below, below_next, count_cons, count_push, count_without, length_without}
 
@@ -59,7 +59,7 @@ advances_by k original (x ∷ rest) s is job =
       grows = omega arith;
     }
 
-pub advances : (k original : ℕ) (s : Standing) → job_by s.again s.next s.originals ≡ Some original → Advances k original s (advanced s)
+pub advances : (k original : ℕ) (s : Standing) → job_by s.again s.next s.originals ≡ Some original → Advances k original s (after_advance s)
 advances k original s job = advances_by k original s.again s refl job
 
 -- ---- the jobs of a round
@@ -92,9 +92,9 @@ known_by : (b : Bool) (k o : ℕ) (out : List ℕ) → Contains out o → (if b 
 known_by true k o out has = (let w = count_without k o out has in omega (arith, w))
 known_by false k o out has = omega arith
 
-pub moves : (limits : Limits) (k : ℕ) (act : Act) (s : Standing) → IsOfRound act → Can act s → Moves limits k act s (changed limits act s)
+pub moves : (limits : Limits) (k : ℕ) (act : Act) (s : Standing) → IsOfRound act → Can act s → Moves limits k act s (after_act limits act s)
 moves limits k (Handed now original) s within can =
-    let a : Advances k original s (advanced s) = advances k original s can.1 in
+    let a : Advances k original s (after_advance s) = advances k original s can.1 in
     let p = count_push k original s.out in
     let c = a.counts in
     let g = a.again in
@@ -108,9 +108,9 @@ moves limits k (Handed now original) s within can =
       grows = n;
     }
 moves limits k (Passed original) s within can =
-    let a : Advances k original s (advanced s) = advances k original s can in
+    let a : Advances k original s (after_advance s) = advances k original s can in
     let c = a.counts in
-    let o : count_of k (advanced s).out ≡ count_of k s.out = ap (count_of k) a.out in
+    let o : count_of k (after_advance s).out ≡ count_of k s.out = ap (count_of k) a.out in
     let g = a.again in
     let n = a.grows in
     record {
@@ -157,17 +157,17 @@ pub record Walks (act : Act) (s t : Standing) : Type 0 where
   pub balance : begins act + walks s ≡ finishes act + walks t
   pub few : walks s ≤ s.pace.at_once → walks t ≤ s.pace.at_once
 
-pub walks_by : (limits : Limits) (act : Act) (s : Standing) → Can act s → Walks act s (changed limits act s)
+pub walks_by : (limits : Limits) (act : Act) (s : Standing) → Can act s → Walks act s (after_act limits act s)
 walks_by limits (Handed now original) s can =
-    let a : Advances 0 original s (advanced s) = advances 0 original s can.1 in
+    let a : Advances 0 original s (after_advance s) = advances 0 original s can.1 in
     let w = a.wished in
     let l = length-append s.out (original ∷ []) in
     let f = can.0.may.few in
     record { pace = a.pace; balance = omega (arith, w, l); few = λ h. omega (arith, w, l, f) }
 walks_by limits (Passed original) s can =
-    let a : Advances 0 original s (advanced s) = advances 0 original s can in
+    let a : Advances 0 original s (after_advance s) = advances 0 original s can in
     let w = a.wished in
-    let l : length (advanced s).out ≡ length s.out = ap length a.out in
+    let l : length (after_advance s).out ≡ length s.out = ap length a.out in
     record { pace = a.pace; balance = omega (arith, w, l); few = λ h. omega (arith, w, l, h) }
 walks_by limits (Ended now original verdict) s can =
     let l = length_without original s.out can in

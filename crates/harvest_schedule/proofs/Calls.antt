@@ -5,14 +5,14 @@ use Rattle.std.proofs.lemmas.Option.{slice_get_read, same_Some}
 use Rattle.std.proofs.lemmas.Bool.{true≢false, false≢true}
 use Rattle.harvest_schedule.specs.declared.moods.Limits.{Limits}
 use Rattle.harvest_schedule.specs.Standing.{Standing}
-use Rattle.harvest_schedule.specs.Steps.{Act, Answers, Can, changed}
+use Rattle.harvest_schedule.specs.Steps.{Act, Answers, Can, after_act}
 
 read : (xs : List Standing) (archive : ℕ) (s : Standing) → archive < length xs → s ≡ get_or xs archive s → slice_get xs archive ≡ Some s
 read xs archive s within is = slice_get_read xs (length xs) archive s refl within is
 
 -- the lane of the archive answers for it
 pub told : (b : Bool) (limits : Limits) (archive : ℕ) (act : Act) (xs : List Standing) (s next : Standing) → archive < length xs
-    → s ≡ get_or xs archive s → (IsTrue b ↔ Can act s) → next ≡ (if b then changed limits act s else s)
+    → s ≡ get_or xs archive s → (IsTrue b ↔ Can act s) → next ≡ (if b then after_act limits act s else s)
     → Answers limits archive act b xs (slice_set xs archive next)
 told true limits archive act xs s next within is can after = record {
   yes = λ _. record {

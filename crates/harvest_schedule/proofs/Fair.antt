@@ -7,7 +7,7 @@ use Rattle.harvest_schedule.specs.declared.moods.Pace.{Pace}
 use Rattle.harvest_schedule.specs.Moods.{SleepsAt}
 use Rattle.harvest_schedule.specs.Standing.{Standing, walks}
 use Rattle.harvest_schedule.specs.Lanes.{fresh, job_by, job_of}
-use Rattle.harvest_schedule.specs.Steps.{Act, changed}
+use Rattle.harvest_schedule.specs.Steps.{Act, after_act}
 use Rattle.harvest_schedule.specs.Runs.{AllFair, AllFew, AllRest, HasBegun, IsFair, IsOneRound, Leads, begins, comes, count_of, ends, finishes, hands, passes, settles, times}
 use Rattle.harvest_schedule.proofs.Acts.{Moves, Walks, moves, walks_by}
 use Rattle.harvest_schedule.proofs.Counts.{below, below_no, below_yes, one_if_le}
@@ -71,8 +71,8 @@ one_more limits k act acts s n t m r =
 sums : (limits : Limits) (k : ℕ) (acts : List Act) (s t : Standing) → IsOneRound acts → Leads limits acts s t → Sums limits k acts s t
 sums limits k [] s t one leads = subst (Sums limits k [] s) (sym leads) (none_done limits k s)
 sums limits k (act ∷ acts) s t one leads =
-    one_more limits k act acts s (changed limits act s) t (moves limits k act s one.0 leads.0)
-    (sums limits k acts (changed limits act s) t one.1 leads.1)
+    one_more limits k act acts s (after_act limits act s) t (moves limits k act s one.0 leads.0)
+    (sums limits k acts (after_act limits act s) t one.1 leads.1)
 
 -- what they do from the beginning of the round
 record FromBegin (limits : Limits) (k : ℕ) (acts : List Act) (t : Standing) : Type 0 where
@@ -159,7 +159,7 @@ outs : (limits : Limits) (acts : List Act) (s t : Standing) → Leads limits act
 outs limits [] s t leads =
     subst (Out [] s) (sym leads) (record { pace = refl; balance = omega arith; few = λ h. h })
 outs limits (act ∷ acts) s t leads =
-    let n : Standing = changed limits act s in
+    let n : Standing = after_act limits act s in
     let w : Walks act s n = walks_by limits act s leads.0 in
     let r : Out acts n t = outs limits acts n t leads.1 in
     let wb = w.balance in

@@ -7,8 +7,8 @@ use Rattle.std.proofs.lemmas.List.{get_or-set_same, get_or-set_other}
 use Rattle.std.proofs.lemmas.Option.{get_or_from_slice_get, slice_get-map, slice_get_read, slice_get_within, same_Some}
 use Rattle.harvest_schedule.specs.declared.moods.Limits.{Limits}
 use Rattle.harvest_schedule.specs.Standing.{Standing}
-use Rattle.harvest_schedule.specs.Lanes.{begun}
-use Rattle.harvest_schedule.specs.Steps.{Act, Can, Does, changed}
+use Rattle.harvest_schedule.specs.Lanes.{after_begin}
+use Rattle.harvest_schedule.specs.Steps.{Act, Can, Does, after_act}
 use Rattle.harvest_schedule.specs.Runs.{Begins, Call, EachIsLed, Leads, Of, acts_of}
 
 get_set : (xs : List Standing) (i : ℕ) (x : Standing) → i < length xs → slice_get (slice_set xs i x) i ≡ Some x
@@ -36,21 +36,21 @@ acts_other archive other act calls n = (let t : (other == archive) ≡ false = g
 
 -- the standing that a call wrote is that of the archive
 written : (limits : Limits) (archive other : ℕ) (act : Act) (old new : List Standing) (s : Standing) → other ≡ archive
-    → slice_get old archive ≡ Some s → Does limits other act old new → Can act s × (slice_get new archive ≡ Some (changed limits act s))
+    → slice_get old archive ≡ Some s → Does limits other act old new → Can act s × (slice_get new archive ≡ Some (after_act limits act s))
 written limits archive other act old new s same at does =
     let is : does.standing ≡ s = same_Some does.standing s (sym does.at ∙ (ap (slice_get old) same ∙ at)) in (
       subst (Can act) is does.can,
-      subst (λ (x : Standing). slice_get new archive ≡ Some (changed limits act x)) is
-          (subst (λ k. slice_get new k ≡ Some (changed limits act does.standing)) same
-          (subst (λ xs. slice_get xs other ≡ Some (changed limits act does.standing)) (sym does.standings)
-          (get_set old other (changed limits act does.standing) (slice_get_within old other does.standing does.at)))),
+      subst (λ (x : Standing). slice_get new archive ≡ Some (after_act limits act x)) is
+          (subst (λ k. slice_get new k ≡ Some (after_act limits act does.standing)) same
+          (subst (λ xs. slice_get xs other ≡ Some (after_act limits act does.standing)) (sym does.standings)
+          (get_set old other (after_act limits act does.standing) (slice_get_within old other does.standing does.at)))),
     )
 
 unwritten : (limits : Limits) (archive other : ℕ) (act : Act) (old new : List Standing) (s : Standing) → archive ≢ other
     → slice_get old archive ≡ Some s → Does limits other act old new → slice_get new archive ≡ Some s
 unwritten limits archive other act old new s apart at does =
     subst (λ xs. slice_get xs archive ≡ Some s) (sym does.standings)
-    (get_set_other old other archive (changed limits act does.standing) s apart at)
+    (get_set_other old other archive (after_act limits act does.standing) s apart at)
 
 pub each_is_led : EachIsLed
 each_is_led limits [] old new archive s t runs at_old at_new =
@@ -60,13 +60,13 @@ each_is_led limits (Of other act ∷ calls) old new archive s t runs at_old at_n
     (λ (same : other ≡ archive).
     let w = written limits archive other act old runs.0 s same at_old runs.1 in
     subst (λ acts. Leads limits acts s t) (acts_same archive other act calls same)
-    (w.0, each_is_led limits calls runs.0 new archive (changed limits act s) t runs.2 w.1 at_new))
+    (w.0, each_is_led limits calls runs.0 new archive (after_act limits act s) t runs.2 w.1 at_new))
     (λ (apart : archive ≢ other).
     subst (λ acts. Leads limits acts s t) (acts_other archive other act calls apart)
     (each_is_led limits calls runs.0 new archive s t runs.2 (unwritten limits archive other act old runs.0 s apart at_old runs.1) at_new))
     (same_or_other other archive)
 each_is_led limits (Begins originals ∷ calls) old new archive s t runs at_old at_new = (
   runs.1.0 archive s at_old,
-  each_is_led limits calls runs.0 new archive (begun originals s) t runs.2
-      (ap (λ xs. slice_get xs archive) runs.1.1 ∙ (slice_get-map (begun originals) old archive ∙ ap (option_map (begun originals)) at_old)) at_new,
+  each_is_led limits calls runs.0 new archive (after_begin originals s) t runs.2
+      (ap (λ xs. slice_get xs archive) runs.1.1 ∙ (slice_get-map (after_begin originals) old archive ∙ ap (option_map (after_begin originals)) at_old)) at_new,
 )

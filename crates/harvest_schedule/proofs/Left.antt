@@ -5,8 +5,8 @@ use Rattle.std.proofs.lemmas.Option.{none-some}
 use Rattle.harvest_schedule.specs.declared.moods.Limits.{Limits}
 use Rattle.harvest_schedule.specs.Moods.{comes_again}
 use Rattle.harvest_schedule.specs.Standing.{Standing}
-use Rattle.harvest_schedule.specs.Lanes.{advanced, advanced_by, job_by, left_of, without}
-use Rattle.harvest_schedule.specs.Steps.{Act, Begun, Can, Ended, Handed, Passed, WalkBegun, WalkEnded, changed}
+use Rattle.harvest_schedule.specs.Lanes.{after_advance, advanced_by, job_by, left_of, without}
+use Rattle.harvest_schedule.specs.Steps.{Act, Begun, Can, Ended, Handed, Passed, WalkBegun, WalkEnded, after_act}
 use Rattle.harvest_schedule.specs.Runs.{AllCounted, IsOfRound, IsOneRound, Leads, closes, times}
 use Rattle.harvest_schedule.proofs.Acts.{Advances, advances}
 use Rattle.harvest_schedule.proofs.Counts.{length_without}
@@ -35,16 +35,16 @@ ended_by true original out again n has =
     (let l = length_without original out has in let a = length-append again (original ∷ []) in omega (arith, l, a))
 ended_by false original out again n has = (let l = length_without original out has in omega (arith, l))
 
-closes_by : (limits : Limits) (act : Act) (s : Standing) → IsOfRound act → Can act s → Closes limits act s (changed limits act s)
+closes_by : (limits : Limits) (act : Act) (s : Standing) → IsOfRound act → Can act s → Closes limits act s (after_act limits act s)
 closes_by limits (Handed now original) s within can =
-    let a : Advances 0 original s (advanced s) = advances 0 original s can.1 in
-    let l : left_of (advanced s) + 1 ≡ left_of s = left_by original s.again s refl can.1 in
+    let a : Advances 0 original s (after_advance s) = advances 0 original s can.1 in
+    let l : left_of (after_advance s) + 1 ≡ left_of s = left_by original s.again s refl can.1 in
     let p = length-append s.out (original ∷ []) in
     record { originals = a.originals; balance = omega (arith, l, p) }
 closes_by limits (Passed original) s within can =
-    let a : Advances 0 original s (advanced s) = advances 0 original s can in
-    let l : left_of (advanced s) + 1 ≡ left_of s = left_by original s.again s refl can in
-    let o : length (advanced s).out ≡ length s.out = ap length a.out in
+    let a : Advances 0 original s (after_advance s) = advances 0 original s can in
+    let l : left_of (after_advance s) + 1 ≡ left_of s = left_by original s.again s refl can in
+    let o : length (after_advance s).out ≡ length s.out = ap length a.out in
     record { originals = a.originals; balance = omega (arith, l, o) }
 closes_by limits (Ended now original verdict) s within can =
     record { originals = refl; balance = ended_by (comes_again limits verdict) original s.out s.again (s.originals - s.next) can }
@@ -69,8 +69,8 @@ one_more limits act acts s n t c r =
 closed : (limits : Limits) (acts : List Act) (s t : Standing) → IsOneRound acts → Leads limits acts s t → Closed limits acts s t
 closed limits [] s t one leads = subst (Closed limits [] s) (sym leads) (none_closed limits s)
 closed limits (act ∷ acts) s t one leads =
-    one_more limits act acts s (changed limits act s) t (closes_by limits act s one.0 leads.0)
-    (closed limits acts (changed limits act s) t one.1 leads.1)
+    one_more limits act acts s (after_act limits act s) t (closes_by limits act s one.0 leads.0)
+    (closed limits acts (after_act limits act s) t one.1 leads.1)
 
 pub all_counted : AllCounted
 all_counted limits acts s t begun one leads =

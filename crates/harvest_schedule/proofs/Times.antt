@@ -11,8 +11,8 @@ use Rattle.harvest_schedule.specs.declared.moods.Verdict.{Verdict}
 use Rattle.harvest_schedule.specs.declared.moods.Verdict.TheVariants.{Answered, Failed, Unknown, Busy}
 use Rattle.harvest_schedule.specs.Moods as moods
 use Rattle.harvest_schedule.specs.Standing.{Standing}
-use Rattle.harvest_schedule.specs.Lanes.{MayWalk, advanced}
-use Rattle.harvest_schedule.specs.Steps.{Act, Begun, Can, Ended, Handed, Passed, WalkBegun, WalkEnded, changed}
+use Rattle.harvest_schedule.specs.Lanes.{MayWalk, after_advance}
+use Rattle.harvest_schedule.specs.Steps.{Act, Begun, Can, Ended, Handed, Passed, WalkBegun, WalkEnded, after_act}
 use Rattle.harvest_schedule.specs.Runs.{AllHeeded, AllPaced, AllTried, AllWait, AreLeft, AreNoEnds, AreQuiet, IsAsked, IsBusy, IsLeft, IsMet, IsNoEnd, IsQuiet, Leads, WaitsUntil}
 use Rattle.harvest_schedule.proofs.Acts.{Advances, advances}
 
@@ -37,14 +37,14 @@ record Rests (s t : Standing) : Type 0 where
   pace : t.pace ≡ s.pace
   rest : s.rest ≤ t.rest
 
-rests_by : (limits : Limits) (act : Act) (s : Standing) → Can act s → Rests s (changed limits act s)
+rests_by : (limits : Limits) (act : Act) (s : Standing) → Can act s → Rests s (after_act limits act s)
 rests_by limits (Handed now original) s can =
-    let a : Advances 0 original s (advanced s) = advances 0 original s can.1 in
+    let a : Advances 0 original s (after_advance s) = advances 0 original s can.1 in
     let e = a.rest in
-    let g = rest_grows (advanced s).pace now (advanced s).rest in
+    let g = rest_grows (after_advance s).pace now (after_advance s).rest in
     record { pace = a.pace; rest = omega (arith, e, g) }
 rests_by limits (Passed original) s can =
-    let a : Advances 0 original s (advanced s) = advances 0 original s can in
+    let a : Advances 0 original s (after_advance s) = advances 0 original s can in
     let e = a.rest in
     record { pace = a.pace; rest = omega (arith, e) }
 rests_by limits (Ended now original verdict) s can = record { pace = refl; rest = rest_grows s.pace now s.rest }
@@ -55,17 +55,17 @@ rests_by limits (Begun originals) s can = record { pace = refl; rest = omega ari
 rests : (limits : Limits) (acts : List Act) (s t : Standing) → Leads limits acts s t → s.rest ≤ t.rest
 rests limits [] s t leads = subst (λ (t : Standing). s.rest ≤ t.rest) (sym leads) (omega arith)
 rests limits (act ∷ acts) s t leads =
-    let r : Rests s (changed limits act s) = rests_by limits act s leads.0 in
+    let r : Rests s (after_act limits act s) = rests_by limits act s leads.0 in
     let a = r.rest in
-    let b = rests limits acts (changed limits act s) t leads.1 in
+    let b = rests limits acts (after_act limits act s) t leads.1 in
     omega (arith, a, b)
 
 met_rests : (limits : Limits) (act : Act) (s : Standing) (before : ℕ) → 0 < s.pace.every → IsMet before act → Can act s
-    → moods.later before s.pace.every ≤ (changed limits act s).rest
+    → moods.later before s.pace.every ≤ (after_act limits act s).rest
 met_rests limits (Handed now original) s before some met can =
-    let a : Advances 0 original s (advanced s) = advances 0 original s can.1 in
-    let every : (advanced s).pace.every ≡ s.pace.every = ap (λ (p : Pace). p.every) a.pace in
-    let w = rest_waits (advanced s).pace now (advanced s).rest (omega (arith, some, every)) in
+    let a : Advances 0 original s (after_advance s) = advances 0 original s can.1 in
+    let every : (after_advance s).pace.every ≡ s.pace.every = ap (λ (p : Pace). p.every) a.pace in
+    let w = rest_waits (after_advance s).pace now (after_advance s).rest (omega (arith, some, every)) in
     omega (arith, w, every, met)
 met_rests limits (Passed original) s before some met can = absurd met
 met_rests limits (Ended now original verdict) s before some met can = (let w = rest_waits s.pace now s.rest some in omega (arith, w, met))
@@ -92,7 +92,7 @@ asks now (Begun originals) s asked can = absurd asked
 pub all_paced : AllPaced
 all_paced limits met asking acts s t before now some is_met leads asked can =
     let a = met_rests limits met s before some is_met leads.0 in
-    let b = rests limits acts (changed limits met s) t leads.1 in
+    let b = rests limits acts (after_act limits met s) t leads.1 in
     let r : Asks now t = asks now asking t asked can in
     let c = r.rested in
     omega (arith, a, b, c)
@@ -128,10 +128,10 @@ busy_isnt : (until : ℕ) → Busy until ≡ Answered → ⊥
 busy_isnt until e = cc
 
 waits_by : (limits : Limits) (act : Act) (s : Standing) (until : ℕ) → IsQuiet act → Can act s → WaitsUntil until s.mood
-    → WaitsUntil until (changed limits act s).mood
+    → WaitsUntil until (after_act limits act s).mood
 waits_by limits (Handed now original) s until quiet can waits = absurd quiet
 waits_by limits (Passed original) s until quiet can waits =
-    let a : Advances 0 original s (advanced s) = advances 0 original s can in
+    let a : Advances 0 original s (after_advance s) = advances 0 original s can in
     subst (WaitsUntil until) (sym a.mood) waits
 waits_by limits (Ended now original Answered) s until quiet can waits = absurd quiet
 waits_by limits (Ended now original Failed) s until quiet can waits = waits_quiet limits Failed now until s.mood failed_isnt waits
@@ -148,7 +148,7 @@ waits_on : (limits : Limits) (acts : List Act) (s t : Standing) (until : ℕ) �
     → WaitsUntil until t.mood
 waits_on limits [] s t until waits quiet leads = subst (λ (t : Standing). WaitsUntil until t.mood) (sym leads) waits
 waits_on limits (act ∷ acts) s t until waits quiet leads =
-    waits_on limits acts (changed limits act s) t until (waits_by limits act s until quiet.0 leads.0 waits) quiet.1 leads.1
+    waits_on limits acts (after_act limits act s) t until (waits_by limits act s until quiet.0 leads.0 waits) quiet.1 leads.1
 
 its_time : (now until : ℕ) (mood : Mood) → WaitsUntil until mood → moods.MayAsk now mood → until ≤ now
 its_time now until (Awake failed) waits may = absurd waits
@@ -196,7 +196,7 @@ heeded_at limits now until time mood some same =
     subst (λ n. Heeds n (moods.mood_after limits (Busy time) now mood)) same (heeded_mood limits now time mood some)
 
 heeded_by : (limits : Limits) (act : Act) (s : Standing) (until : ℕ) → IsSome limits.tolerance → IsBusy until act
-    → Heeds until (changed limits act s).mood
+    → Heeds until (after_act limits act s).mood
 heeded_by limits (Handed now original) s until some busy = absurd busy
 heeded_by limits (Passed original) s until some busy = absurd busy
 heeded_by limits (Ended now original Answered) s until some busy = absurd busy
@@ -228,10 +228,10 @@ heeds_on limits (Busy asked) now until (Dormant time named) heeds =
 heeds_on limits verdict now until Probed heeds = absurd heeds
 
 heeds_by : (limits : Limits) (act : Act) (s : Standing) (until : ℕ) → IsLeft act → Can act s → Heeds until s.mood
-    → Heeds until (changed limits act s).mood
+    → Heeds until (after_act limits act s).mood
 heeds_by limits (Handed now original) s until left can heeds = absurd left
 heeds_by limits (Passed original) s until left can heeds =
-    let a : Advances 0 original s (advanced s) = advances 0 original s can in
+    let a : Advances 0 original s (after_advance s) = advances 0 original s can in
     subst (Heeds until) (sym a.mood) heeds
 heeds_by limits (Ended now original verdict) s until left can heeds = heeds_on limits verdict now until s.mood heeds
 heeds_by limits (WalkBegun now) s until left can heeds = absurd left
@@ -242,7 +242,7 @@ heeds_all : (limits : Limits) (acts : List Act) (s t : Standing) (until : ℕ) �
     → Heeds until t.mood
 heeds_all limits [] s t until heeds left leads = subst (λ (t : Standing). Heeds until t.mood) (sym leads) heeds
 heeds_all limits (act ∷ acts) s t until heeds left leads =
-    heeds_all limits acts (changed limits act s) t until (heeds_by limits act s until left.0 leads.0 heeds) left.1 leads.1
+    heeds_all limits acts (after_act limits act s) t until (heeds_by limits act s until left.0 leads.0 heeds) left.1 leads.1
 
 its_named_time : (now until : ℕ) (mood : Mood) → Heeds until mood → moods.MayAsk now mood → until ≤ now
 its_named_time now until (Awake failed) heeds may = absurd heeds
@@ -255,7 +255,7 @@ pub all_heeded : AllHeeded
 all_heeded limits busy asking acts s t until now some is_busy left leads asked can =
     let r : Asks now t = asks now asking t asked can in
     let first = heeded_by limits busy s until some is_busy in
-    its_named_time now until t.mood (heeds_all limits acts (changed limits busy s) t until first left leads.1) r.may
+    its_named_time now until t.mood (heeds_all limits acts (after_act limits busy s) t until first left leads.1) r.may
 
 -- ---- archives that one walk finds out about
 
@@ -267,14 +267,14 @@ IsFoundOut (Tried failed) = ⊤
 IsFoundOut (Dormant until named) = ⊥
 IsFoundOut Probed = ⊤
 
-found_out_first : (until : ℕ) (mood : Mood) → WaitsUntil until mood → IsFoundOut (moods.asked mood)
+found_out_first : (until : ℕ) (mood : Mood) → WaitsUntil until mood → IsFoundOut (moods.mood_once_asked mood)
 found_out_first until (Awake failed) waits = absurd waits
 found_out_first until (Aside time failed) waits = search rules
 found_out_first until (Tried failed) waits = absurd waits
 found_out_first until (Dormant time named) waits = search rules
 found_out_first until Probed waits = absurd waits
 
-found_out_on : (mood : Mood) → IsFoundOut mood → IsFoundOut (moods.asked mood)
+found_out_on : (mood : Mood) → IsFoundOut mood → IsFoundOut (moods.mood_once_asked mood)
 found_out_on (Awake failed) out = absurd out
 found_out_on (Aside time failed) out = absurd out
 found_out_on (Tried failed) out = out
@@ -282,10 +282,10 @@ found_out_on (Dormant time named) out = absurd out
 found_out_on Probed out = out
 
 tried_first : (limits : Limits) (act : Act) (s : Standing) (before : ℕ) → IsAsked before act → Can act s → WaitsUntil 0 s.mood
-    → IsFoundOut (changed limits act s).mood
+    → IsFoundOut (after_act limits act s).mood
 tried_first limits (Handed now original) s before asked can waits =
-    let a : Advances 0 original s (advanced s) = advances 0 original s can.1 in
-    subst (λ (m : Mood). IsFoundOut (moods.asked m)) (sym a.mood) (found_out_first 0 s.mood waits)
+    let a : Advances 0 original s (after_advance s) = advances 0 original s can.1 in
+    subst (λ (m : Mood). IsFoundOut (moods.mood_once_asked m)) (sym a.mood) (found_out_first 0 s.mood waits)
 tried_first limits (Passed original) s before asked can waits = absurd asked
 tried_first limits (Ended now original verdict) s before asked can waits = absurd asked
 tried_first limits (WalkBegun now) s before asked can waits = found_out_first 0 s.mood waits
@@ -293,12 +293,12 @@ tried_first limits (WalkEnded now verdict) s before asked can waits = absurd ask
 tried_first limits (Begun originals) s before asked can waits = absurd asked
 
 tried_by : (limits : Limits) (act : Act) (s : Standing) → IsNoEnd act → Can act s → IsFoundOut s.mood
-    → IsFoundOut (changed limits act s).mood
+    → IsFoundOut (after_act limits act s).mood
 tried_by limits (Handed now original) s end can out =
-    let a : Advances 0 original s (advanced s) = advances 0 original s can.1 in
-    subst (λ (m : Mood). IsFoundOut (moods.asked m)) (sym a.mood) (found_out_on s.mood out)
+    let a : Advances 0 original s (after_advance s) = advances 0 original s can.1 in
+    subst (λ (m : Mood). IsFoundOut (moods.mood_once_asked m)) (sym a.mood) (found_out_on s.mood out)
 tried_by limits (Passed original) s end can out =
-    let a : Advances 0 original s (advanced s) = advances 0 original s can in
+    let a : Advances 0 original s (after_advance s) = advances 0 original s can in
     subst IsFoundOut (sym a.mood) out
 tried_by limits (Ended now original verdict) s end can out = absurd end
 tried_by limits (WalkBegun now) s end can out = found_out_on s.mood out
@@ -309,7 +309,7 @@ tried_all : (limits : Limits) (acts : List Act) (s t : Standing) → IsFoundOut 
     → IsFoundOut t.mood
 tried_all limits [] s t out ends leads = subst (λ (t : Standing). IsFoundOut t.mood) (sym leads) out
 tried_all limits (act ∷ acts) s t out ends leads =
-    tried_all limits acts (changed limits act s) t (tried_by limits act s ends.0 leads.0 out) ends.1 leads.1
+    tried_all limits acts (after_act limits act s) t (tried_by limits act s ends.0 leads.0 out) ends.1 leads.1
 
 not_yet : (now : ℕ) (mood : Mood) → IsFoundOut mood → moods.MayAsk now mood → ⊥
 not_yet now (Awake failed) out may = absurd out
@@ -322,4 +322,4 @@ pub all_tried : AllTried
 all_tried limits first asking acts s t before now waits is_first ends leads asked can =
     let r : Asks now t = asks now asking t asked can in
     let out = tried_first limits first s before is_first leads.0 waits in
-    not_yet now t.mood (tried_all limits acts (changed limits first s) t out ends leads.1) r.may
+    not_yet now t.mood (tried_all limits acts (after_act limits first s) t out ends leads.1) r.may

@@ -22,8 +22,8 @@ fresh originals pace = record {
 }
 
 -- a new round begins, in which its list starts anew
-abbrev pub begun : ℕ → Standing → Standing
-begun originals s = record s { originals = originals; next = 0; again = [] }
+abbrev pub after_begin : ℕ → Standing → Standing
+after_begin originals s = record s { originals = originals; next = 0; again = [] }
 
 -- the job that is handed out next: one that comes again, or the next of the list
 abbrev pub job_by : List ℕ → ℕ → ℕ → Option ℕ
@@ -53,42 +53,42 @@ abbrev pub advanced_by : List ℕ → Standing → Standing
 advanced_by (original ∷ rest) s = record s { again = rest }
 advanced_by [] s = record s { next = s.next + 1 }
 
-abbrev pub advanced : Standing → Standing
-advanced s = advanced_by s.again s
+abbrev pub after_advance : Standing → Standing
+after_advance s = advanced_by s.again s
 
 -- the archive is asked at this time
-abbrev pub asked : ℕ → Standing → Standing
-asked now s = record s { mood = moods.asked s.mood; rest = moods.rest_after s.pace now s.rest }
+abbrev pub after_asking : ℕ → Standing → Standing
+after_asking now s = record s { mood = moods.mood_once_asked s.mood; rest = moods.rest_after s.pace now s.rest }
 
 -- a walk of the archive has ended at this time
-abbrev pub answered : Limits → ℕ → Verdict → Standing → Standing
-answered limits now verdict s = record s {
+abbrev pub after_answer : Limits → ℕ → Verdict → Standing → Standing
+after_answer limits now verdict s = record s {
   mood = moods.mood_after limits verdict now s.mood;
   rest = moods.rest_after s.pace now s.rest;
 }
 
 -- the next job, which is this original's, is handed out
-abbrev pub handed : ℕ → ℕ → Standing → Standing
-handed now original s = asked now (record (advanced s) { out = s.out ++ original ∷ [] })
+abbrev pub after_handing : ℕ → ℕ → Standing → Standing
+after_handing now original s = after_asking now (record (after_advance s) { out = s.out ++ original ∷ [] })
 
 -- the originals without the first place of one
 abbrev pub without : ℕ → List ℕ → List ℕ
 without original xs = remove xs (position_or_len (λ x. x == original) xs)
 
 -- the walk of an original has ended
-abbrev pub ended : Limits → ℕ → ℕ → Verdict → Standing → Standing
-ended limits now original verdict s = answered limits now verdict (record s {
+abbrev pub after_end : Limits → ℕ → ℕ → Verdict → Standing → Standing
+after_end limits now original verdict s = after_answer limits now verdict (record s {
   out = without original s.out;
   again = (if moods.comes_again limits verdict then s.again ++ original ∷ [] else s.again);
 })
 
 -- a walk beyond the list begins
 abbrev pub walk_begun : ℕ → Standing → Standing
-walk_begun now s = asked now (record s { wished = s.wished + 1 })
+walk_begun now s = after_asking now (record s { wished = s.wished + 1 })
 
 -- a walk beyond the list has ended
 abbrev pub walk_ended : Limits → ℕ → Verdict → Standing → Standing
-walk_ended limits now verdict s = answered limits now verdict (record s { wished = s.wished - 1 })
+walk_ended limits now verdict s = after_answer limits now verdict (record s { wished = s.wished - 1 })
 
 -- the round is over for the archive: no job is out, and none is left, or the archive is dormant until a later time
 pub record IsOver (now : ℕ) (s : Standing) : Type 0 where

@@ -28,12 +28,12 @@ MayAsk now (Dormant until named) = until ≤ now
 MayAsk now Probed = ⊥
 
 -- Of an archive that was put aside one walk finds out whether it is still busy, and of a dormant one whether it works.
-abbrev pub asked : Mood → Mood
-asked (Awake failed) = Awake failed
-asked (Aside until failed) = Tried failed
-asked (Tried failed) = Tried failed
-asked (Dormant until named) = Probed
-asked Probed = Probed
+abbrev pub mood_once_asked : Mood → Mood
+mood_once_asked (Awake failed) = Awake failed
+mood_once_asked (Aside until failed) = Tried failed
+mood_once_asked (Tried failed) = Tried failed
+mood_once_asked (Dormant until named) = Probed
+mood_once_asked Probed = Probed
 
 -- dormant from this time on, and at least until another, which the archive named
 abbrev pub dormant : Limits → ℕ → ℕ → Mood

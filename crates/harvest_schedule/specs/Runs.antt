@@ -7,8 +7,8 @@ use Rattle.harvest_schedule.specs.declared.moods.Mood.TheVariants.{Awake, Aside,
 use Rattle.harvest_schedule.specs.declared.moods.Verdict.TheVariants.{Answered, Failed, Unknown, Busy}
 use Rattle.harvest_schedule.specs.Moods.{SleepsAt, comes_again, later}
 use Rattle.harvest_schedule.specs.Standing.{Standing, walks}
-use Rattle.harvest_schedule.specs.Lanes.{IsOver, IsReady, begun, fresh, left_of, time_after}
-use Rattle.harvest_schedule.specs.Steps.{Act, Begun, Can, Does, Ended, Handed, Passed, WalkBegun, WalkEnded, changed}
+use Rattle.harvest_schedule.specs.Lanes.{IsOver, IsReady, after_begin, fresh, left_of, time_after}
+use Rattle.harvest_schedule.specs.Steps.{Act, Begun, Can, Does, Ended, Handed, Passed, WalkBegun, WalkEnded, after_act}
 
 -- a call that changed something: something happened to an archive, or a new round began for all
 pub data Call : Type 0 where
@@ -19,7 +19,7 @@ pub data Call : Type 0 where
 abbrev pub Makes : Limits → Call → List Standing → List Standing → Type 0
 Makes limits (Of archive act) old new = Does limits archive act old new
 Makes limits (Begins originals) old new =
-    ((archive : ℕ) (s : Standing) → slice_get old archive ≡ Some s → s.out ≡ []) × (new ≡ map (begun originals) old)
+    ((archive : ℕ) (s : Standing) → slice_get old archive ≡ Some s → s.out ≡ []) × (new ≡ map (after_begin originals) old)
 
 -- the calls make the second standings of the first, one after the other
 abbrev pub Runs : Limits → List Call → List Standing → List Standing → Type 0
@@ -36,7 +36,7 @@ acts_of archive (Begins originals ∷ calls) = Begun originals ∷ acts_of archi
 -- each act can happen to the archive where the ones before led, and together they lead it to where it stands
 abbrev pub Leads : Limits → List Act → Standing → Standing → Type 0
 Leads limits [] old new = new ≡ old
-Leads limits (act ∷ acts) old new = Can act old × Leads limits acts (changed limits act old) new
+Leads limits (act ∷ acts) old new = Can act old × Leads limits acts (after_act limits act old) new
 
 -- Each archive stands where its own acts lead: what happens to the others doesn't change it.
 abbrev pub EachIsLed : Type 0

@@ -5,7 +5,7 @@ use Rattle.harvest_schedule.specs.declared.moods.Limits.{Limits}
 use Rattle.harvest_schedule.specs.declared.moods.Verdict.{Verdict}
 use Rattle.harvest_schedule.specs.declared.turns.Turn.{Turn}
 use Rattle.harvest_schedule.specs.Standing.{Standing}
-use Rattle.harvest_schedule.specs.Lanes.{IsReady, MayWalk, advanced, begun, ended, handed, job_of, time_after, walk_begun, walk_ended}
+use Rattle.harvest_schedule.specs.Lanes.{IsReady, MayWalk, after_advance, after_begin, after_end, after_handing, job_of, time_after, walk_begun, walk_ended}
 
 -- what happens to an archive: a job of it is handed out or passed over, the walk of a job ends, a walk beyond its list
 -- begins or ends, or a new round begins, in which its list has so many jobs
@@ -27,20 +27,20 @@ Can (WalkEnded now verdict) s = 0 < s.wished
 Can (Begun originals) s = s.out ≡ []
 
 -- what it changes
-abbrev pub changed : Limits → Act → Standing → Standing
-changed limits (Handed now original) s = handed now original s
-changed limits (Passed original) s = advanced s
-changed limits (Ended now original verdict) s = ended limits now original verdict s
-changed limits (WalkBegun now) s = walk_begun now s
-changed limits (WalkEnded now verdict) s = walk_ended limits now verdict s
-changed limits (Begun originals) s = begun originals s
+abbrev pub after_act : Limits → Act → Standing → Standing
+after_act limits (Handed now original) s = after_handing now original s
+after_act limits (Passed original) s = after_advance s
+after_act limits (Ended now original verdict) s = after_end limits now original verdict s
+after_act limits (WalkBegun now) s = walk_begun now s
+after_act limits (WalkEnded now verdict) s = walk_ended limits now verdict s
+after_act limits (Begun originals) s = after_begin originals s
 
 -- it can happen to the archive and does, and nothing happens to the others
 pub record Does (limits : Limits) (archive : ℕ) (act : Act) (old new : List Standing) : Type 0 where
   pub standing : Standing
   pub at : slice_get old archive ≡ Some standing
   pub can : Can act standing
-  pub standings : new ≡ slice_set old archive (changed limits act standing)
+  pub standings : new ≡ slice_set old archive (after_act limits act standing)
 
 -- it can't happen to the archive
 abbrev pub Cannot : ℕ → Act → List Standing → Type 0

@@ -1,7 +1,7 @@
 //! Lanes: what is left to ask of one archive, what is out, and when it may be asked.
 ghost use Rattle.std.specs.Prelude.{◌≡◌, ◌↔◌, ◌+◌, ◌<◌, ◌==◌, Contains, vec_len, IfOk, IsSome, IsTrue, Some, [], if◌then◌else◌, position};
 ghost use Rattle.std.specs.Vec.{vec_capacity};
-ghost use Rattle.harvest_schedule.specs.Lanes.{IsDormant, IsOver, IsReady, MayWalk, advanced, begun, ended, fresh, handed};
+ghost use Rattle.harvest_schedule.specs.Lanes.{IsDormant, IsOver, IsReady, MayWalk, after_advance, after_begin, after_end, fresh, after_handing};
 ghost use Rattle.harvest_schedule.specs.Lanes.{job_of, left_of, time_after, walk_begun, walk_ended, walk_from, without};
 ghost use Rattle.harvest_schedule.specs.Standing.{walks};
 ghost use Rattle.harvest_schedule.specs.Steps.{Can, Ended, Handed, Passed, WalkBegun, WalkEnded};
@@ -115,7 +115,7 @@ impl Lane {
     /// Begins a new round: the list starts anew.
     pub fn begin(&mut self, originals: usize)
         requires { self.old.out ≡ [] }
-        ensures { self.new ≡ begun originals self.old }
+        ensures { self.new ≡ after_begin originals self.old }
     {
         self.originals = originals;
         self.next = 0;
@@ -198,7 +198,7 @@ impl Lane {
     /// Takes the next job off the list.
     pub fn pass_over(&mut self)
         requires { IsSome (job_of self.old) }
-        ensures { self.new ≡ advanced self.old }
+        ensures { self.new ≡ after_advance self.old }
     {
         if self.again.is_empty() {
             self.next += 1;
@@ -211,7 +211,7 @@ impl Lane {
     pub fn hand_out(&mut self, original: usize, now: u64)
         requires ready { IsReady now self.old }
         requires job { job_of self.old ≡ Some original }
-        ensures { self.new ≡ handed now original self.old }
+        ensures { self.new ≡ after_handing now original self.old }
     {
         if self.again.is_empty() {
             self.next += 1;
@@ -226,7 +226,7 @@ impl Lane {
     /// Takes in how the walk of an original ended.
     pub fn end(&mut self, limits: Limits, original: usize, verdict: Verdict, now: u64)
         requires { Contains self.old.out original }
-        ensures { self.new ≡ ended limits now original verdict self.old }
+        ensures { self.new ≡ after_end limits now original verdict self.old }
     {
         take_out(&mut self.out, original);
         if limits.comes_again(verdict) {
@@ -269,7 +269,7 @@ impl Lane {
     /// Hands out the job of an original if it is the next, and may be handed out at this time. Returns whether.
     pub fn try_hand_out(&mut self, original: usize, now: u64) -> bool
         ensures can { IsTrue result ↔ Can (Handed now original) self.old }
-        ensures after { self.new ≡ (if result then handed now original self.old else self.old) }
+        ensures after { self.new ≡ (if result then after_handing now original self.old else self.old) }
     {
         if self.is_next(original) && self.may_walk(now) {
             self.hand_out(original, now);
@@ -282,7 +282,7 @@ impl Lane {
     /// Passes over the job of an original if it is the next. Returns whether.
     pub fn try_pass_over(&mut self, original: usize) -> bool
         ensures can { IsTrue result ↔ Can (Passed original) self.old }
-        ensures after { self.new ≡ (if result then advanced self.old else self.old) }
+        ensures after { self.new ≡ (if result then after_advance self.old else self.old) }
     {
         if self.is_next(original) {
             self.pass_over();
@@ -295,7 +295,7 @@ impl Lane {
     /// Takes in how the walk of an original ended, if it is out. Returns whether.
     pub fn try_end(&mut self, limits: Limits, original: usize, verdict: Verdict, now: u64) -> bool
         ensures can { IsTrue result ↔ Can (Ended now original verdict) self.old }
-        ensures after { self.new ≡ (if result then ended limits now original verdict self.old else self.old) }
+        ensures after { self.new ≡ (if result then after_end limits now original verdict self.old else self.old) }
     {
         if self.is_out(original) {
             self.end(limits, original, verdict, now);

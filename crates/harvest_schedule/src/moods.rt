@@ -1,6 +1,6 @@
 //! What a schedule keeps to, and whether an archive may be asked.
 ghost use Rattle.std.specs.Prelude.{◌≡◌, ◌↔◌, IsTrue};
-ghost use Rattle.harvest_schedule.specs.Moods.{MayAsk, SleepsAt, after_answer, asked, asked_from, comes_again, dormant, failing, is_dormant};
+ghost use Rattle.harvest_schedule.specs.Moods.{MayAsk, SleepsAt, after_answer, mood_once_asked, asked_from, comes_again, dormant, failing, is_dormant};
 ghost use Rattle.harvest_schedule.specs.Moods.{mood_after, one_more, rest_after};
 ghost use Rattle.harvest_schedule.specs.declared.moods.Verdict.TheVariants.{Answered, Failed, Unknown, Busy as IsBusy};
 
@@ -121,7 +121,7 @@ impl Mood {
 
     /// The mood once the archive is asked.
     pub fn asked(self) -> Mood
-        ensures { result ≡ asked self }
+        ensures { result ≡ mood_once_asked self }
     {
         match self {
             Mood::Awake { failed } => Mood::Awake { failed },

@@ -3,7 +3,7 @@ ghost use Rattle.std.specs.Prelude.{◌≡◌, ◌↔◌, ℕ, ◌≤◌, ◌<�
 ghost use Rattle.std.specs.Prelude.{false, length, map, min, option_map, slice_get, true, []};
 ghost use Rattle.std.specs.List.{reduce};
 ghost use Rattle.harvest_schedule.specs.Standing.{Standing};
-ghost use Rattle.harvest_schedule.specs.Lanes.{IsDormant, IsOver, IsReady, begun, fresh, left_of};
+ghost use Rattle.harvest_schedule.specs.Lanes.{IsDormant, IsOver, IsReady, after_begin, fresh, left_of};
 ghost use Rattle.harvest_schedule.specs.Steps.{Answers, Ended, Handed, NoneIsReady, Offers, Passed, SomeIs, TakesTurn};
 ghost use Rattle.harvest_schedule.specs.Steps.{WalkBegun, WalkEnded, times_after};
 
@@ -42,7 +42,7 @@ fn first_ready(lanes: &[Lane], now: u64, start: usize, end: usize) -> Option<usi
 /// Begins a new round of each archive.
 fn begin_all(lanes: &mut [Lane], originals: usize)
     requires { All (λ s. s.out ≡ []) lanes.old }
-    ensures { lanes.new ≡ map (begun originals) lanes.old }
+    ensures { lanes.new ≡ map (after_begin originals) lanes.old }
 {
     for lane in lanes.iter_mut() {
         lane.begin(originals);
@@ -85,7 +85,7 @@ impl Schedule {
     pub fn begin(&mut self, originals: usize) -> bool
         ensures idle { IsTrue result ↔ All (λ s. s.out ≡ []) self.old.lanes.items }
         ensures limits { self.new.limits ≡ self.old.limits }
-        ensures lanes { MatchBool result (self.new.lanes.items ≡ map (begun originals) self.old.lanes.items)
+        ensures lanes { MatchBool result (self.new.lanes.items ≡ map (after_begin originals) self.old.lanes.items)
             (self.new.lanes.items ≡ self.old.lanes.items) }
         ensures turn { MatchBool result (self.new.turn ≡ 0) (self.new.turn ≡ self.old.turn) }
     {

@@ -66,8 +66,8 @@ pub record IsPatience : Type 0 where
   pub most : (now : ℕ) (values : List (List ℕ)) → patience_named now values ≤ 3600
 
 -- an answer with this status and these values of `Retry-After`
-abbrev pub answered : ℕ → List (List ℕ) → Answer
-answered status values = record { status = status; encoding = []; retry_after = values; body = [] }
+abbrev pub answer_with : ℕ → List (List ℕ) → Answer
+answer_with status values = record { status = status; encoding = []; retry_after = values; body = [] }
 
 -- worked examples: at the second 784111777, which is Sun, 06 Nov 1994 08:49:37 GMT
 pub record ArePatiences : Type 0 where
@@ -83,9 +83,9 @@ pub record ArePatiences : Type 0 where
   pub longer : patience_named 784111777 (codes "3601" ∷ []) ≡ 3600
   pub thirty_digits : patience_named 784111777 (codes "999999999999999999999999999999" ∷ []) ≡ 3600
   pub first_counts : patience_named 784111777 (codes "5" ∷ codes "120" ∷ []) ≡ 5
-  pub too_many : asked_patience 784111777 (answered 429 []) ≡ Some 60
-  pub too_many_until : asked_patience 784111777 (answered 429 (codes "7" ∷ [])) ≡ Some 7
-  pub overloaded : asked_patience 784111777 (answered 503 []) ≡ None
-  pub overloaded_until : asked_patience 784111777 (answered 503 (codes "7" ∷ [])) ≡ Some 7
-  pub broken_down : asked_patience 784111777 (answered 500 (codes "7" ∷ [])) ≡ None
-  pub found : asked_patience 784111777 (answered 200 (codes "7" ∷ [])) ≡ None
+  pub too_many : asked_patience 784111777 (answer_with 429 []) ≡ Some 60
+  pub too_many_until : asked_patience 784111777 (answer_with 429 (codes "7" ∷ [])) ≡ Some 7
+  pub overloaded : asked_patience 784111777 (answer_with 503 []) ≡ None
+  pub overloaded_until : asked_patience 784111777 (answer_with 503 (codes "7" ∷ [])) ≡ Some 7
+  pub broken_down : asked_patience 784111777 (answer_with 500 (codes "7" ∷ [])) ≡ None
+  pub found : asked_patience 784111777 (answer_with 200 (codes "7" ∷ [])) ≡ None

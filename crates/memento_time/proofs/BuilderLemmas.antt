@@ -2,7 +2,7 @@
 use Rattle.std.proofs.Common.{◌≡◌, ℕ, ◌+◌, ◌<◌, ◌≤◌, ◌^◌, List, [], ◌∷◌, ◌++◌, length, take, drop, All, refl, sym, ap, subst, ◌∙◌, arith, get_or, length-append, append_assoc}
 use Rattle.std.proofs.lemmas.List.{take-append-le, drop-append-le, length-drop, take_all, drop-drop, drop_more, nil_from_length}
 use Rattle.std.proofs.lemmas.List.Elements.{All-append, All-cons, All-nil, All-head, All-tail}
-use Rattle.memento_time.specs.Builder.{listed, total, IsBuilder}
+use Rattle.memento_time.specs.Builder.{mementos_listed, total, IsBuilder}
 use Rattle.memento_time.specs.Text.{IsClean}
 use Rattle.memento_time.specs.declared.mementos.Memento.{Memento}
 
@@ -11,7 +11,7 @@ abbrev HasAddress : Memento → Type 0
 HasAddress m = IsClean m.uri
 
 pub listed_push : (marks : List (ℕ × ℕ)) (bytes : List ℕ) (at : ℕ) (text : List ℕ) → total marks ≡ length bytes
-    → listed (marks ++ (at, length text) ∷ []) (bytes ++ text) ≡ listed marks bytes ++ record { at = at; uri = text } ∷ []
+    → mementos_listed (marks ++ (at, length text) ∷ []) (bytes ++ text) ≡ mementos_listed marks bytes ++ record { at = at; uri = text } ∷ []
 listed_push [] bytes at text whole =
     let none = nil_from_length bytes (sym whole) in
     rw (none, take_all (length text) text (omega arith))
@@ -32,12 +32,12 @@ push_keeps marks bytes at text builder clean small = record {
   whole = total_push marks (at, length text) ∙ omega (arith, builder.whole, length-append bytes text);
   small = omega (arith, length-append bytes text);
   each = rw (listed_push marks bytes at text builder.whole)
-      (All-append HasAddress (listed marks bytes) (record { at = at; uri = text } ∷ []) builder.each (All-cons HasAddress (record { at = at; uri = text }) [] clean (All-nil HasAddress)));
+      (All-append HasAddress (mementos_listed marks bytes) (record { at = at; uri = text } ∷ []) builder.each (All-cons HasAddress (record { at = at; uri = text }) [] clean (All-nil HasAddress)));
 }
 
 module _ (marks marks' : List (ℕ × ℕ)) (bytes bytes' : List ℕ) (at : ℕ) (text : List ℕ) (builder : IsBuilder marks bytes)
     (m : marks' ≡ marks ++ (at, length text) ∷ []) (b : bytes' ≡ bytes ++ text) where
-  pub pushed : listed marks' bytes' ≡ listed marks bytes ++ record { at = at; uri = text } ∷ []
+  pub pushed : mementos_listed marks' bytes' ≡ mementos_listed marks bytes ++ record { at = at; uri = text } ∷ []
   pushed = rw (m, b) (listed_push marks bytes at text builder.whole)
 
   pub still_builder : IsClean text → length text + length bytes < 2 ^ 32 → IsBuilder marks' bytes'
@@ -50,7 +50,7 @@ later (x ∷ xs) ys h = later xs ys (All-tail HasAddress x (xs ++ ys) h)
 -- the mementos from the k-th on stand from this byte on
 pub record IsAt (marks : List (ℕ × ℕ)) (bytes : List ℕ) (k start : ℕ) (built : List Memento) : Type 0 where
   pub left : start + total (drop k marks) ≡ length bytes
-  pub same : built ++ listed (drop k marks) (drop start bytes) ≡ listed marks bytes
+  pub same : built ++ mementos_listed (drop k marks) (drop start bytes) ≡ mementos_listed marks bytes
 
 pub starts : (marks : List (ℕ × ℕ)) (bytes : List ℕ) → IsBuilder marks bytes → IsAt marks bytes 0 0 []
 starts marks bytes builder = record { left = omega (arith, builder.whole); same = refl }
@@ -63,12 +63,12 @@ module _ (marks : List (ℕ × ℕ)) (bytes : List ℕ) (builder : IsBuilder mar
   pub within : start + mark.1 ≤ length bytes
   within = let e = ap total next in omega (arith, e, here.left)
 
-  parted : listed (drop k marks) (drop start bytes) ≡ record { at = mark.0; uri = take mark.1 (drop start bytes) } ∷ listed (drop (k + 1) marks) (drop (start + mark.1) bytes)
+  parted : mementos_listed (drop k marks) (drop start bytes) ≡ record { at = mark.0; uri = take mark.1 (drop start bytes) } ∷ mementos_listed (drop (k + 1) marks) (drop (start + mark.1) bytes)
   parted = rw (next, drop-drop mark.1 start bytes)
 
   pub its_address : IsClean (take mark.1 (drop start bytes))
   its_address =
-      All-head HasAddress _ (listed (drop (k + 1) marks) (drop (start + mark.1) bytes))
+      All-head HasAddress _ (mementos_listed (drop (k + 1) marks) (drop (start + mark.1) bytes))
       (later built _ (subst (All HasAddress) (sym here.same ∙ ap (λ ms. built ++ ms) parted) builder.each))
 
   pub goes_on : IsAt marks bytes (k + 1) (start + mark.1) (built ++ record { at = mark.0; uri = take mark.1 (drop start bytes) } ∷ [])

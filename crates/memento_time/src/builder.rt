@@ -20,11 +20,11 @@ pub struct MementosBuilder {
 impl Model for MementosBuilder {
     ghost use Rattle.std.specs.Prelude.{List};
     ghost use Rattle.memento_time.specs.declared.mementos.Memento.{Memento};
-    ghost use Rattle.memento_time.specs.Builder.{listed, IsBuilder};
+    ghost use Rattle.memento_time.specs.Builder.{mementos_listed, IsBuilder};
 
     ghost Value = { List Memento };
 
-    ghost view = { λ builder. listed builder.marks.items builder.bytes.items };
+    ghost view = { λ builder. mementos_listed builder.marks.items builder.bytes.items };
 
     ghost invariant = { λ builder. IsBuilder builder.marks.items builder.bytes.items };
 }

@@ -12,17 +12,17 @@ abbrev pub most_told : ℕ
 most_told = 20
 
 -- the line without the spaces, the tabs and the CRs at its ends
-abbrev pub trimmed : List ℕ → List ℕ
-trimmed line = trim (is_among (32 ∷ 9 ∷ 13 ∷ [])) line
+abbrev pub without_blanks : List ℕ → List ℕ
+without_blanks line = trim (is_among (32 ∷ 9 ∷ 13 ∷ [])) line
 
 -- an original, if the text names one
-abbrev pub named : Option (List ℕ) → Row
-named None = Bad
-named (Some original) = Named original
+abbrev pub row_naming : Option (List ℕ) → Row
+row_naming None = Bad
+row_naming (Some original) = Named original
 
 -- what a line holds
 abbrev pub row_of : List ℕ → Row
-row_of line = if length (trimmed line) == 0 then Blank else named (original_at (trimmed line))
+row_of line = if length (without_blanks line) == 0 then Blank else row_naming (original_at (without_blanks line))
 
 -- the lines of a text, each of which ends at a LF or with the text
 abbrev pub lines_of : List ℕ → List (List ℕ)

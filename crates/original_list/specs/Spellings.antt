@@ -37,8 +37,8 @@ abbrev pub text_of : Bool → Bool → List ℕ → List ℕ
 text_of is_secure has_www rest = scheme_text is_secure ++ (www_text has_www ++ rest)
 
 -- those with `www.` if there is none, or without it if there is one
-abbrev pub swapped : Bool → Bool → List ℕ → List (List ℕ)
-swapped is_secure has_www rest =
+abbrev pub swapped_spellings : Bool → Bool → List ℕ → List (List ℕ)
+swapped_spellings is_secure has_www rest =
     if may_swap rest
     then text_of is_secure (not has_www) rest ∷ text_of (not is_secure) (not has_www) rest ∷ []
     else []
@@ -46,7 +46,7 @@ swapped is_secure has_www rest =
 -- the other spellings of what has this scheme, with `www.` or without, and this behind it
 abbrev pub others : Bool → Bool → List ℕ → List (List ℕ)
 others is_secure has_www rest =
-    if is_named rest then text_of (not is_secure) has_www rest ∷ swapped is_secure has_www rest else []
+    if is_named rest then text_of (not is_secure) has_www rest ∷ swapped_spellings is_secure has_www rest else []
 
 abbrev pub others_behind : Bool → List ℕ → List (List ℕ)
 others_behind is_secure rest =

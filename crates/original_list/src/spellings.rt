@@ -2,7 +2,7 @@
 ghost use Rattle.std.specs.Prelude.{◌≡◌, ◌++◌, ◌∷◌, [], true, false, nat_eq, drop, length, IfOk, IfSome, IfNone, OnOk, filter, position};
 ghost use Rattle.std.specs.List.{list_any, starts_with};
 ghost use Rattle.original_list.specs.Spellings as spec;
-ghost use Rattle.original_list.specs.Spellings.{SpellingsAreAlike, SpellingsComeBack, is_itself, other_spellings, others, others_behind, plain_spellings, swapped, text_of};
+ghost use Rattle.original_list.specs.Spellings.{SpellingsAreAlike, SpellingsComeBack, is_itself, other_spellings, others, others_behind, plain_spellings, swapped_spellings, text_of};
 
 use memento_time::{NoMemory, Original};
 use std::alloc::Global;
@@ -111,7 +111,7 @@ fn add_swapped(
     rest: &[u8],
 ) -> Result<(), NoMemory>
     ensures { OnOk result
-        (list.new.items ≡ list.old.items ++ filter is_itself (swapped is_secure has_www rest.now)) }
+        (list.new.items ≡ list.old.items ++ filter is_itself (swapped_spellings is_secure has_www rest.now)) }
 {
     if !may_swap(rest) {
         return Ok(());

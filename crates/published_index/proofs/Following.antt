@@ -8,7 +8,7 @@ use Rattle.std.proofs.lemmas.Bool.Decides.{nat_tests}
 use Rattle.replica_exchange.specs.declared.cursor.Cursor.{Cursor}
 use Rattle.replica_exchange.specs.declared.delta.Delta.{Delta}
 use Rattle.replica_exchange.specs.Stamps.{StampedState}
-use Rattle.replica_exchange.specs.CursorRule.{delta_from, end_of, fits, moved, start_from}
+use Rattle.replica_exchange.specs.CursorRule.{delta_from, end_of, fits, cursor_after, start_from}
 use Rattle.published_index.specs.Cursors.{with_delta}
 use Rattle.published_index.specs.Views.{MergerView}
 
@@ -32,7 +32,7 @@ module _ (s : StampedState) (d : Delta) (own : s.incarnation ≡ d.incarnation) 
   from_end : d.end ≤ start_from s (Some (end_of d))
   from_end = let e = starts_at s (end_of d) (sym own) ends in omega (arith, e)
 
-  from_moved : (held : Option Cursor) → IfSome held (λ c. c.number ≤ s.number) → d.end ≤ start_from s (Some (moved held d))
+  from_moved : (held : Option Cursor) → IfSome held (λ c. c.number ≤ s.number) → d.end ≤ start_from s (Some (cursor_after held d))
   from_moved None within = from_end
   from_moved (Some c) within = on ((c.incarnation == d.incarnation) && nat_lt d.end c.number) refl
     where
@@ -45,10 +45,10 @@ module _ (s : StampedState) (d : Delta) (own : s.incarnation ≡ d.incarnation) 
       on false is = from_end
 
 at_key : (m : MergerView) (peer other : ℕ) (d : Delta) (b : Bool) → (other == peer) ≡ b
-    → map.get (with_delta m peer d).cursors other ≡ cond b (Some (moved (map.get m.cursors peer) d)) (map.get m.cursors other)
+    → map.get (with_delta m peer d).cursors other ≡ cond b (Some (cursor_after (map.get m.cursors peer) d)) (map.get m.cursors other)
 at_key m peer other d b is =
-    map.get-insert nat_cmp_total m.cursors peer (moved (map.get m.cursors peer) d) other
-    ∙ ap (λ (b : Bool). cond b (Some (moved (map.get m.cursors peer) d)) (map.get m.cursors other)) (unsigned_tied other peer ∙ is)
+    map.get-insert nat_cmp_total m.cursors peer (cursor_after (map.get m.cursors peer) d) other
+    ∙ ap (λ (b : Bool). cond b (Some (cursor_after (map.get m.cursors peer) d)) (map.get m.cursors other)) (unsigned_tied other peer ∙ is)
 
 pub next_follows : (m : MergerView) (peer : ℕ) (d : Delta) (s : StampedState) → s.incarnation ≡ d.incarnation → d.end ≤ s.number → IfSome (map.get m.cursors peer) (λ c. c.number ≤ s.number)
     → d.end ≤ (delta_from s (map.get (with_delta m peer d).cursors peer)).start

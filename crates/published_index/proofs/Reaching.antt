@@ -18,7 +18,7 @@ use Rattle.harvest_lattice.proofs.Knowledge.{at_most_nil, lat-adds}
 use Rattle.replica_exchange.specs.declared.cursor.Cursor.{Cursor}
 use Rattle.replica_exchange.specs.declared.delta.Delta.{Delta}
 use Rattle.replica_exchange.specs.Stamps.{StampedState, IsStamped, state_after, entries_above}
-use Rattle.replica_exchange.specs.CursorRule.{Held, start_from, fits, moved}
+use Rattle.replica_exchange.specs.CursorRule.{Held, start_from, fits, cursor_after}
 use Rattle.replica_exchange.proofs.StampLemmas.{state_append, state_push, take_take, prefixes_at_most, above_suffices}
 use Rattle.published_index.specs.Batches.{merges_of}
 use Rattle.published_index.specs.Cursors.{Histories, IsDeltaOf, HasReached, state_of, with_merge, with_delta, with_publish}
@@ -125,7 +125,7 @@ module _ (histories : Histories) (m : MergerView) (peer : ℕ) (d : Delta) where
         subst (λ (n : ℕ). AtMost (state_after (take n ms)) grown) (sym (ap (λ (e : Delta). e.end) of.is))
         (subst (λ (x : Entries). AtMost (state_after (take s.number ms)) x) (sym (joined ∙ ap (λ (e : Delta). join (state_of m) e.state) of.is)) reaches)
 
-    moves : (held : Option Cursor) → IfSome held (Reaches histories peer (state_of m)) → fits held d ≡ true → Reaches histories peer grown (moved held d)
+    moves : (held : Option Cursor) → IfSome held (Reaches histories peer (state_of m)) → fits held d ≡ true → Reaches histories peer grown (cursor_after held d)
     moves None reached fit = has_end (has_start None reached fit)
     moves (Some c) reached fit = on ((c.incarnation == d.incarnation) && nat_lt d.end c.number)
       where
@@ -134,13 +134,13 @@ module _ (histories : Histories) (m : MergerView) (peer : ℕ) (d : Delta) where
         on false = has_end (has_start (Some c) reached fit)
 
     at_peer : HasReached histories m → fits (map.get m.cursors peer) d ≡ true → (other : ℕ) (b : Bool) → eq_by_cmp nat_cmp other peer ≡ b
-        → IfSome (cond b (Some (moved (map.get m.cursors peer) d)) (map.get m.cursors other)) (Reaches histories other grown)
+        → IfSome (cond b (Some (cursor_after (map.get m.cursors peer) d)) (map.get m.cursors other)) (Reaches histories other grown)
     at_peer reached fit other true is =
         let same : other ≡ peer = map.nat_cmp-IsAntisymmetric other peer ((Equal-is (nat_cmp other peer)).0 is) in
-        subst (λ (p : ℕ). Reaches histories p grown (moved (map.get m.cursors peer) d)) (sym same) (moves (map.get m.cursors peer) (reached peer) fit)
+        subst (λ (p : ℕ). Reaches histories p grown (cursor_after (map.get m.cursors peer) d)) (sym same) (moves (map.get m.cursors peer) (reached peer) fit)
     at_peer reached fit other false is = reaches_more histories other (state_of m) grown more (map.get m.cursors other) (reached other)
 
     pub reached_with_delta : HasReached histories m → fits (map.get m.cursors peer) d ≡ true → HasReached histories (with_delta m peer d)
     reached_with_delta reached fit other =
-        subst (λ (o : Option Cursor). IfSome o (Reaches histories other grown)) (sym (map.get-insert nat_cmp_total m.cursors peer (moved (map.get m.cursors peer) d) other))
+        subst (λ (o : Option Cursor). IfSome o (Reaches histories other grown)) (sym (map.get-insert nat_cmp_total m.cursors peer (cursor_after (map.get m.cursors peer) d) other))
         (at_peer reached fit other (eq_by_cmp nat_cmp other peer) refl)

@@ -11,7 +11,7 @@ use Rattle.harvest_lattice.specs.Knowledge.{adds}
 use Rattle.memento_index.specs.declared.merge.Merge.TheVariants as merge
 use Rattle.replica_exchange.specs.declared.cursor.Cursor.{Cursor}
 use Rattle.replica_exchange.specs.declared.delta.Delta.{Delta}
-use Rattle.replica_exchange.specs.CursorRule.{Held, end_of, moved, taken_from}
+use Rattle.replica_exchange.specs.CursorRule.{Held, end_of, cursor_after, taken_from}
 use Rattle.replica_events.specs.declared.event.Event.{Event}
 use Rattle.replica_events.specs.declared.event.Event.TheVariants.{Deliver, Restart}
 use Rattle.replica_events.specs.declared.event.Said.TheVariants.{Joined, Restarted}
@@ -211,7 +211,7 @@ module _ (count i peer : ℕ) where
           within other (inr was) = furthest.furthest other was.recent
 
     says_brought : (o : Option Cursor) (d : Delta) → Says history o → Brings history event answer (end_of d) → ((other : Cursor) → Brings history event answer other → other ≡ end_of d)
-        → ¬ IsRestart event answer i → Says (all history event answer) (Some (moved o d))
+        → ¬ IsRestart event answer i → Says (all history event answer) (Some (cursor_after o d))
     says_brought None d none brings only other = says_end (end_of d) brings only (λ end recent is. absurd (none end recent.after recent.brought))
     says_brought (Some c) d says brings only other =
         elim ((c.incarnation == d.incarnation) && nat_lt d.end c.number) as
@@ -316,11 +316,11 @@ module _ (count : ℕ) (history : History) (w : World) (counts : Counts count hi
 
       here : (peer : ℕ) → Says count i peer after (map.get (taken_from r.cursors m.sender m.delta) peer)
       here peer =
-          subst (Says count i peer after) (sym (map.get-insert nat_cmp_total r.cursors m.sender (moved (map.get r.cursors m.sender) m.delta) peer))
+          subst (Says count i peer after) (sym (map.get-insert nat_cmp_total r.cursors m.sender (cursor_after (map.get r.cursors m.sender) m.delta) peer))
           (elim (eq_by_cmp nat_cmp peer m.sender) as
-          (λ b. eq_by_cmp nat_cmp peer m.sender ≡ b → Says count i peer after (cond b (Some (moved (map.get r.cursors m.sender) m.delta)) (map.get r.cursors peer))) [
+          (λ b. eq_by_cmp nat_cmp peer m.sender ≡ b → Says count i peer after (cond b (Some (cursor_after (map.get r.cursors m.sender) m.delta)) (map.get r.cursors peer))) [
             | true ↦ λ same.
-                subst (λ (p : ℕ). Says count i p after (Some (moved (map.get r.cursors m.sender) m.delta)))
+                subst (λ (p : ℕ). Says count i p after (Some (cursor_after (map.get r.cursors m.sender) m.delta)))
                 (sym (map.nat_cmp-IsAntisymmetric peer m.sender ((Equal-is (nat_cmp peer m.sender)).0 same)))
                 (says_brought count i m.sender history (Deliver i k) (Ok Joined) (map.get r.cursors m.sender) m.delta (kept i r there m.sender) brings only (no_restart i))
             | false ↦ λ differs.

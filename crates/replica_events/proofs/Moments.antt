@@ -13,7 +13,7 @@ use Rattle.harvest_lattice.proofs.Entries.{at_most_left, at_most_right, at_most_
 use Rattle.harvest_lattice.proofs.Knowledge.{lat-append, at_most_nil}
 use Rattle.replica_exchange.specs.declared.cursor.Cursor.{Cursor}
 use Rattle.replica_exchange.specs.Stamps.{state_after, StampedState, IsStamped}
-use Rattle.replica_exchange.specs.CursorRule.{delta_from, fits, end_of, moved, taken_from}
+use Rattle.replica_exchange.specs.CursorRule.{delta_from, fits, end_of, cursor_after, taken_from}
 use Rattle.replica_events.specs.declared.event.Event.{Event}
 use Rattle.replica_events.specs.World.{Knowledge, World, Replica, Message, EventAnswer, Course, Step, Run, at_number, replica, message, with_replica}
 use Rattle.replica_events.specs.World.{with_message, after_merge, after_join, sent_by, new_replica, new_replicas_after, start, after_restart}
@@ -118,7 +118,7 @@ module _ (Met : ℕ → Replica → Type 0) where
           reached = subst (λ (x : Entries). AtMost x known) tells.taken whole;
         }
 
-        moves : (o : Option Cursor) → map.get r.cursors m.sender ≡ o → Saw Met m.sender (moved o m.delta) known
+        moves : (o : Option Cursor) → map.get r.cursors m.sender ≡ o → Saw Met m.sender (cursor_after o m.delta) known
         moves None is = at_end
         moves (Some c) is =
             elim ((c.incarnation == m.delta.incarnation) && nat_lt m.delta.end c.number) as (λ b. Saw Met m.sender (cond b c (end_of m.delta)) known) [
@@ -129,12 +129,12 @@ module _ (Met : ℕ → Replica → Type 0) where
         saw : (peer : ℕ) (c : Cursor) → map.get (taken_from r.cursors m.sender m.delta) peer ≡ Some c → Saw Met peer c known
         saw peer c is =
             elim (eq_by_cmp nat_cmp peer m.sender) as (λ b. eq_by_cmp nat_cmp peer m.sender ≡ b
-            → cond b (Some (moved (map.get r.cursors m.sender) m.delta)) (map.get r.cursors peer) ≡ Some c → Saw Met peer c known) [
+            → cond b (Some (cursor_after (map.get r.cursors m.sender) m.delta)) (map.get r.cursors peer) ≡ Some c → Saw Met peer c known) [
               | true ↦ λ same here.
                   subst (λ (p : ℕ). Saw Met p c known) (sym (map.nat_cmp-IsAntisymmetric peer m.sender ((Equal-is (nat_cmp peer m.sender)).0 same)))
-                  (subst (λ (c : Cursor). Saw Met m.sender c known) (same_Some (moved (map.get r.cursors m.sender) m.delta) c here) (moves (map.get r.cursors m.sender) refl))
+                  (subst (λ (c : Cursor). Saw Met m.sender c known) (same_Some (cursor_after (map.get r.cursors m.sender) m.delta) c here) (moves (map.get r.cursors m.sender) refl))
               | false ↦ λ _ elsewhere. still_saw i r there m.taken peer c elsewhere
-            ] refl (sym (map.get-insert nat_cmp_total r.cursors m.sender (moved (map.get r.cursors m.sender) m.delta) peer) ∙ is)
+            ] refl (sym (map.get-insert nat_cmp_total r.cursors m.sender (cursor_after (map.get r.cursors m.sender) m.delta) peer) ∙ is)
 
     good_sent : (i : ℕ) (r : Replica) (s : StampedState) (cursor : Option Cursor) → replica w i ≡ Some r → IsStamped r.merges s
         → s.incarnation ≡ r.incarnation → Good Met (with_message w (sent_by i r (delta_from s cursor)))

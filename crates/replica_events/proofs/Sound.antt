@@ -18,7 +18,7 @@ use Rattle.harvest_lattice.proofs.Entries.{at_most_left, at_most_right, at_most_
 use Rattle.harvest_lattice.proofs.Knowledge.{lat-append, lat-adds}
 use Rattle.replica_exchange.specs.declared.cursor.Cursor.{Cursor}
 use Rattle.replica_exchange.specs.Stamps.{state_after, StampedState, IsStamped}
-use Rattle.replica_exchange.specs.CursorRule.{Held, start_from, delta_from, reaches, fits, end_of, moved, taken_from}
+use Rattle.replica_exchange.specs.CursorRule.{Held, start_from, delta_from, reaches, fits, end_of, cursor_after, taken_from}
 use Rattle.replica_exchange.proofs.StampLemmas.{state_push, prefixes_at_most, above_suffices}
 use Rattle.replica_events.specs.World.{Knowledge, World, Replica, Message, at_number, replica, message, with_replica, with_message, after_merge, after_join, sent_by, new_replica, after_restart}
 use Rattle.replica_events.proofs.Numbers.{IsPlaced, replica_placed, messages_stay, last_stays, Pushed, pushed}
@@ -261,7 +261,7 @@ sound_joined logs w i k r m sound there found fit =
       reached = subst (λ (x : Entries). AtMost x (lat m.taken)) tells.taken (at_most_refl (lat m.taken));
     })
 
-    moves : (o : Option Cursor) → map.get r.cursors m.sender ≡ o → Reaches after known (moved o m.delta)
+    moves : (o : Option Cursor) → map.get r.cursors m.sender ≡ o → Reaches after known (cursor_after o m.delta)
     moves None is = at_end
     moves (Some c) is =
         elim ((c.incarnation == m.delta.incarnation) && nat_lt m.delta.end c.number) as (λ b. Reaches after known (cond b c (end_of m.delta))) [
@@ -270,10 +270,10 @@ sound_joined logs w i k r m sound there found fit =
         ]
 
     reach : (peer : ℕ) (c : Cursor) → map.get (taken_from r.cursors m.sender m.delta) peer ≡ Some c → Reaches after known c
-    reach peer c is = at (eq_by_cmp nat_cmp peer m.sender) (sym (map.get-insert nat_cmp_total r.cursors m.sender (moved (map.get r.cursors m.sender) m.delta) peer) ∙ is)
+    reach peer c is = at (eq_by_cmp nat_cmp peer m.sender) (sym (map.get-insert nat_cmp_total r.cursors m.sender (cursor_after (map.get r.cursors m.sender) m.delta) peer) ∙ is)
       where
-        at : (b : Bool) → cond b (Some (moved (map.get r.cursors m.sender) m.delta)) (map.get r.cursors peer) ≡ Some c → Reaches after known c
-        at true here = subst (Reaches after known) (same_Some (moved (map.get r.cursors m.sender) m.delta) c here) (moves (map.get r.cursors m.sender) refl)
+        at : (b : Bool) → cond b (Some (cursor_after (map.get r.cursors m.sender) m.delta)) (map.get r.cursors peer) ≡ Some c → Reaches after known c
+        at true here = subst (Reaches after known) (same_Some (cursor_after (map.get r.cursors m.sender) m.delta) c here) (moves (map.get r.cursors m.sender) refl)
         at false elsewhere = still_reached logs w sound i r there (merge.State m.delta.state) m.taken (taken_from r.cursors m.sender m.delta) same peer c elsewhere
 
 -- a message tells what its sender has taken

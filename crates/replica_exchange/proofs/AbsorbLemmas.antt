@@ -17,14 +17,14 @@ use Rattle.harvest_lattice.proofs.Entries.{entry_semilattice, at_most_from_join,
 use Rattle.memento_index.specs.declared.merge.Merge.{Merge}
 use Rattle.memento_index.specs.Merges.{adds_of}
 use Rattle.replica_exchange.specs.Stamps.{Stamps, StampedState, IsRestamped, IsAbsorbed}
-use Rattle.replica_exchange.specs.StampShelves.{Shelves, stamps_in, slot, is_among, restamped, filled}
+use Rattle.replica_exchange.specs.StampShelves.{Shelves, stamps_in, slot, is_among, stamp_after, stamp_in}
 use Rattle.replica_exchange.specs.declared.stamped.StampFault.{StampFault}
 use Rattle.replica_exchange.specs.declared.stamped.StampFault.TheVariants.{NumbersSpent, NoMemory as OutOfMemory}
 use Rattle.replica_exchange.proofs.ShelfLemmas.{get-stamps_in}
 
 -- ---- one row more
 
-pub filled_cond : (b : Bool) (v : ℕ) (o : Option (Option ℕ)) → filled (cond b (Some (Some v)) o) ≡ cond b (Some v) (filled o)
+pub filled_cond : (b : Bool) (v : ℕ) (o : Option (Option ℕ)) → stamp_in (cond b (Some (Some v)) o) ≡ cond b (Some v) (stamp_in o)
 filled_cond true v o = refl
 filled_cond false v o = refl
 
@@ -33,7 +33,7 @@ either_way true v = refl
 either_way false v = refl
 
 pub restamped_push : (keys : List Key) (key : Key) (number : ℕ) (k : Key) (was : Option ℕ)
-    → restamped (keys ++ key ∷ []) number k was ≡ cond (eq_by_cmp key_cmp k key) (Some number) (restamped keys number k was)
+    → stamp_after (keys ++ key ∷ []) number k was ≡ cond (eq_by_cmp key_cmp k key) (Some number) (stamp_after keys number k was)
 restamped_push [] key number k was =
     elim (eq_by_cmp key_cmp k key) as (λ b. cond (b || false) (Some number) was ≡ cond b (Some number) was) [ true ↦ refl | false ↦ refl ]
 restamped_push (q ∷ keys) key number k was =
@@ -72,7 +72,8 @@ among_rows (row ∷ rows) k =
 -- the stamps change just where the entries do
 pub absorbed : (s t : StampedState) (m : Merge) (news : Entries) (rows : List Row) (keys : List Key) → IsNews s.entries (lat (adds_of m)) news
     → map row_entry rows ≡ fmap.entries news → keys ≡ map row_key rows
-    → t.entries ≡ join s.entries news → ((k : Key) → fmap.get t.stamps k ≡ restamped keys t.number k (fmap.get s.stamps k)) → t.number ≡ s.number + 1 → t.incarnation ≡ s.incarnation → IsAbsorbed s m t
+    → t.entries ≡ join s.entries news → ((k : Key) → fmap.get t.stamps k ≡ stamp_after keys t.number k (fmap.get s.stamps k))
+    → t.number ≡ s.number + 1 → t.incarnation ≡ s.incarnation → IsAbsorbed s m t
 absorbed s t m news rows keys is listed of_rows entries stamps number incarnation = record {
   entries = joins;
   stamps = λ k. at k (fmap.get news k) refl;
@@ -98,10 +99,10 @@ absorbed s t m news rows keys is listed of_rows entries stamps number incarnatio
 
 -- the stamps in slots that were made and then filled for these rows
 pub get-restamped : (was : Stamps) (keys : List Key) (number : ℕ) (old made new : Shelves) → stamps_in old ≡ was → IsOrdered text_cmp old → IsOrdered text_cmp new
-    → ((k : Key) → filled (slot made k) ≡ filled (slot old k))
-    → ((k : Key) → filled (slot new k) ≡ restamped keys number k (filled (slot made k))) → (k : Key) → fmap.get (stamps_in new) k ≡ restamped keys number k (fmap.get was k)
+    → ((k : Key) → stamp_in (slot made k) ≡ stamp_in (slot old k))
+    → ((k : Key) → stamp_in (slot new k) ≡ stamp_after keys number k (stamp_in (slot made k))) → (k : Key) → fmap.get (stamps_in new) k ≡ stamp_after keys number k (fmap.get was k)
 get-restamped was keys number old made new view h g same stamped k =
-    get-stamps_in new g k ∙ (stamped k ∙ ap (restamped keys number k) (same k ∙ (sym (get-stamps_in old h k) ∙ ap (λ (s : Stamps). fmap.get s k) view)))
+    get-stamps_in new g k ∙ (stamped k ∙ ap (stamp_after keys number k) (same k ∙ (sym (get-stamps_in old h k) ∙ ap (λ (s : Stamps). fmap.get s k) view)))
 
 -- ---- a merge that is refused
 

@@ -14,7 +14,7 @@ use Rattle.replica_exchange.specs.declared.fault.StateFault.{StateFault}
 use Rattle.replica_exchange.specs.declared.fault.StateFault.TheVariants.{TooLong, NotState, NoMemory}
 use Rattle.replica_exchange.specs.Faults.{IsDeltaCause, longest_text}
 use Rattle.replica_exchange.specs.Spelling.{Spelling, Begins, Refuses, RefusesWhole, number}
-use Rattle.replica_exchange.specs.Parts.{stated, span, first_line}
+use Rattle.replica_exchange.specs.Parts.{entries_in, span, first_line}
 use Rattle.replica_exchange.proofs.SpellingLemmas.{Once, number_once, ended_apart}
 use Rattle.replica_exchange.proofs.Sequences.{Leaves, seq, seq_found, seq_first, seq_then, seq_once}
 use Rattle.replica_exchange.proofs.FormatLemmas.{format_once}
@@ -110,8 +110,8 @@ span_line d = from_line d.incarnation d.start d.end
 -- a text of a delta begins with the line of a format, and goes on with its own line and the entries in that format
 record IsIn (text : List ℕ) (d : Delta) : Type 0 where
   format : Format
-  is : (stated format).Is d.state
-  whole : text ≡ first_line word format ++ (span_line d ++ (stated format).spelled d.state)
+  is : (entries_in format).Is d.state
+  whole : text ≡ first_line word format ++ (span_line d ++ (entries_in format).spelled d.state)
 
 in_format : (text : List ℕ) (d : Delta) → IsDeltaText text d → IsIn text d
 in_format text d of = from of.text
@@ -120,30 +120,30 @@ in_format text d of = from of.text
     from (inl same) = record { format = Two; is = new_stated d.state of.delta.state; whole = same }
     from (inr (old, same)) = record { format = One; is = old_stated d.state of.delta.state old; whole = same }
 
-written_in : (f : Format) (text : List ℕ) (d : Delta) → IsDelta d → (stated f).Is d.state → text ≡ first_line word f ++ (span_line d ++ (stated f).spelled d.state) → IsDeltaText text d
+written_in : (f : Format) (text : List ℕ) (d : Delta) → IsDelta d → (entries_in f).Is d.state → text ≡ first_line word f ++ (span_line d ++ (entries_in f).spelled d.state) → IsDeltaText text d
 written_in One text d delta is whole = record { delta = delta; text = inr (stated_old d.state is, whole) }
 written_in Two text d delta is whole = record { delta = delta; text = inl whole }
 
 -- what a text without the first line is not
 pub delta_has_front : (text : List ℕ) → ((f : Format) (rest : List ℕ) → ¬ (text ≡ first_line word f ++ rest)) → (d : Delta) → ¬ IsDeltaText text d
-delta_has_front text none d of = let its = in_format text d of in none its.format (span_line d ++ (stated its.format).spelled d.state) its.whole
+delta_has_front text none d of = let its = in_format text d of in none its.format (span_line d ++ (entries_in its.format).spelled d.state) its.whole
 
 module _ (f : Format) (text left : List ℕ) (front : text ≡ first_line word f ++ left) where
   -- a text of a delta goes on with its line
   record Follows (d : Delta) : Type 0 where
     entries : List ℕ
     line : Begins span left (span_of d) entries
-    state : Begins (stated f) entries d.state []
+    state : Begins (entries_in f) entries d.state []
 
   follows : (d : Delta) → IsDeltaText text d → Follows d
   follows d of =
       let its = in_format text d of in
-      let entries : List ℕ = (stated its.format).spelled d.state in
+      let entries : List ℕ = (entries_in its.format).spelled d.state in
       let same = format_once word its.format f (span_line d ++ entries) left (sym its.whole ∙ front) in
       record {
         entries = entries;
         line = record { is = ((of.delta.incarnation, of.delta.order), of.delta.end); whole = sym same.1 };
-        state = subst (λ (g : Format). Begins (stated g) entries d.state []) same.0 (record { is = its.is; whole = sym (append-nil entries) });
+        state = subst (λ (g : Format). Begins (entries_in g) entries d.state []) same.0 (record { is = its.is; whole = sym (append-nil entries) });
       }
 
   -- what refuses the line refuses the delta
@@ -154,33 +154,33 @@ module _ (f : Format) (text left : List ℕ) (front : text ≡ first_line word f
 
   module _ (s : ℕ × (ℕ × ℕ)) (rest : List ℕ) (line : Begins span left s rest) where
     -- and so does what refuses the entries
-    pub delta_refused : length text ≤ longest_text → (fault : StateFault) → RefusesWhole (stated f) rest fault → IsDeltaCause fault text
+    pub delta_refused : length text ≤ longest_text → (fault : StateFault) → RefusesWhole (entries_in f) rest fault → IsDeltaCause fault text
     delta_refused small TooLong refused = absurd refused
     delta_refused small NotState refused = (
       small,
       λ d of.
           let its = follows d of in
           let same = span_once left (span_of d) s its.entries rest its.line line in
-          refused d.state (subst (λ (u : List ℕ). Begins (stated f) u d.state []) same.1 its.state),
+          refused d.state (subst (λ (u : List ℕ). Begins (entries_in f) u d.state []) same.1 its.state),
     )
     delta_refused small NoMemory refused = small
 
-    pub delta_found : (state : Entries) → Begins (stated f) rest state [] → IsDeltaText text (record { incarnation = s.0; start = s.1.0; end = s.1.1; state = state })
+    pub delta_found : (state : Entries) → Begins (entries_in f) rest state [] → IsDeltaText text (record { incarnation = s.0; start = s.1.0; end = s.1.1; state = state })
     delta_found state begins =
         let d : Delta = record { incarnation = s.0; start = s.1.0; end = s.1.1; state = state } in
         written_in f text d (record { incarnation = line.is.0.0; order = line.is.0.1; end = line.is.1; state = stated_is f state begins.is }) begins.is
-        (front ∙ ap (λ (u : List ℕ). first_line word f ++ u) (line.whole ∙ ap (λ (u : List ℕ). span_line d ++ u) (begins.whole ∙ append-nil ((stated f).spelled state))))
+        (front ∙ ap (λ (u : List ℕ). first_line word f ++ u) (line.whole ∙ ap (λ (u : List ℕ). span_line d ++ u) (begins.whole ∙ append-nil ((entries_in f).spelled state))))
 
 -- no two deltas have a text
 pub one_delta_text : (text : List ℕ) (x y : Delta) → IsDeltaText text x → IsDeltaText text y → x ≡ y
 one_delta_text text x y of_x of_y =
     let format = (in_format text y of_y).format in
-    let left : List ℕ = span_line y ++ (stated format).spelled y.state in
+    let left : List ℕ = span_line y ++ (entries_in format).spelled y.state in
     let front = (in_format text y of_y).whole in
     let its_x = follows format text left front x of_x in
     let its_y = follows format text left front y of_y in
     let spans = span_once left (span_of x) (span_of y) its_x.entries its_y.entries its_x.line its_y.line in
-    let states = stated_once format its_y.entries x.state y.state (subst (λ (u : List ℕ). Begins (stated format) u x.state []) spans.1 its_x.state) its_y.state in
+    let states = stated_once format its_y.entries x.state y.state (subst (λ (u : List ℕ). Begins (entries_in format) u x.state []) spans.1 its_x.state) its_y.state in
     λ i. record { incarnation = (spans.0 i).0; start = (spans.0 i).1.0; end = (spans.0 i).1.1; state = states i }
 
 pub one_delta : (x y : Delta) → IsDelta x → IsDelta y → delta_text x ≡ delta_text y → x ≡ y

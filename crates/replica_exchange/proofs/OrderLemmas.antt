@@ -32,8 +32,8 @@ use Rattle.memento_time.proofs.ListFacts.{no_element, first_element, later_eleme
 use Rattle.replica_exchange.specs.declared.order.OrderRow.{OrderRow}
 use Rattle.replica_exchange.specs.declared.stamps.ChangedKey.{ChangedKey}
 use Rattle.replica_exchange.specs.Stamps.{StampedState, is_above, entries_above}
-use Rattle.replica_exchange.specs.StampShelves.{Slots, Shelves, slot, slot_of, filled, key_of, is_among, restamped}
-use Rattle.replica_exchange.specs.StampOrder.{given, given_at, is_stamp, row_with, AreStanding, IsOrderOf, IsBehind, AreAbove, entry_with, standing_entry}
+use Rattle.replica_exchange.specs.StampShelves.{Slots, Shelves, slot, slot_of, stamp_in, key_of, is_among, stamp_after}
+use Rattle.replica_exchange.specs.StampOrder.{stamp_and_key, given_at, is_stamp, row_with, AreStanding, IsOrderOf, IsBehind, AreAbove, entry_with, standing_entry}
 use Rattle.memento_sets.proofs.Sets.{two_parts}
 use Rattle.harvest_lattice.proofs.ShelfLemmas.{same_text, lookup-find}
 use Rattle.replica_exchange.proofs.ShelfLemmas.{none_above}
@@ -65,7 +65,8 @@ among_given [] number k h = absurd (true≢false (sym h))
 among_given (key ∷ keys) number k h =
     let rest = among_given keys number k in
     elim (eq_by_cmp key_cmp k (key_of key)) as (λ b. eq_by_cmp key_cmp k (key_of key) ≡ b → (b || is_among (map key_of keys) k) ≡ true → Contains (map (given_at number) (key ∷ keys)) (number, k)) [
-      | true ↦ λ t _. subst (λ (q : Key). Contains (map (given_at number) (key ∷ keys)) (number, q)) (sym (same_key k (key_of key) t)) (first_element (given_at number key) (map (given_at number) keys))
+      | true ↦ λ t _. subst (λ (q : Key). Contains (map (given_at number) (key ∷ keys)) (number, q)) (sym (same_key k (key_of key) t))
+          (first_element (given_at number key) (map (given_at number) keys))
       | false ↦ λ _ other. later_element (given_at number key) (map (given_at number) keys) (number, k) (rest other)
     ] refl h
 
@@ -80,10 +81,10 @@ rises_more (key ∷ keys) number rows up within =
 
 -- the order once a merge has stamped its keys
 pub order_after : (old made new : Shelves) (rows : List (ℕ × Key)) (keys : List ChangedKey) (was number : ℕ) → number ≡ was + 1 → IsOrderOf old rows was
-    → ((k : Key) → filled (slot made k) ≡ filled (slot old k))
-    → ((k : Key) → filled (slot new k) ≡ restamped (map key_of keys) number k (filled (slot made k))) → IsOrderOf new (rows ++ map (given_at number) keys) number
+    → ((k : Key) → stamp_in (slot made k) ≡ stamp_in (slot old k))
+    → ((k : Key) → stamp_in (slot new k) ≡ stamp_after (map key_of keys) number k (stamp_in (slot made k))) → IsOrderOf new (rows ++ map (given_at number) keys) number
 order_after old made new rows keys was number next is same stamped = record {
-  listed = λ k stamp there. at k stamp (is_among (map key_of keys) k) refl (sym (stamped k ∙ ap (restamped (map key_of keys) number k) (same k)) ∙ there);
+  listed = λ k stamp there. at k stamp (is_among (map key_of keys) k) refl (sym (stamped k ∙ ap (stamp_after (map key_of keys) number k) (same k)) ∙ there);
   rises = rises_more keys number rows is.rises below;
   within = All-append (λ (row : ℕ × Key). row.0 ≤ number) rows (map (given_at number) keys) below (All-map (λ (row : ℕ × Key). row.0 ≤ number) (given_at number) keys (λ k d lt. omega arith));
 }
@@ -91,14 +92,14 @@ order_after old made new rows keys was number next is same stamped = record {
     below : All (λ (row : ℕ × Key). row.0 ≤ number) rows
     below k d lt = let le = is.within k d lt in omega (arith, le, next)
 
-    at : (k : Key) (stamp : ℕ) (b : Bool) → is_among (map key_of keys) k ≡ b → cond b (Some number) (filled (slot old k)) ≡ Some stamp → Contains (rows ++ map (given_at number) keys) (stamp, k)
+    at : (k : Key) (stamp : ℕ) (b : Bool) → is_among (map key_of keys) k ≡ b → cond b (Some number) (stamp_in (slot old k)) ≡ Some stamp → Contains (rows ++ map (given_at number) keys) (stamp, k)
     at k stamp true among there =
         subst (λ (n : ℕ). Contains (rows ++ map (given_at number) keys) (n, k)) (same_Some number stamp there)
         (Contains-append_right rows (map (given_at number) keys) (number, k) (among_given keys number k among))
     at k stamp false among there = Contains-append_left rows (map (given_at number) keys) (stamp, k) (is.listed k stamp there)
 
 -- slots that hold the same have the same order
-pub order_same : (old new : Shelves) (rows : List (ℕ × Key)) (number : ℕ) → ((k : Key) → filled (slot new k) ≡ filled (slot old k)) → IsOrderOf old rows number → IsOrderOf new rows number
+pub order_same : (old new : Shelves) (rows : List (ℕ × Key)) (number : ℕ) → ((k : Key) → stamp_in (slot new k) ≡ stamp_in (slot old k)) → IsOrderOf old rows number → IsOrderOf new rows number
 order_same old new rows number same is = record {
   listed = λ k stamp there. is.listed k stamp (sym (same k) ∙ there);
   rises = is.rises;
@@ -108,7 +109,7 @@ order_same old new rows number same is = record {
 -- the order of no slots
 pub order_of_none : (shelves : Shelves) (rows : List (ℕ × Key)) → shelves.entries ≡ [] → rows ≡ [] → IsOrderOf shelves rows 0
 order_of_none shelves rows empty none = record {
-  listed = λ k stamp there. absurd (none-some stamp (sym (ap (λ (es : List (List ℕ × Slots)). filled (slot_of (lookup (is_at (text_cmp k.0)) es) k.1)) empty) ∙ there));
+  listed = λ k stamp there. absurd (none-some stamp (sym (ap (λ (es : List (List ℕ × Slots)). stamp_in (slot_of (lookup (is_at (text_cmp k.0)) es) k.1)) empty) ∙ there));
   rises = subst (IsNonDecreasingBy stamp_of) (sym none) (λ i j d le lt. absurd (omega (arith, lt)));
   within = subst (All (λ (row : ℕ × Key). row.0 ≤ 0)) (sym none) (All-nil (λ (row : ℕ × Key). row.0 ≤ 0));
 }
@@ -137,11 +138,11 @@ find_each (e ∷ es) h =
 
 module _ (shelves : Shelves) (ordered : IsOrdered text_cmp shelves) where
   abbrev Stands : ℕ × Key → Type 0
-  Stands row = filled (slot shelves row.1) ≡ Some row.0
+  Stands row = stamp_in (slot shelves row.1) ≡ Some row.0
 
   slot_stands : (archive original : List ℕ) (v : Option ℕ) → slot shelves (archive, original) ≡ Some v → All Stands (row_with (archive, original) v)
   slot_stands archive original None there = All-nil Stands
-  slot_stands archive original (Some stamp) there = All-cons Stands (stamp, (archive, original)) [] (ap filled there) (All-nil Stands)
+  slot_stands archive original (Some stamp) there = All-cons Stands (stamp, (archive, original)) [] (ap stamp_in there) (All-nil Stands)
 
   shelf_stands : (s : List ℕ × Slots) → tree.get text_cmp shelves s.0 ≡ Some s.1 → All Stands (shelf_order s)
   shelf_stands s there =
@@ -149,7 +150,7 @@ module _ (shelves : Shelves) (ordered : IsOrdered text_cmp shelves) where
       (λ e found. slot_stands s.0 e.0 e.1 (ap (λ (o : Option Slots). slot_of o e.0) there ∙ (fmap.get-entries s.1 e.0 ∙ found)))
       (fmap.entries s.1) (find_each (fmap.entries s.1) (fmap.entries_sorted s.1))
 
-  on_shelf : (archive original : List ℕ) (slots : Slots) (stamp : ℕ) (o : Option (Option ℕ)) → fmap.get slots original ≡ o → filled o ≡ Some stamp
+  on_shelf : (archive original : List ℕ) (slots : Slots) (stamp : ℕ) (o : Option (Option ℕ)) → fmap.get slots original ≡ o → stamp_in o ≡ Some stamp
       → Contains (shelf_order (archive, slots)) (stamp, (archive, original))
   on_shelf archive original slots stamp None there none = absurd (none-some stamp none)
   on_shelf archive original slots stamp (Some v) there has =
@@ -158,7 +159,7 @@ module _ (shelves : Shelves) (ordered : IsOrdered text_cmp shelves) where
       flat_contains (λ (e : List ℕ × Option ℕ). row_with (archive, e.0) e.1) (fmap.entries slots) (original, Some stamp) (stamp, (archive, original)) (first_element (stamp, (archive, original)) [])
       (Contains-from_lookup same_text original (Some stamp) (fmap.entries slots) found)
 
-  in_order : (archive original : List ℕ) (stamp : ℕ) (o : Option Slots) → tree.get text_cmp shelves archive ≡ o → filled (slot_of o original) ≡ Some stamp
+  in_order : (archive original : List ℕ) (stamp : ℕ) (o : Option Slots) → tree.get text_cmp shelves archive ≡ o → stamp_in (slot_of o original) ≡ Some stamp
       → Contains (flat_map shelf_order shelves.entries) (stamp, (archive, original))
   in_order archive original stamp None there none = absurd (none-some stamp none)
   in_order archive original stamp (Some slots) there has =
@@ -174,13 +175,13 @@ module _ (shelves : Shelves) (ordered : IsOrdered text_cmp shelves) where
   }
 
   -- also once they are sorted
-  pub sorted_standing : (rows sorted : List OrderRow) → map given rows ≡ flat_map shelf_order shelves.entries → IsPermutation rows sorted → AreStanding shelves (map given sorted)
+  pub sorted_standing : (rows sorted : List OrderRow) → map stamp_and_key rows ≡ flat_map shelf_order shelves.entries → IsPermutation rows sorted → AreStanding shelves (map stamp_and_key sorted)
   sorted_standing rows sorted same moved =
-      let moved_rows = IsPermutation-map given rows sorted moved in
-      let is : AreStanding shelves (map given rows) = subst (AreStanding shelves) (sym same) all_standing in
+      let moved_rows = IsPermutation-map stamp_and_key rows sorted moved in
+      let is : AreStanding shelves (map stamp_and_key rows) = subst (AreStanding shelves) (sym same) all_standing in
       record {
-        listed = λ k stamp there. Contains-permutation (map given rows) (map given sorted) (stamp, k) moved_rows (is.listed k stamp there);
-        stand = All-permutation Stands (map given rows) (map given sorted) moved_rows is.stand;
+        listed = λ k stamp there. Contains-permutation (map stamp_and_key rows) (map stamp_and_key sorted) (stamp, k) moved_rows (is.listed k stamp there);
+        stand = All-permutation Stands (map stamp_and_key rows) (map stamp_and_key sorted) moved_rows is.stand;
       }
 
 -- one archive more is listed
@@ -191,25 +192,27 @@ one_shelf_more was now walked more name archive slots listed is_now same is_more
     ∙ ap (λ (l : List (ℕ × Key)). flat_map shelf_order walked ++ l) (append-nil (shelf_order (archive, slots))) in
     is_now ∙ ((λ i. listed i ++ shelf_order (same i, slots)) ∙ (sym joined ∙ ap (flat_map shelf_order) (sym is_more)))
 
-rises_given : (rows : List OrderRow) → IsNonDecreasingBy (λ (row : OrderRow). row.stamp) rows → IsNonDecreasingBy stamp_of (map given rows)
+rises_given : (rows : List OrderRow) → IsNonDecreasingBy (λ (row : OrderRow). row.stamp) rows → IsNonDecreasingBy stamp_of (map stamp_and_key rows)
 rises_given [] up = λ i j d le lt. absurd (omega (arith, lt))
 rises_given (row ∷ rows) up =
-    IsNonDecreasingBy-from_default stamp_of (map given (row ∷ rows)) (given row)
+    IsNonDecreasingBy-from_default stamp_of (map stamp_and_key (row ∷ rows)) (stamp_and_key row)
     (λ i j le lt.
-    let less : j < length (row ∷ rows) = (let same = length-map (row ∷ rows) given in omega (arith, same, lt)) in
+    let less : j < length (row ∷ rows) = (let same = length-map (row ∷ rows) stamp_and_key in omega (arith, same, lt)) in
     let order = up i j row le less in
-    let low : stamp_of (get_or (map given (row ∷ rows)) i (given row)) ≡ (get_or (row ∷ rows) i row).stamp = ap stamp_of (get_or-map given (row ∷ rows) i row (given row) (omega (arith, le, less))) in
-    let high : stamp_of (get_or (map given (row ∷ rows)) j (given row)) ≡ (get_or (row ∷ rows) j row).stamp = ap stamp_of (get_or-map given (row ∷ rows) j row (given row) less) in
+    let low : stamp_of (get_or (map stamp_and_key (row ∷ rows)) i (stamp_and_key row)) ≡ (get_or (row ∷ rows) i row).stamp
+    = ap stamp_of (get_or-map stamp_and_key (row ∷ rows) i row (stamp_and_key row) (omega (arith, le, less))) in
+    let high : stamp_of (get_or (map stamp_and_key (row ∷ rows)) j (stamp_and_key row)) ≡ (get_or (row ∷ rows) j row).stamp
+    = ap stamp_of (get_or-map stamp_and_key (row ∷ rows) j row (stamp_and_key row) less) in
     omega (arith, order, low, high))
 
 -- the order of rows that were made anew
-pub order_anew : (shelves : Shelves) (rows : List (ℕ × Key)) (anew : List OrderRow) (number : ℕ) → AreStanding shelves (map given anew)
-    → IsNonDecreasingBy (λ (row : OrderRow). row.stamp) anew → IsOrderOf shelves rows number → IsOrderOf shelves (map given anew) number
+pub order_anew : (shelves : Shelves) (rows : List (ℕ × Key)) (anew : List OrderRow) (number : ℕ) → AreStanding shelves (map stamp_and_key anew)
+    → IsNonDecreasingBy (λ (row : OrderRow). row.stamp) anew → IsOrderOf shelves rows number → IsOrderOf shelves (map stamp_and_key anew) number
 order_anew shelves rows anew number are up is = record {
   listed = are.listed;
   rises = rises_given anew up;
   within = λ i d lt.
-      let row : ℕ × Key = get_or (map given anew) i d in
+      let row : ℕ × Key = get_or (map stamp_and_key anew) i d in
       All-contains (λ (row : ℕ × Key). row.0 ≤ number) rows row is.within (is.listed row.1 row.0 (are.stand i d lt));
 }
 
@@ -219,64 +222,67 @@ front_of {X} old next now more added same = ap (λ (l : List X). take (length ol
 
 -- ---- rows behind a start
 
-pub rises_by_row : (rows : List OrderRow) → IsNonDecreasingBy stamp_of (map given rows) → IsNonDecreasingBy (λ (row : OrderRow). row.stamp) rows
+pub rises_by_row : (rows : List OrderRow) → IsNonDecreasingBy stamp_of (map stamp_and_key rows) → IsNonDecreasingBy (λ (row : OrderRow). row.stamp) rows
 rises_by_row rows up i j d le lt =
-    let less : j < length (map given rows) = (let same = length-map rows given in omega (arith, same, lt)) in
-    let order = up i j (given d) le less in
-    let low : stamp_of (get_or (map given rows) i (given d)) ≡ (get_or rows i d).stamp = ap stamp_of (get_or-map given rows i d (given d) (omega (arith, le, lt))) in
-    let high : stamp_of (get_or (map given rows) j (given d)) ≡ (get_or rows j d).stamp = ap stamp_of (get_or-map given rows j d (given d) lt) in
+    let less : j < length (map stamp_and_key rows) = (let same = length-map rows stamp_and_key in omega (arith, same, lt)) in
+    let order = up i j (stamp_and_key d) le less in
+    let low : stamp_of (get_or (map stamp_and_key rows) i (stamp_and_key d)) ≡ (get_or rows i d).stamp = ap stamp_of (get_or-map stamp_and_key rows i d (stamp_and_key d) (omega (arith, le, lt))) in
+    let high : stamp_of (get_or (map stamp_and_key rows) j (stamp_and_key d)) ≡ (get_or rows j d).stamp = ap stamp_of (get_or-map stamp_and_key rows j d (stamp_and_key d) lt) in
     omega (arith, order, low, high)
 
-high : (rows : List OrderRow) (from start : ℕ) → AllWithin (λ (row : OrderRow). start < row.stamp) rows from (length rows) → All (λ (row : ℕ × Key). start < row.0) (map given (drop from rows))
+high : (rows : List OrderRow) (from start : ℕ) → AllWithin (λ (row : OrderRow). start < row.stamp) rows from (length rows) → All (λ (row : ℕ × Key). start < row.0) (map stamp_and_key (drop from rows))
 high rows from start after =
-    All-map (λ (row : ℕ × Key). start < row.0) given (drop from rows)
+    All-map (λ (row : ℕ × Key). start < row.0) stamp_and_key (drop from rows)
     (λ k d lt. subst (λ (row : OrderRow). start < row.stamp) (sym (get_or-drop from rows k d)) (after (from + k) d (omega arith) (let left = length-drop from rows in omega (arith, lt, left))))
 
-low : (rows : List OrderRow) (from start : ℕ) → from ≤ length rows → AllWithin (λ (row : OrderRow). row.stamp ≤ start) rows 0 from → All (λ (row : ℕ × Key). row.0 ≤ start) (map given (take from rows))
+low : (rows : List OrderRow) (from start : ℕ) → from ≤ length rows → AllWithin (λ (row : OrderRow). row.stamp ≤ start) rows 0 from
+    → All (λ (row : ℕ × Key). row.0 ≤ start) (map stamp_and_key (take from rows))
 low rows from start le until =
-    All-map (λ (row : ℕ × Key). row.0 ≤ start) given (take from rows)
+    All-map (λ (row : ℕ × Key). row.0 ≤ start) stamp_and_key (take from rows)
     (λ k d lt. let less : k < from = (let all = length-take-le from rows le in omega (arith, lt, all)) in subst (λ (row : OrderRow). row.stamp ≤ start)
     (sym (get_or-take from rows k d less)) (until k d (omega arith) less))
 
 -- the rest from the first row on that has a stamp above the start
 pub rest_behind : (rows : List OrderRow) (from start : ℕ) → from ≤ length rows → AllWithin (λ (row : OrderRow). row.stamp ≤ start) rows 0 from
     → AllWithin (λ (row : OrderRow). start < row.stamp) rows from (length rows)
-    → IsBehind start (map given rows) (map given (drop from rows))
+    → IsBehind start (map stamp_and_key rows) (map stamp_and_key (drop from rows))
 rest_behind rows from start le until after = record {
   above = high rows from start after;
   all = λ row above there.
       split row above
-      (Contains-append_cases (map given (take from rows)) (map given (drop from rows)) row (subst (λ (l : List (ℕ × Key)). Contains l row) parts there));
+      (Contains-append_cases (map stamp_and_key (take from rows)) (map stamp_and_key (drop from rows)) row (subst (λ (l : List (ℕ × Key)). Contains l row) parts there));
 }
   where
-    parts : map given rows ≡ map given (take from rows) ++ map given (drop from rows)
-    parts = ap (map given) (sym (take-append-drop from rows)) ∙ map-append given (take from rows) (drop from rows)
+    parts : map stamp_and_key rows ≡ map stamp_and_key (take from rows) ++ map stamp_and_key (drop from rows)
+    parts = ap (map stamp_and_key) (sym (take-append-drop from rows)) ∙ map-append stamp_and_key (take from rows) (drop from rows)
 
-    split : (row : ℕ × Key) → start < row.0 → Contains (map given (take from rows)) row ⊎ Contains (map given (drop from rows)) row → Contains (map given (drop from rows)) row
+    split : (row : ℕ × Key) → start < row.0 → Contains (map stamp_and_key (take from rows)) row ⊎ Contains (map stamp_and_key (drop from rows)) row → Contains (map stamp_and_key (drop from rows)) row
     split row above (inl lower) =
         let le_start : row.0 ≤ start =
-        All-contains (λ (row : ℕ × Key). row.0 ≤ start) (map given (take from rows)) row (low rows from start le until) lower in
+        All-contains (λ (row : ℕ × Key). row.0 ≤ start) (map stamp_and_key (take from rows)) row (low rows from start le until) lower in
         absurd (omega (arith, above, le_start))
     split row above (inr higher) = higher
 
 -- the same of what a slice is cut from, and of how it is cut
-pub rest_of : (start : ℕ) (items rows rest cut : List OrderRow) → rows ≡ items → cut ≡ rest → IsBehind start (map given rows) (map given rest) → IsBehind start (map given items) (map given cut)
+pub rest_of : (start : ℕ) (items rows rest cut : List OrderRow) → rows ≡ items → cut ≡ rest → IsBehind start (map stamp_and_key rows) (map stamp_and_key rest)
+    → IsBehind start (map stamp_and_key items) (map stamp_and_key cut)
 rest_of start items rows rest cut same is_rest is =
-    subst (λ (l : List OrderRow). IsBehind start (map given l) (map given cut)) same (subst (λ (l : List OrderRow). IsBehind start (map given rows) (map given l)) (sym is_rest) is)
+    subst (λ (l : List OrderRow). IsBehind start (map stamp_and_key l) (map stamp_and_key cut)) same
+    (subst (λ (l : List OrderRow). IsBehind start (map stamp_and_key rows) (map stamp_and_key l)) (sym is_rest) is)
 
-pub rises_of : (items rows : List OrderRow) → rows ≡ items → IsNonDecreasingBy stamp_of (map given items) → IsNonDecreasingBy (λ (row : OrderRow). row.stamp) rows
-rises_of items rows same up = rises_by_row rows (subst (λ (l : List OrderRow). IsNonDecreasingBy stamp_of (map given l)) (sym same) up)
+pub rises_of : (items rows : List OrderRow) → rows ≡ items → IsNonDecreasingBy stamp_of (map stamp_and_key items) → IsNonDecreasingBy (λ (row : OrderRow). row.stamp) rows
+rises_of items rows same up = rises_by_row rows (subst (λ (l : List OrderRow). IsNonDecreasingBy stamp_of (map stamp_and_key l)) (sym same) up)
 
 -- one row more is looked at
 pub noted_more : (s : StampedState) (rows : List OrderRow) (i : ℕ) (item : OrderRow) (row : ℕ × Key) (was now : List (Key × Kept)) → i < length rows → item ≡ get_or rows i item
-    → row ≡ given item → was ≡ flat_map (standing_entry s) (map given (take i rows))
-    → now ≡ was ++ standing_entry s row → now ≡ flat_map (standing_entry s) (map given (take (i + 1) rows))
+    → row ≡ stamp_and_key item → was ≡ flat_map (standing_entry s) (map stamp_and_key (take i rows))
+    → now ≡ was ++ standing_entry s row → now ≡ flat_map (standing_entry s) (map stamp_and_key (take (i + 1) rows))
 noted_more s rows i item row was now lt at same is_was is_now =
     let f = standing_entry s in
-    let taken : List (ℕ × Key) = map given (take i rows) in
-    let more : map given (take (i + 1) rows) ≡ taken ++ given item ∷ [] = map_more given rows i item lt ∙ ap (λ (r : OrderRow). taken ++ given r ∷ []) (sym at) in
-    let joined : flat_map f (taken ++ given item ∷ []) ≡ flat_map f taken ++ f (given item) = flat_map-append f taken (given item ∷ [])
-    ∙ ap (λ (l : List (Key × Kept)). flat_map f taken ++ l) (append-nil (f (given item))) in
+    let taken : List (ℕ × Key) = map stamp_and_key (take i rows) in
+    let more : map stamp_and_key (take (i + 1) rows) ≡ taken ++ stamp_and_key item ∷ [] = map_more stamp_and_key rows i item lt ∙ ap (λ (r : OrderRow). taken ++ stamp_and_key r ∷ []) (sym at) in
+    let joined : flat_map f (taken ++ stamp_and_key item ∷ []) ≡ flat_map f taken ++ f (stamp_and_key item) = flat_map-append f taken (stamp_and_key item ∷ [])
+    ∙ ap (λ (l : List (Key × Kept)). flat_map f taken ++ l) (append-nil (f (stamp_and_key item))) in
     is_now ∙ ((λ i. is_was i ++ f (same i)) ∙ (sym joined ∙ ap (flat_map f) (sym more)))
 
 module _ (s : StampedState) (start : ℕ) where
@@ -305,7 +311,7 @@ module _ (s : StampedState) (start : ℕ) where
       (subst (λ (o : Option Kept). Contains (entry_with k o) (k, e)) (sym there) (first_element (k, e) []))
 
   -- the entries of the rows behind a start are those above it
-  pub above_behind : (shelves : Shelves) (rows behind : List (ℕ × Key)) (number : ℕ) (es : List (Key × Kept)) → ((k : Key) → fmap.get s.stamps k ≡ filled (slot shelves k))
+  pub above_behind : (shelves : Shelves) (rows behind : List (ℕ × Key)) (number : ℕ) (es : List (Key × Kept)) → ((k : Key) → fmap.get s.stamps k ≡ stamp_in (slot shelves k))
       → IsOrderOf shelves rows number → IsBehind start rows behind
       → es ≡ flat_map (standing_entry s) behind → AreAbove s start es
   above_behind shelves rows behind number es stamps is rest same = subst (AreAbove s start) (sym same) (record {

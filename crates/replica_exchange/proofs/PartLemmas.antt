@@ -26,7 +26,7 @@ use Rattle.replica_exchange.specs.declared.format.Format.{Format}
 use Rattle.replica_exchange.specs.declared.format.Format.TheVariants.{One, Two}
 use Rattle.replica_exchange.specs.StateText.{memento_lines, line_of_entry, whole_field, entry_line, part_line, part_text, old_entry_line, old_part_text}
 use Rattle.replica_exchange.specs.StateText.{IsPart, IsEntry}
-use Rattle.replica_exchange.specs.Spelling.{Spelling, Begins, ended, field, number}
+use Rattle.replica_exchange.specs.Spelling.{Spelling, Begins, value_and_end, field, number}
 use Rattle.replica_exchange.specs.Parts.{memento, IsWholeField, line_with, head, old_head, set_of, part_head, part, new_entry, old_entry, entry, many}
 use Rattle.replica_exchange.proofs.SpellingLemmas.{Once, number_once, whole_once, archive_once, original_once, uri_once, ended_apart}
 use Rattle.replica_exchange.proofs.Sequences.{Leaves, seq, seq_found, seq_first, seq_then, seq_once, many_once, many_more, many_leaves}
@@ -223,7 +223,7 @@ number_and_original_once = seq_once (number 32) (field IsOriginal 10) (number_on
 
 module _ {A : Type 0} (Is : A → Type 0) (written : A → List ℕ) where
   abbrev field_on : Spelling (A × (ℕ × List ℕ))
-  field_on = seq (ended Is written 32) number_and_original
+  field_on = seq (value_and_end Is written 32) number_and_original
 
   abbrev archive_on : Spelling (List ℕ × (A × (ℕ × List ℕ)))
   archive_on = seq (field IsArchiveName 32) field_on
@@ -263,13 +263,13 @@ module _ {A : Type 0} (Is : A → Type 0) (written : A → List ℕ) where
       from_field h rest begins = (seq_then (field IsArchiveName 32) field_on archive_once left left_1 rest h.0.0 name (fields_of h).1 archive (from_archive h rest begins)).1
 
       -- and the field
-      pub line_leaves_field : Leaves (ended Is written 32) (line_with Is written) text left_1
+      pub line_leaves_field : Leaves (value_and_end Is written 32) (line_with Is written) text left_1
       line_leaves_field h rest begins =
-          (h.1.0, number_and_original.spelled (h.1.1, h.0.1) ++ rest, seq_first (ended Is written 32) number_and_original left_1 rest h.1.0 (h.1.1, h.0.1) (from_field h rest begins))
+          (h.1.0, number_and_original.spelled (h.1.1, h.0.1) ++ rest, seq_first (value_and_end Is written 32) number_and_original left_1 rest h.1.0 (h.1.1, h.0.1) (from_field h rest begins))
 
-      module _ (once : Once (ended Is written 32)) (value : A) (left_2 : List ℕ) (valued : Begins (ended Is written 32) left_1 value left_2) where
+      module _ (once : Once (value_and_end Is written 32)) (value : A) (left_2 : List ℕ) (valued : Begins (value_and_end Is written 32) left_1 value left_2) where
         from_number : (h : Key × (A × ℕ)) (rest : List ℕ) → Begins (line_with Is written) text h rest → Begins number_and_original left_2 (h.1.1, h.0.1) rest
-        from_number h rest begins = (seq_then (ended Is written 32) number_and_original once left_1 left_2 rest h.1.0 value (h.1.1, h.0.1) valued (from_field h rest begins)).1
+        from_number h rest begins = (seq_then (value_and_end Is written 32) number_and_original once left_1 left_2 rest h.1.0 value (h.1.1, h.0.1) valued (from_field h rest begins)).1
 
         -- and the number
         pub line_leaves_number : Leaves (number 32) (line_with Is written) text left_2
@@ -285,7 +285,7 @@ module _ {A : Type 0} (Is : A → Type 0) (written : A → List ℕ) where
           line_found original rest last =
               let h : Key × (A × ℕ) = ((name, original), (value, count)) in
               let after_number = seq_found (number 32) (field IsOriginal 10) left_2 left_3 rest count original counted last in
-              let after_field = seq_found (ended Is written 32) number_and_original left_1 left_2 rest value (count, original) valued after_number in
+              let after_field = seq_found (value_and_end Is written 32) number_and_original left_1 left_2 rest value (count, original) valued after_number in
               let all = seq_found (field IsArchiveName 32) field_on left left_1 rest name (value, (count, original)) archive after_field in
               record {
                 is = ((archive.is, last.is), (valued.is, counted.is));
@@ -295,11 +295,11 @@ module _ {A : Type 0} (Is : A → Type 0) (written : A → List ℕ) where
                     ∙ (sym (append_assoc (codes "entry ") (archive_on.spelled (fields_of h)) rest) ∙ ap (λ (u : List ℕ). u ++ rest) (sym (line_parts h))));
               }
 
-  line_once : Once (ended Is written 32) → Once (line_with Is written)
+  line_once : Once (value_and_end Is written 32) → Once (line_with Is written)
   line_once once text x y r u bx by =
       let left : List ℕ = archive_on.spelled (fields_of y) ++ u in
       let front = line_whole text u y by in
-      let from_value = seq_once (ended Is written 32) number_and_original once number_and_original_once in
+      let from_value = seq_once (value_and_end Is written 32) number_and_original once number_and_original_once in
       let same = seq_once (field IsArchiveName 32) field_on archive_once from_value left (fields_of x) (fields_of y) r u (from_archive text left front x r bx) (from_archive text left front y u by) in
       ((λ i. (((same.0 i).0, (same.0 i).1.1.1), ((same.0 i).1.0, (same.0 i).1.1.0))), same.1)
 

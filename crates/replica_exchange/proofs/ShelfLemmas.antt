@@ -21,7 +21,7 @@ use Rattle.memento_sets.proofs.Sets.{less_from, two_parts}
 use Rattle.harvest_lattice.specs.Lattice.{Key, key_cmp}
 use Rattle.harvest_lattice.proofs.Entries.{key_cmp_total, key_cmp_exact}
 use Rattle.harvest_lattice.proofs.ShelfLemmas.{text_exact, same_text, lookup-find, find_both, tie, apart, none_after, or_none}
-use Rattle.replica_exchange.specs.StampShelves.{Slots, Shelves, slot_of, slot, filled, slot_rows, shelf_rows, all_rows, stamps_in}
+use Rattle.replica_exchange.specs.StampShelves.{Slots, Shelves, slot_of, slot, stamp_in, slot_rows, shelf_rows, all_rows, stamps_in}
 
 -- no original is found among greater ones
 pub none_above : (o : List ℕ) (es : List (List ℕ × Option ℕ)) → T (below_all text_cmp o es) → fmap.find text_cmp o es ≡ None
@@ -31,18 +31,18 @@ none_above o (e ∷ es) h =
     ap (λ r. cond (is_eq r) (Some e.1) (fmap.find text_cmp o es)) (less_from (text_cmp o e.0) p.0) ∙ none_above o es p.1
 
 -- an archive's rows have what its slots hold
-find_shelf : (a o : List ℕ) (es : List (List ℕ × Option ℕ)) → T (fmap.is_sorted text_cmp es) → fmap.find key_cmp (a, o) (shelf_rows a es) ≡ filled (fmap.find text_cmp o es)
+find_shelf : (a o : List ℕ) (es : List (List ℕ × Option ℕ)) → T (fmap.is_sorted text_cmp es) → fmap.find key_cmp (a, o) (shelf_rows a es) ≡ stamp_in (fmap.find text_cmp o es)
 find_shelf a o [] h = refl
 find_shelf a o (e ∷ es) h =
     let p = two_parts (below_all text_cmp e.0 es) (fmap.is_sorted text_cmp es) h in
     let rest = find_shelf a o es p.1 in
-    elim (e.1) as (λ v. fmap.find key_cmp (a, o) (slot_rows a e.0 v ++ shelf_rows a es) ≡ filled (cond (eq_by_cmp text_cmp o e.0) (Some v) (fmap.find text_cmp o es))) [
-      | None ↦ rest ∙ elim (eq_by_cmp text_cmp o e.0) as (λ b. eq_by_cmp text_cmp o e.0 ≡ b → filled (fmap.find text_cmp o es) ≡ filled (cond b (Some None) (fmap.find text_cmp o es))) [
-        | true ↦ λ t. ap filled (none_above o es (subst (λ q. T (below_all text_cmp q es)) (sym (same_text o e.0 t)) p.0))
+    elim (e.1) as (λ v. fmap.find key_cmp (a, o) (slot_rows a e.0 v ++ shelf_rows a es) ≡ stamp_in (cond (eq_by_cmp text_cmp o e.0) (Some v) (fmap.find text_cmp o es))) [
+      | None ↦ rest ∙ elim (eq_by_cmp text_cmp o e.0) as (λ b. eq_by_cmp text_cmp o e.0 ≡ b → stamp_in (fmap.find text_cmp o es) ≡ stamp_in (cond b (Some None) (fmap.find text_cmp o es))) [
+        | true ↦ λ t. ap stamp_in (none_above o es (subst (λ q. T (below_all text_cmp q es)) (sym (same_text o e.0 t)) p.0))
         | false ↦ λ _. refl
       ] refl
       | Some v ↦ ap (λ b. cond b (Some v) (fmap.find key_cmp (a, o) (shelf_rows a es))) (tie a o e.0)
-          ∙ elim (eq_by_cmp text_cmp o e.0) as (λ b. cond b (Some v) (fmap.find key_cmp (a, o) (shelf_rows a es)) ≡ filled (cond b (Some (Some v)) (fmap.find text_cmp o es)))
+          ∙ elim (eq_by_cmp text_cmp o e.0) as (λ b. cond b (Some v) (fmap.find key_cmp (a, o) (shelf_rows a es)) ≡ stamp_in (cond b (Some (Some v)) (fmap.find text_cmp o es)))
           [ true ↦ refl | false ↦ rest ]
     ]
 
@@ -56,41 +56,41 @@ find_other a b o (e ∷ es) h =
     ]
 
 -- all rows have what the slots hold
-pub find_all : (k : Key) (ss : List (List ℕ × Slots)) → IsStrictlySortedBy text_cmp (keys_of ss) → fmap.find key_cmp k (all_rows ss) ≡ filled (slot_of (lookup (is_at (text_cmp k.0)) ss) k.1)
+pub find_all : (k : Key) (ss : List (List ℕ × Slots)) → IsStrictlySortedBy text_cmp (keys_of ss) → fmap.find key_cmp k (all_rows ss) ≡ stamp_in (slot_of (lookup (is_at (text_cmp k.0)) ss) k.1)
 unfolding IsStrictlySortedBy
 find_all k [] h = refl
 find_all k (s ∷ ss) h =
     let rest = find_all k ss h.1 in
     find_both k (shelf_rows s.0 (fmap.entries s.1)) (all_rows ss)
     ∙ elim (eq_by_cmp text_cmp k.0 s.0) as (λ b. eq_by_cmp text_cmp k.0 s.0 ≡ b → option_or (fmap.find key_cmp k (shelf_rows s.0 (fmap.entries s.1)))
-    (fmap.find key_cmp k (all_rows ss)) ≡ filled (slot_of (cond b (Some s.1) (lookup (is_at (text_cmp k.0)) ss)) k.1)) [
+    (fmap.find key_cmp k (all_rows ss)) ≡ stamp_in (slot_of (cond b (Some s.1) (lookup (is_at (text_cmp k.0)) ss)) k.1)) [
       | true ↦ λ t.
           let here : k.0 ≡ s.0 = same_text k.0 s.0 t in
           let none : fmap.find key_cmp k (all_rows ss) ≡ None = rest
-          ∙ ap (λ o. filled (slot_of o k.1)) (none_after k.0 ss (subst (λ a. AllByRecursion (λ b. text_cmp a b ≡ Less) (keys_of ss)) (sym here) h.0)) in
+          ∙ ap (λ o. stamp_in (slot_of o k.1)) (none_after k.0 ss (subst (λ a. AllByRecursion (λ b. text_cmp a b ≡ Less) (keys_of ss)) (sym here) h.0)) in
           ap (option_or (fmap.find key_cmp k (shelf_rows s.0 (fmap.entries s.1)))) none
           ∙ (or_none (fmap.find key_cmp k (shelf_rows s.0 (fmap.entries s.1)))
           ∙ (ap (λ a. fmap.find key_cmp (a, k.1) (shelf_rows s.0 (fmap.entries s.1))) here
-          ∙ (find_shelf s.0 k.1 (fmap.entries s.1) (fmap.entries_sorted s.1) ∙ ap filled (sym (fmap.get-entries s.1 k.1)))))
+          ∙ (find_shelf s.0 k.1 (fmap.entries s.1) (fmap.entries_sorted s.1) ∙ ap stamp_in (sym (fmap.get-entries s.1 k.1)))))
       | false ↦ λ t. ap (λ o. option_or o (fmap.find key_cmp k (all_rows ss))) (find_other k.0 s.0 k.1 (fmap.entries s.1) t) ∙ rest
     ] refl
 
-pub get-stamps_in : (m : Shelves) → tree.IsOrdered text_cmp m → (k : Key) → fmap.get (stamps_in m) k ≡ filled (slot m k)
+pub get-stamps_in : (m : Shelves) → tree.IsOrdered text_cmp m → (k : Key) → fmap.get (stamps_in m) k ≡ stamp_in (slot m k)
 get-stamps_in m h k = fmap.get-from_entries key_cmp_total (all_rows m.entries) k ∙ find_all k m.entries h
 
 -- slots that hold the same are the same entries
-pub same_stamps : (m n : Shelves) → tree.IsOrdered text_cmp m → tree.IsOrdered text_cmp n → ((k : Key) → filled (slot n k) ≡ filled (slot m k)) → stamps_in n ≡ stamps_in m
+pub same_stamps : (m n : Shelves) → tree.IsOrdered text_cmp m → tree.IsOrdered text_cmp n → ((k : Key) → stamp_in (slot n k) ≡ stamp_in (slot m k)) → stamps_in n ≡ stamps_in m
 same_stamps m n h g same = fmap.same_map key_cmp_total key_cmp_exact _ _ (λ k. get-stamps_in n g k ∙ (same k ∙ sym (get-stamps_in m h k)))
 
 -- ---- slots made and filled
 
 -- an archive's slots in its place, which hold the same
 pub same_shelf : (m n : Shelves) (a : List ℕ) (w : Slots) → ((q : List ℕ) → tree.get text_cmp n q ≡ cond (eq_by_cmp text_cmp a q) (Some w) (tree.get text_cmp m q))
-    → ((o : List ℕ) → filled (fmap.get w o) ≡ filled (slot_of (tree.get text_cmp m a) o)) → (k : Key) → filled (slot n k) ≡ filled (slot m k)
+    → ((o : List ℕ) → stamp_in (fmap.get w o) ≡ stamp_in (slot_of (tree.get text_cmp m a) o)) → (k : Key) → stamp_in (slot n k) ≡ stamp_in (slot m k)
 same_shelf m n a w put same k =
-    ap (λ s. filled (slot_of s k.1)) (put k.0)
-    ∙ elim (eq_by_cmp text_cmp a k.0) as (λ b. eq_by_cmp text_cmp a k.0 ≡ b → filled (slot_of (cond b (Some w) (tree.get text_cmp m k.0)) k.1) ≡ filled (slot m k)) [
-      | true ↦ λ t. same k.1 ∙ ap (λ b. filled (slot_of (tree.get text_cmp m b) k.1)) (same_text a k.0 t)
+    ap (λ s. stamp_in (slot_of s k.1)) (put k.0)
+    ∙ elim (eq_by_cmp text_cmp a k.0) as (λ b. eq_by_cmp text_cmp a k.0 ≡ b → stamp_in (slot_of (cond b (Some w) (tree.get text_cmp m k.0)) k.1) ≡ stamp_in (slot m k)) [
+      | true ↦ λ t. same k.1 ∙ ap (λ b. stamp_in (slot_of (tree.get text_cmp m b) k.1)) (same_text a k.0 t)
       | false ↦ λ _. refl
     ] refl
 
@@ -151,11 +151,11 @@ nothing None h = refl
 nothing (Some a) h = absurd (subst T h tt)
 
 -- an empty slot where there was none holds nothing more
-pub slot_same : (x : Slots) (a : List ℕ) → is_some (fmap.get x a) ≡ false → (o : List ℕ) → filled (fmap.get (fmap.insert x a None) o) ≡ filled (fmap.get x o)
+pub slot_same : (x : Slots) (a : List ℕ) → is_some (fmap.get x a) ≡ false → (o : List ℕ) → stamp_in (fmap.get (fmap.insert x a None) o) ≡ stamp_in (fmap.get x o)
 slot_same x a none o =
-    ap filled (fmap.get-insert nat_list_cmp_total x a None o)
-    ∙ elim (eq_by_cmp text_cmp o a) as (λ b. eq_by_cmp text_cmp o a ≡ b → filled (cond b (Some None) (fmap.get x o)) ≡ filled (fmap.get x o)) [
-      | true ↦ λ t. sym (ap filled (ap (fmap.get x) (same_text o a t) ∙ nothing (fmap.get x a) none))
+    ap stamp_in (fmap.get-insert nat_list_cmp_total x a None o)
+    ∙ elim (eq_by_cmp text_cmp o a) as (λ b. eq_by_cmp text_cmp o a ≡ b → stamp_in (cond b (Some None) (fmap.get x o)) ≡ stamp_in (fmap.get x o)) [
+      | true ↦ λ t. sym (ap stamp_in (ap (fmap.get x) (same_text o a t) ∙ nothing (fmap.get x a) none))
       | false ↦ λ _. refl
     ] refl
 
@@ -171,9 +171,9 @@ slot_made x a v =
 -- ---- a shelf made
 
 pub new_shelf_same : (m n : Shelves) (a : List ℕ) (w : Slots) → w ≡ fmap.empty → is_some (tree.get text_cmp m a) ≡ false
-    → ((q : List ℕ) → tree.get text_cmp n q ≡ cond (eq_by_cmp text_cmp a q) (Some w) (tree.get text_cmp m q)) → (k : Key) → filled (slot n k) ≡ filled (slot m k)
+    → ((q : List ℕ) → tree.get text_cmp n q ≡ cond (eq_by_cmp text_cmp a q) (Some w) (tree.get text_cmp m q)) → (k : Key) → stamp_in (slot n k) ≡ stamp_in (slot m k)
 new_shelf_same m n a w is none put =
-    same_shelf m n a w put (λ o. ap filled (ap (λ (s : Slots). fmap.get s o) is ∙ fmap.get-empty text_cmp o) ∙ sym (ap (λ s. filled (slot_of s o)) (no_shelf (tree.get text_cmp m a) none)))
+    same_shelf m n a w put (λ o. ap stamp_in (ap (λ (s : Slots). fmap.get s o) is ∙ fmap.get-empty text_cmp o) ∙ sym (ap (λ s. stamp_in (slot_of s o)) (no_shelf (tree.get text_cmp m a) none)))
   where
     no_shelf : (s : Option Slots) → is_some s ≡ false → s ≡ None
     no_shelf None h = refl
@@ -199,11 +199,11 @@ pub slot_removed : (es fs : List (List ℕ × Option ℕ)) (o : List ℕ) (now :
 slot_removed es fs o now view put q = get-slots fs q ∙ (put q ∙ ap (λ (v : Option (Option ℕ)). cond (eq_by_cmp text_cmp o q) None v) (sym (get-slots es q) ∙ ap (λ (s : Slots). fmap.get s q) view))
 
 module _ (x y : Slots) (a : List ℕ) (put : (q : List ℕ) → fmap.get y q ≡ cond (eq_by_cmp text_cmp a q) None (fmap.get x q)) where
-  pub emptied_same : fmap.get x a ≡ Some None → (o : List ℕ) → filled (fmap.get y o) ≡ filled (fmap.get x o)
+  pub emptied_same : fmap.get x a ≡ Some None → (o : List ℕ) → stamp_in (fmap.get y o) ≡ stamp_in (fmap.get x o)
   emptied_same empty o =
-      ap filled (put o)
-      ∙ elim (eq_by_cmp text_cmp a o) as (λ b. eq_by_cmp text_cmp a o ≡ b → filled (cond b None (fmap.get x o)) ≡ filled (fmap.get x o)) [
-        | true ↦ λ t. sym (ap filled (ap (fmap.get x) (sym (same_text a o t)) ∙ empty))
+      ap stamp_in (put o)
+      ∙ elim (eq_by_cmp text_cmp a o) as (λ b. eq_by_cmp text_cmp a o ≡ b → stamp_in (cond b None (fmap.get x o)) ≡ stamp_in (fmap.get x o)) [
+        | true ↦ λ t. sym (ap stamp_in (ap (fmap.get x) (sym (same_text a o t)) ∙ empty))
         | false ↦ λ _. refl
       ] refl
 

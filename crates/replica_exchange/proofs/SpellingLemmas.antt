@@ -18,7 +18,7 @@ use Rattle.text_fields.specs.Decimals.{BeginsWithDecimal}
 use Rattle.text_fields.proofs.DecimalLemmas.{decimal_lacks, one_leading}
 use Rattle.replica_exchange.specs.StateText.{whole_field}
 use Rattle.replica_exchange.specs.Parts.{IsWholeField, whole_ended}
-use Rattle.replica_exchange.specs.Spelling.{Spelling, Begins, Refuses, ended, field, number}
+use Rattle.replica_exchange.specs.Spelling.{Spelling, Begins, Refuses, value_and_end, field, number}
 
 -- no text begins with two of these values, or in two ways with one
 abbrev pub Once : {A : Type 0} → Spelling A → Type 0
@@ -44,29 +44,29 @@ pub ended_apart : (front : List ℕ) (end : ℕ) (rest : List ℕ) → front ++ 
 ended_apart front end rest = sym (append_assoc front (end ∷ []) rest)
 
 module _ {A : Type 0} (Is : A → Type 0) (written : A → List ℕ) (byte : ℕ) where
-  regrouped : (text : List ℕ) (v : A) (rest : List ℕ) → Begins (ended Is written byte) text v rest → text ≡ written v ++ byte ∷ rest
+  regrouped : (text : List ℕ) (v : A) (rest : List ℕ) → Begins (value_and_end Is written byte) text v rest → text ≡ written v ++ byte ∷ rest
   regrouped text v rest begins = begins.whole ∙ append_assoc (written v) (byte ∷ []) rest
 
   -- a field that was cut off is read
-  pub ended_found : (text front rest : List ℕ) (v : A) → text ≡ front ++ byte ∷ rest → front ≡ written v → Is v → Begins (ended Is written byte) text v rest
+  pub ended_found : (text front rest : List ℕ) (v : A) → text ≡ front ++ byte ∷ rest → front ≡ written v → Is v → Begins (value_and_end Is written byte) text v rest
   ended_found text front rest v whole same is = record {
     is = is;
     whole = whole ∙ (ap (λ (f : List ℕ). f ++ byte ∷ rest) same ∙ sym (append_assoc (written v) (byte ∷ []) rest));
   }
 
   -- a text that lacks the byte begins with no field that it ends
-  pub ended_none : (text : List ℕ) → Lacks byte text → (v : A) (rest : List ℕ) → ¬ Begins (ended Is written byte) text v rest
+  pub ended_none : (text : List ℕ) → Lacks byte text → (v : A) (rest : List ℕ) → ¬ Begins (value_and_end Is written byte) text v rest
   ended_none text lacks v rest begins = no_split byte (written v) rest (subst (Lacks byte) (regrouped text v rest begins) lacks)
 
   module _ (lack : (v : A) → Is v → Lacks byte (written v)) where
     -- a field that is no written value is refused
     pub ended_refused : (text front rest : List ℕ) → text ≡ front ++ byte ∷ rest → Lacks byte front → ((v : A) → Is v → ¬ (front ≡ written v)) → (v : A) (r : List ℕ)
-        → ¬ Begins (ended Is written byte) text v r
+        → ¬ Begins (value_and_end Is written byte) text v r
     ended_refused text front rest whole lacks other v r begins =
         let once = one_split byte front (written v) rest r lacks (lack v begins.is) (sym whole ∙ regrouped text v r begins) in
         other v begins.is once.0
 
-    pub ended_once : ((x y : A) → Is x → Is y → written x ≡ written y → x ≡ y) → Once (ended Is written byte)
+    pub ended_once : ((x y : A) → Is x → Is y → written x ≡ written y → x ≡ y) → Once (value_and_end Is written byte)
     ended_once one text x y r t bx by =
         let once = one_split byte (written x) (written y) r t (lack x bx.is) (lack y by.is) (sym (regrouped text x r bx) ∙ regrouped text y t by) in
         (one x y bx.is by.is once.0, once.1)

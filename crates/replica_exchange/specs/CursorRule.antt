@@ -39,9 +39,9 @@ abbrev pub end_of : Delta → Cursor
 end_of d = record { incarnation = d.incarnation; number = d.end }
 
 -- the cursor once the delta is taken: the delta's end, unless the held one is of the same incarnation and later
-abbrev pub moved : Option Cursor → Delta → Cursor
-moved None d = end_of d
-moved (Some c) d = cond ((c.incarnation == d.incarnation) && nat_lt d.end c.number) c (end_of d)
+abbrev pub cursor_after : Option Cursor → Delta → Cursor
+cursor_after None d = end_of d
+cursor_after (Some c) d = cond ((c.incarnation == d.incarnation) && nat_lt d.end c.number) c (end_of d)
 
 -- the cursor held for each peer, by the peer's number
 abbrev pub Held : Type 0
@@ -49,7 +49,7 @@ Held = map.FinMap nat_cmp Cursor
 
 -- the cursors once a delta of this peer is taken
 abbrev pub taken_from : Held → ℕ → Delta → Held
-taken_from held peer d = map.insert held peer (moved (map.get held peer) d)
+taken_from held peer d = map.insert held peer (cursor_after (map.get held peer) d)
 
 -- a cursor as a pair of its numbers
 abbrev pub coded_cursor : Coded Cursor

@@ -16,7 +16,7 @@ use Rattle.replica_exchange.specs.StateText.{listing_text, IsPartLine, IsPart, I
 use Rattle.replica_exchange.specs.DeltaText.{from_line}
 use Rattle.replica_exchange.specs.declared.format.Format.{Format}
 use Rattle.replica_exchange.specs.declared.format.Format.TheVariants.{One, Two}
-use Rattle.replica_exchange.specs.Spelling.{Spelling, Begins, ended}
+use Rattle.replica_exchange.specs.Spelling.{Spelling, Begins, value_and_end}
 
 -- the line of a memento
 abbrev pub memento : Spelling Memento
@@ -28,7 +28,7 @@ IsWholeField w = IfSome w (λ revision. revision < 2 ^ 64)
 
 -- the whole revision or `-`, and the space that ends it
 abbrev pub whole_ended : Spelling (Option ℕ)
-whole_ended = ended IsWholeField whole_field 32
+whole_ended = value_and_end IsWholeField whole_field 32
 
 -- an entry's line: its key, between whose two texts stand a field, written so, and a number
 abbrev pub line_with : {A : Type 0} → (A → Type 0) → (A → List ℕ) → Spelling (Key × (A × ℕ))
@@ -88,8 +88,8 @@ abbrev pub listing : Format → Spelling (List (Key × Kept))
 listing f = record { Is = λ es. All (entry f).Is es × (length es < 2 ^ 64); spelled = listing_text (entry f).spelled }
 
 -- a state's entries
-abbrev pub stated : Format → Spelling Entries
-stated f = record {
+abbrev pub entries_in : Format → Spelling Entries
+entries_in f = record {
   Is = λ state. (listing f).Is (map.entries state);
   spelled = λ state. (listing f).spelled (map.entries state);
 }

@@ -33,13 +33,13 @@ RefusesWhole {A} s text NotState = (value : A) → ¬ Begins s text value []
 RefusesWhole s text NoMemory = ⊤
 
 -- a value, written so, and the byte that ends it
-abbrev pub ended : {A : Type 0} → (A → Type 0) → (A → List ℕ) → ℕ → Spelling A
-ended Is written byte = record { Is = Is; spelled = λ value. written value ++ byte ∷ [] }
+abbrev pub value_and_end : {A : Type 0} → (A → Type 0) → (A → List ℕ) → ℕ → Spelling A
+value_and_end Is written byte = record { Is = Is; spelled = λ value. written value ++ byte ∷ [] }
 
 -- a field of this kind, and the byte that ends it
 abbrev pub field : (List ℕ → Type 0) → ℕ → Spelling (List ℕ)
-field Is byte = ended Is (λ text. text) byte
+field Is byte = value_and_end Is (λ text. text) byte
 
 -- a number of 64 bits as a decimal, and the byte that ends it
 abbrev pub number : ℕ → Spelling ℕ
-number byte = ended (λ n. n < 2 ^ 64) decimal byte
+number byte = value_and_end (λ n. n < 2 ^ 64) decimal byte

@@ -6,14 +6,14 @@ use Rattle.std.specs.List.Sorted.{IsNonDecreasingBy}
 use Rattle.std.specs.FinMap as map
 use Rattle.harvest_lattice.specs.Lattice.{Key, Kept}
 use Rattle.replica_exchange.specs.Stamps.{StampedState, is_above}
-use Rattle.replica_exchange.specs.StampShelves.{Shelves, filled, slot, key_of}
+use Rattle.replica_exchange.specs.StampShelves.{Shelves, stamp_in, slot, key_of}
 use Rattle.replica_exchange.specs.declared.order.OrderRow.{OrderRow}
 use Rattle.replica_exchange.specs.declared.order.StampOrder.{StampOrder}
 use Rattle.replica_exchange.specs.declared.stamps.ChangedKey.{ChangedKey}
 
 -- the stamp of a row, and the key that got it
-abbrev pub given : OrderRow → ℕ × Key
-given row = (row.stamp, (arc_value row.archive, row.original))
+abbrev pub stamp_and_key : OrderRow → ℕ × Key
+stamp_and_key row = (row.stamp, (arc_value row.archive, row.original))
 
 -- the stamp that a changed key gets
 abbrev pub given_at : ℕ → ChangedKey → ℕ × Key
@@ -21,7 +21,7 @@ given_at stamp key = (stamp, key_of key)
 
 -- the rows in order
 abbrev pub order_of : StampOrder → List (ℕ × Key)
-order_of order = map_list given order.rows.items
+order_of order = map_list stamp_and_key order.rows.items
 
 -- the row's stamp is not above this one
 abbrev pub is_until : ℕ → OrderRow → Bool
@@ -39,12 +39,12 @@ row_with k (Some stamp) = (stamp, k) ∷ []
 
 -- each key that has a stamp stands there with it, and no other stamp does
 pub record AreStanding (shelves : Shelves) (rows : List (ℕ × Key)) : Type 0 where
-  pub listed : (k : Key) (stamp : ℕ) → filled (slot shelves k) ≡ Some stamp → Contains rows (stamp, k)
-  pub stand : All (λ (row : ℕ × Key). filled (slot shelves row.1) ≡ Some row.0) rows
+  pub listed : (k : Key) (stamp : ℕ) → stamp_in (slot shelves k) ≡ Some stamp → Contains rows (stamp, k)
+  pub stand : All (λ (row : ℕ × Key). stamp_in (slot shelves row.1) ≡ Some row.0) rows
 
 -- each key that has a stamp stands there with it, and stamps rise up to the number
 pub record IsOrderOf (shelves : Shelves) (rows : List (ℕ × Key)) (number : ℕ) : Type 0 where
-  pub listed : (k : Key) (stamp : ℕ) → filled (slot shelves k) ≡ Some stamp → Contains rows (stamp, k)
+  pub listed : (k : Key) (stamp : ℕ) → stamp_in (slot shelves k) ≡ Some stamp → Contains rows (stamp, k)
   pub rises : IsNonDecreasingBy (λ (row : ℕ × Key). row.0) rows
   pub within : All (λ (row : ℕ × Key). row.0 ≤ number) rows
 

@@ -33,9 +33,9 @@ abbrev pub slot : Shelves → Key → Option (Option ℕ)
 slot shelves k = slot_of (tree.get text_cmp shelves k.0) k.1
 
 -- the stamp in a slot: none in an empty one, and none if there is no slot
-abbrev pub filled : Option (Option ℕ) → Option ℕ
-filled None = None
-filled (Some stamp) = stamp
+abbrev pub stamp_in : Option (Option ℕ) → Option ℕ
+stamp_in None = None
+stamp_in (Some stamp) = stamp
 
 -- the stamp of an archive's original, if its slot has one
 abbrev pub slot_rows : List ℕ → List ℕ → Option ℕ → List (Key × ℕ)
@@ -65,5 +65,5 @@ abbrev pub is_among : List Key → Key → Bool
 is_among keys k = is_member (eq_by_cmp key_cmp) keys k
 
 -- the number at one of the keys, and at another key what was there
-abbrev pub restamped : List Key → ℕ → Key → Option ℕ → Option ℕ
-restamped keys number k was = cond (is_among keys k) (Some number) was
+abbrev pub stamp_after : List Key → ℕ → Key → Option ℕ → Option ℕ
+stamp_after keys number k was = cond (is_among keys k) (Some number) was

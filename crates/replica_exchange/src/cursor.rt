@@ -62,7 +62,7 @@ fn reaches(held: Option<Cursor>, delta: &Delta) -> bool
 
 /// The cursor once a delta is taken.
 fn moved(held: Option<Cursor>, delta: &Delta) -> Cursor
-    ensures { result ≡ rule.moved held delta.now }
+    ensures { result ≡ rule.cursor_after held delta.now }
 {
     let end = Cursor {
         incarnation: delta.incarnation,

@@ -7,7 +7,7 @@ ghost use Rattle.std.specs.List.{AllWithin, flat_map};
 ghost use Rattle.std.specs.List.Sorted.{IsNonDecreasingBy};
 ghost use Rattle.memento_time.specs.Mementos.{text_cmp};
 ghost use Rattle.replica_exchange.specs.StampShelves.{key_of};
-ghost use Rattle.replica_exchange.specs.StampOrder.{given, given_at, order_of, row_with, AreStanding, IsOrderOf, IsBehind};
+ghost use Rattle.replica_exchange.specs.StampOrder.{stamp_and_key, given_at, order_of, row_with, AreStanding, IsOrderOf, IsBehind};
 ghost use Rattle.replica_exchange.specs.StampOrder as spec;
 
 use crate::stamps::{ChangedKey, StampShelf, StampShelves};
@@ -35,13 +35,13 @@ impl OrderRow {
     }
 
     pub fn archive(&self) -> ArchiveName
-        ensures { result ≡ (given self.now).1.0 }
+        ensures { result ≡ (stamp_and_key self.now).1.0 }
     {
         *self.archive
     }
 
     pub fn original(&self) -> &Original
-        ensures { result.now ≡ (given self.now).1.1 }
+        ensures { result.now ≡ (stamp_and_key self.now).1.1 }
     {
         &self.original
     }
@@ -73,8 +73,8 @@ fn list_slot(
     original: &Original,
     slot: Option<u64>,
 ) -> Result<(), NoMemory>
-    ensures { OnOk result (map_list given rows.new.items
-        ≡ map_list given rows.old.items ++ row_with (arc_value name.now, original.now) slot) }
+    ensures { OnOk result (map_list stamp_and_key rows.new.items
+        ≡ map_list stamp_and_key rows.old.items ++ row_with (arc_value name.now, original.now) slot) }
 {
     let Some(stamp) = slot else {
         return Ok(());
@@ -95,7 +95,7 @@ fn list_shelf(
     name: &Arc<ArchiveName>,
     shelf: &StampShelf,
 ) -> Result<(), NoMemory>
-    ensures { OnOk result (map_list given rows.new.items ≡ map_list given rows.old.items
+    ensures { OnOk result (map_list stamp_and_key rows.new.items ≡ map_list stamp_and_key rows.old.items
         ++ flat_map (λ slot. row_with (arc_value name.now, slot.0) slot.1) (map.entries shelf.now)) }
 {
     for (original, slot) in shelf.iter() {
@@ -130,7 +130,7 @@ impl StampOrder {
     /// The rows with a stamp above this one. Takes time logarithmic in the number of rows.
     pub fn behind(&self, stamp: u64) -> &[OrderRow]
         requires { IsNonDecreasingBy (λ row. row.0) (order_of self.now) }
-        ensures { IsBehind stamp (order_of self.now) (map_list given result.now) }
+        ensures { IsBehind stamp (order_of self.now) (map_list stamp_and_key result.now) }
     {
         let rows = self.rows.as_slice();
         let count = count_until(rows, stamp);
@@ -199,7 +199,7 @@ impl StampOrder {
         room: usize,
     ) -> Result<Vec<OrderRow>, NoMemory>
         requires { IsOrdered text_cmp shelves.now }
-        ensures standing { IfOk result (λ rows. AreStanding shelves.now (map_list given rows.items)) }
+        ensures standing { IfOk result (λ rows. AreStanding shelves.now (map_list stamp_and_key rows.items)) }
         ensures rises { IfOk result (λ rows. IsNonDecreasingBy (λ row. row.stamp) rows.items) }
         ensures same { self.new.rows ≡ self.old.rows }
     {

@@ -4,7 +4,7 @@ ghost use Rattle.replica_exchange.specs.StateText.{IsTextOf};
 ghost use Rattle.replica_exchange.specs.DeltaText.{IsDeltaText};
 ghost use Rattle.replica_exchange.specs.Faults.{IsCause, IsDeltaCause, longest_text};
 ghost use Rattle.replica_exchange.specs.Spelling.{Begins, Refuses, RefusesWhole};
-ghost use Rattle.replica_exchange.specs.Parts.{stated, span};
+ghost use Rattle.replica_exchange.specs.Parts.{entries_in, span};
 
 use crate::delta::Delta;
 use crate::entries::read_listing;
@@ -19,8 +19,8 @@ const MAX_LEN: usize = 268_435_456;
 
 /// The state from `entries N` to `end`, which nothing may follow.
 fn read_entries_of_state(alloc: Global, format: Format, text: &[u8]) -> Result<State, StateFault>
-    ensures found { IfOk result (λ state. Begins (stated format) text.now state []) }
-    ensures refused { IfErr result (λ fault. RefusesWhole (stated format) text.now fault) }
+    ensures found { IfOk result (λ state. Begins (entries_in format) text.now state []) }
+    ensures refused { IfErr result (λ fault. RefusesWhole (entries_in format) text.now fault) }
 {
     let rows = read_listing(alloc, format, text)?;
     match State::of_rows(alloc, rows)? {

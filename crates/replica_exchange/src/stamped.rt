@@ -12,7 +12,7 @@ ghost use Rattle.replica_exchange.specs.Faults.{stamp_words};
 ghost use Rattle.harvest_lattice.specs.Rows.{row_entry};
 ghost use Rattle.replica_exchange.specs.StampOrder.{given_at, order_of, is_stamp, standing_entry, AreAbove};
 ghost use Rattle.replica_exchange.specs.Stamps.{IsStamped, IsAbsorbed, is_above, entries_above};
-ghost use Rattle.replica_exchange.specs.StampShelves.{filled, slot, key_of};
+ghost use Rattle.replica_exchange.specs.StampShelves.{stamp_in, slot, key_of};
 ghost use Rattle.replica_exchange.specs.declared.stamped.StampFault.TheVariants.{NoMemory as OutOfMemory};
 
 use crate::cursor::Cursor;
@@ -81,7 +81,7 @@ fn put_with_room(
     requires news { AreNews index.old changes }
     ensures ok { OnOk result (index.new ≡ join index.old changes) }
     ensures err { OnErr result (index.new ≡ index.old) }
-    ensures same { (k : Key) → filled (slot stamps.new k) ≡ filled (slot stamps.old k) }
+    ensures same { (k : Key) → stamp_in (slot stamps.new k) ≡ stamp_in (slot stamps.old k) }
     ensures made { OnOk result (All (λ key. IsSome (slot stamps.new (key_of key))) stamping.now.keys.now) }
     ensures ordered { IsOrdered text_cmp stamps.new }
     ensures listed { OnOk result (order_of order.new

@@ -8,7 +8,7 @@ ghost use Rattle.std.specs.Ordering.{eq_by_cmp};
 ghost use Rattle.memento_time.specs.Mementos.{text_cmp};
 ghost use Rattle.harvest_lattice.specs.Lattice.{Key, key_cmp};
 ghost use Rattle.harvest_lattice.specs.Rows.{row_key};
-ghost use Rattle.replica_exchange.specs.StampShelves.{filled, slot, key_of, restamped};
+ghost use Rattle.replica_exchange.specs.StampShelves.{stamp_in, slot, key_of, stamp_after};
 
 use harvest_lattice::Row;
 use memento_time::{ArchiveName, NoMemory, Original};
@@ -91,7 +91,7 @@ impl StampShelf {
     }
 
     fn stamp(&self, original: &Original) -> Option<u64>
-        ensures { result ≡ filled (map.get self.now original.now) }
+        ensures { result ≡ stamp_in (map.get self.now original.now) }
     {
         *self.slots.get(original)?
     }
@@ -105,7 +105,7 @@ impl StampShelf {
 
     /// Makes a slot if there is none. The stamps stay as they are.
     fn make_slot(&mut self, original: &Original) -> Result<(), NoMemory>
-        ensures same { (o : List ℕ) → filled (map.get self.new o) ≡ filled (map.get self.old o) }
+        ensures same { (o : List ℕ) → stamp_in (map.get self.new o) ≡ stamp_in (map.get self.old o) }
         ensures stay { (o : List ℕ) → IsSome (map.get self.old o) → IsSome (map.get self.new o) }
         ensures made { OnOk result (IsSome (map.get self.new original.now)) }
     {
@@ -128,7 +128,7 @@ impl StampShelf {
 
     /// Drops the slot if it is empty. The stamps stay as they are.
     fn drop_empty(&mut self, original: &Original)
-        ensures same { (o : List ℕ) → filled (map.get self.new o) ≡ filled (map.get self.old o) }
+        ensures same { (o : List ℕ) → stamp_in (map.get self.new o) ≡ stamp_in (map.get self.old o) }
         ensures gone { ¬ (map.get self.new original.now ≡ Some None) }
         ensures others { (o : List ℕ) → ¬ (map.get self.old o ≡ Some None) → ¬ (map.get self.new o ≡ Some None) }
     {
@@ -158,7 +158,7 @@ pub(crate) fn stamp_at(
     archive: ArchiveName,
     original: &Original,
 ) -> Option<u64>
-    ensures { result ≡ filled (slot shelves.now (archive, original.now)) }
+    ensures { result ≡ stamp_in (slot shelves.now (archive, original.now)) }
 {
     shelves.get(&archive)?.stamp(original)
 }
@@ -170,7 +170,7 @@ fn make_shelf(
     archive: ArchiveName,
 ) -> Result<(), NoMemory>
     requires ordered { IsOrdered text_cmp shelves.old }
-    ensures same { (k : Key) → filled (slot shelves.new k) ≡ filled (slot shelves.old k) }
+    ensures same { (k : Key) → stamp_in (slot shelves.new k) ≡ stamp_in (slot shelves.old k) }
     ensures stay { (k : Key) → IsSome (slot shelves.old k) → IsSome (slot shelves.new k) }
     ensures made { OnOk result (IsSome (tree.get text_cmp shelves.new archive)) }
     ensures ordered { IsOrdered text_cmp shelves.new }
@@ -189,7 +189,7 @@ fn make_room(
     original: &Original,
 ) -> Result<(), NoMemory>
     requires ordered { IsOrdered text_cmp shelves.old }
-    ensures same { (k : Key) → filled (slot shelves.new k) ≡ filled (slot shelves.old k) }
+    ensures same { (k : Key) → stamp_in (slot shelves.new k) ≡ stamp_in (slot shelves.old k) }
     ensures stay { (k : Key) → IsSome (slot shelves.old k) → IsSome (slot shelves.new k) }
     ensures made { OnOk result (IsSome (slot shelves.new (archive, original.now))) }
     ensures ordered { IsOrdered text_cmp shelves.new }
@@ -208,7 +208,7 @@ pub(crate) fn make_rooms(
     keys: &[ChangedKey],
 ) -> Result<(), NoMemory>
     requires ordered { IsOrdered text_cmp shelves.old }
-    ensures same { (k : Key) → filled (slot shelves.new k) ≡ filled (slot shelves.old k) }
+    ensures same { (k : Key) → stamp_in (slot shelves.new k) ≡ stamp_in (slot shelves.old k) }
     ensures made { OnOk result (All (λ key. IsSome (slot shelves.new (key_of key))) keys.now) }
     ensures ordered { IsOrdered text_cmp shelves.new }
 {
@@ -221,7 +221,7 @@ pub(crate) fn make_rooms(
 /// Drops the slot of a key if it is empty. The stamps stay as they are.
 fn drop_room(shelves: &mut StampShelves, archive: ArchiveName, original: &Original)
     requires ordered { IsOrdered text_cmp shelves.old }
-    ensures same { (k : Key) → filled (slot shelves.new k) ≡ filled (slot shelves.old k) }
+    ensures same { (k : Key) → stamp_in (slot shelves.new k) ≡ stamp_in (slot shelves.old k) }
     ensures gone { ¬ (slot shelves.new (archive, original.now) ≡ Some None) }
     ensures others { (k : Key) → ¬ (slot shelves.old k ≡ Some None) → ¬ (slot shelves.new k ≡ Some None) }
     ensures ordered { IsOrdered text_cmp shelves.new }
@@ -236,7 +236,7 @@ fn drop_room(shelves: &mut StampShelves, archive: ArchiveName, original: &Origin
 /// The stamps stay as they are.
 pub(crate) fn drop_rooms(shelves: &mut StampShelves, keys: &[ChangedKey])
     requires ordered { IsOrdered text_cmp shelves.old }
-    ensures same { (k : Key) → filled (slot shelves.new k) ≡ filled (slot shelves.old k) }
+    ensures same { (k : Key) → stamp_in (slot shelves.new k) ≡ stamp_in (slot shelves.old k) }
     ensures gone { All (λ key. ¬ (slot shelves.new (key_of key) ≡ Some None)) keys.now }
     ensures ordered { IsOrdered text_cmp shelves.new }
 {
@@ -265,7 +265,7 @@ pub(crate) fn fill_all(shelves: &mut StampShelves, keys: &[ChangedKey], stamp: u
     requires ordered { IsOrdered text_cmp shelves.old }
     requires room { All (λ key. IsSome (slot shelves.old (key_of key))) keys.now }
     ensures stamps { (k : Key)
-        → filled (slot shelves.new k) ≡ restamped (map_list key_of keys.now) stamp k (filled (slot shelves.old k)) }
+        → stamp_in (slot shelves.new k) ≡ stamp_after (map_list key_of keys.now) stamp k (stamp_in (slot shelves.old k)) }
     ensures ordered { IsOrdered text_cmp shelves.new }
 {
     for key in keys {

@@ -6,7 +6,7 @@ use Rattle.std.proofs.lemmas.Grind.{common_steps}
 use Rattle.std.proofs.lemmas.Option.{same_Some}
 use Rattle.std.proofs.lemmas.Slice.Eq.{bytes_eq-Decides}
 use Rattle.text_fields.specs.Finds.{Finds}
-use Rattle.text_fields.specs.Parts.{parted}
+use Rattle.text_fields.specs.Parts.{spaced_fields}
 use Rattle.text_fields.proofs.PartLemmas.{parts_are}
 use Rattle.replica_world.specs.Fields.{field, number_field, line_of, lines_of, block_of}
 use Rattle.replica_world.specs.Form as form
@@ -146,7 +146,7 @@ start_is text s = (there, here) where
       let split = (parts_are 32 line.0.0 word.0).0 word.1 in
       let laid = (number_field_is word.0.1 number.0).0 number.1 in
       let word_is : word.0.0 ≡ codes "replicas" = (bytes_eq-Decides word.0.0 (codes "replicas")).0 range.0 in
-      let whole : line.0.0 ≡ parted (codes "replicas" ∷ decimal number.0.0 ∷ number.0.1 ∷ []) = split.1 ∙ (λ i. word_is i ++ 32 ∷ laid.1 i) in
+      let whole : line.0.0 ≡ spaced_fields (codes "replicas" ∷ decimal number.0.0 ∷ number.0.1 ∷ []) = split.1 ∙ (λ i. word_is i ++ 32 ∷ laid.1 i) in
       let base_is : service_of number.0.1 ≡ Some base.0 = subst (λ (t : ℕ × List ℕ). service_of t.1 ≡ Some base.0) (sym some.1) base.1 in
       let begin_is : record { replicas = number.0.0; base = base.0 } ≡ begin.0 = ap (λ (t : ℕ × List ℕ). record { replicas = t.0; base = base.0 }) some.1 ∙ same_Some _ _ base.2 in
       let at : IsStartAt text (record { replicas = number.0.0; base = base.0 }) line.0.1 = record {
@@ -162,7 +162,7 @@ start_is text s = (there, here) where
       (record { replicas = count.0; base = base })) >>= λ begin. Some (begin, line.1)) ≡ Some s
   here laid =
       let n : ℕ = s.0.replicas in
-      let whole : List ℕ = parted (codes "replicas" ∷ decimal n ∷ laid.base ∷ []) in
+      let whole : List ℕ = spaced_fields (codes "replicas" ∷ decimal n ∷ laid.base ∷ []) in
       let small : n < 2 ^ 64 = omega (arith, laid.most) in
       let word : field whole ≡ Some (
         codes "replicas",

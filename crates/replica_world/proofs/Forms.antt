@@ -9,7 +9,7 @@ use Rattle.std.proofs.lemmas.Option.{same_Some}
 use Rattle.std.proofs.lemmas.Slice.Eq.{bytes_eq-Decides}
 use Rattle.text_fields.specs.Finds.{Finds}
 use Rattle.text_fields.specs.Decimals.{number_of}
-use Rattle.text_fields.specs.Parts.{Lacks, parted}
+use Rattle.text_fields.specs.Parts.{Lacks, spaced_fields}
 use Rattle.text_fields.proofs.DecimalLemmas.{number_is, decimal_lacks}
 use Rattle.text_fields.proofs.PartLemmas.{parts_are, parts_none_lacks, parts_lacking}
 use Rattle.replica_world.specs.Fields.{field, number_field, word_field, is_visible}
@@ -94,15 +94,15 @@ word_of (Receive replica len) = codes "receive"
 word_of (Restart replica) = codes "restart"
 
 abbrev fields_of : Form → List ℕ
-fields_of (Take f) = parted (decimal f.replica ∷ f.archive ∷ decimal f.revision ∷ f.address ∷ decimal f.len ∷ f.original ∷ [])
-fields_of (Map replica original) = parted (decimal replica ∷ original ∷ [])
-fields_of (Gate replica original) = parted (decimal replica ∷ original ∷ [])
-fields_of (GateAt replica original asked) = parted (decimal replica ∷ original ∷ asked ∷ [])
-fields_of (Ask f) = parted (decimal f.replica ∷ f.method ∷ decimal f.count ∷ f.target ∷ [])
+fields_of (Take f) = spaced_fields (decimal f.replica ∷ f.archive ∷ decimal f.revision ∷ f.address ∷ decimal f.len ∷ f.original ∷ [])
+fields_of (Map replica original) = spaced_fields (decimal replica ∷ original ∷ [])
+fields_of (Gate replica original) = spaced_fields (decimal replica ∷ original ∷ [])
+fields_of (GateAt replica original asked) = spaced_fields (decimal replica ∷ original ∷ asked ∷ [])
+fields_of (Ask f) = spaced_fields (decimal f.replica ∷ f.method ∷ decimal f.count ∷ f.target ∷ [])
 fields_of (Send replica) = decimal replica
-fields_of (SendFrom replica merges) = parted (decimal replica ∷ decimal merges ∷ [])
-fields_of (Deliver replica message) = parted (decimal replica ∷ decimal message ∷ [])
-fields_of (Receive replica len) = parted (decimal replica ∷ decimal len ∷ [])
+fields_of (SendFrom replica merges) = spaced_fields (decimal replica ∷ decimal merges ∷ [])
+fields_of (Deliver replica message) = spaced_fields (decimal replica ∷ decimal message ∷ [])
+fields_of (Receive replica len) = spaced_fields (decimal replica ∷ decimal len ∷ [])
 fields_of (Restart replica) = decimal replica
 
 form_text-parts : (f : Form) → form_text f ≡ word_of f ++ 32 ∷ fields_of f
@@ -297,17 +297,17 @@ number_alone n small = (number_is (decimal n) n).1 (small, refl)
 take_read : (f : TakeForm) → IsWritten (Take f) → take_of f.is_whole (fields_of (Take f)) ≡ Some (Take f)
 unfolding take_of
 take_read f w =
-    onward _ _ _ (number_first f.replica (parted (f.archive ∷ decimal f.revision ∷ f.address ∷ decimal f.len ∷ f.original ∷ [])) w.0)
-    ∙ onward _ _ _ (word_first f.archive (parted (decimal f.revision ∷ f.address ∷ decimal f.len ∷ f.original ∷ [])) w.1)
-    ∙ onward _ _ _ (number_first f.revision (parted (f.address ∷ decimal f.len ∷ f.original ∷ [])) w.2)
-    ∙ onward _ _ _ (word_first f.address (parted (decimal f.len ∷ f.original ∷ [])) w.3)
+    onward _ _ _ (number_first f.replica (spaced_fields (f.archive ∷ decimal f.revision ∷ f.address ∷ decimal f.len ∷ f.original ∷ [])) w.0)
+    ∙ onward _ _ _ (word_first f.archive (spaced_fields (decimal f.revision ∷ f.address ∷ decimal f.len ∷ f.original ∷ [])) w.1)
+    ∙ onward _ _ _ (number_first f.revision (spaced_fields (f.address ∷ decimal f.len ∷ f.original ∷ [])) w.2)
+    ∙ onward _ _ _ (word_first f.address (spaced_fields (decimal f.len ∷ f.original ∷ [])) w.3)
     ∙ onward _ _ _ (number_first f.len f.original w.4)
 
 ask_read : (f : AskForm) → IsWritten (Ask f) → ask_of (fields_of (Ask f)) ≡ Some (Ask f)
 unfolding ask_of
 ask_read f w =
-    onward _ _ _ (number_first f.replica (parted (f.method ∷ decimal f.count ∷ f.target ∷ [])) w.0)
-    ∙ onward _ _ _ (word_first f.method (parted (decimal f.count ∷ f.target ∷ [])) w.1.0)
+    onward _ _ _ (number_first f.replica (spaced_fields (f.method ∷ decimal f.count ∷ f.target ∷ [])) w.0)
+    ∙ onward _ _ _ (word_first f.method (spaced_fields (decimal f.count ∷ f.target ∷ [])) w.1.0)
     ∙ onward _ _ _ (number_first f.count f.target (omega (arith, w.2)))
     ∙ ap (λ (b : Bool). if b then Some (Ask f) else None) (fits_both (list_all is_visible f.method) f.count w.1.1 w.2)
 

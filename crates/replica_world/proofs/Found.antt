@@ -28,7 +28,7 @@ use Rattle.link_format.specs.Grammar.{Link}
 use Rattle.text_fields.specs.Parts.{Lacks}
 use Rattle.text_fields.proofs.DecimalLemmas.{decimal_lacks, decimal_digits}
 use Rattle.timemap_reader.specs.Address.{is_http_target, starts_with_any_case, same_word, memento_address}
-use Rattle.timemap_reader.specs.Page.{named, left_out, IsPageOf}
+use Rattle.timemap_reader.specs.Page.{named_by, left_out, IsPageOf}
 use Rattle.timemap_reader.specs.Role.{is_memento_link, is_further_link, memento_of, further_of, datetime_of}
 use Rattle.timemap_reader.proofs.Cleans.{its_own}
 use Rattle.timemap_reader.proofs.Datetimes.{imf_read}
@@ -69,8 +69,8 @@ its_memento url first last m is http = rw (its_datetime first last m is.at, its_
 -- ---- what links name
 
 record Names (url : Parts) (links : List Link) (mementos : List Memento) (pages : List (List ℕ)) : Type 0 where
-  listed : named is_memento_link (memento_of url) links ≡ mementos
-  further : named is_further_link (further_of url) links ≡ pages
+  listed : named_by is_memento_link (memento_of url) links ≡ mementos
+  further : named_by is_further_link (further_of url) links ≡ pages
   all_listed : left_out is_memento_link (memento_of url) links ≡ 0
   all_further : left_out is_further_link (further_of url) links ≡ 0
 

@@ -11,7 +11,7 @@ use Rattle.replica_events.specs.World.{World, start}
 use Rattle.replica_world.specs.Stands.{Kept, Stands}
 use Rattle.replica_world.specs.Devices.{AppendsBeginning}
 use Rattle.replica_world.specs.Fields.{after_empty_lines}
-use Rattle.replica_world.specs.Script.{Command, Commands, Found, Start, Script, command_at, commands_within, commands_of, onward, start_at, begun, script_from, script_of, number_of_line}
+use Rattle.replica_world.specs.Script.{Command, Commands, Found, Start, Script, command_at, commands_within, commands_of, onward, start_at, script_begun_by, script_from, script_of, number_of_line}
 use Rattle.replica_world.specs.Output.{Performs, Says, Writes, Replayed, Replays, ReplaysFrom}
 use Rattle.replica_world.specs.Performing.{IsFirstPerformed}
 use Rattle.replica_world.proofs.Once.{OnePage, says_once, performs_once, says_split, says_push}
@@ -199,7 +199,7 @@ script_none text [] rest_is none = ap script_from (sym rest_is)
 script_none text (b ∷ rest) rest_is none = absurd (omega arith)
 
 -- a script with a first line
-script_at : (text rest : List ℕ) → rest ≡ after_empty_lines text → 0 < length rest → script_of text ≡ begun rest (start_at rest)
+script_at : (text rest : List ℕ) → rest ≡ after_empty_lines text → 0 < length rest → script_of text ≡ script_begun_by rest (start_at rest)
 unfolding script_of
 script_at text [] rest_is some = absurd (omega arith)
 script_at text (b ∷ rest) rest_is some = ap script_from (sym rest_is)
@@ -212,12 +212,12 @@ replays_nothing text rest old new u rest_is none written = replays_as text _ old
 pub replays_bad_start : (text rest : List ℕ) (old new : Option (List ℕ)) (n : ℕ) → rest ≡ after_empty_lines text → 0 < length rest → start_at rest ≡ None → n ≡ number_of_line text rest
     → Appends old new [] → Replays text old new (Err (BadLine n))
 replays_bad_start text rest old new n rest_is some is number written =
-    replays_as text _ old new (Err (BadLine n)) (script_at text rest rest_is some ∙ ap (begun rest) is) ([], refl, written, ap (λ (k : ℕ). Some k) (sym number))
+    replays_as text _ old new (Err (BadLine n)) (script_at text rest rest_is some ∙ ap (script_begun_by rest) is) ([], refl, written, ap (λ (k : ℕ). Some k) (sym number))
 
 -- the commands of any other are replayed in a new world
 pub replays_on : (text rest after : List ℕ) (begin : Start) (kept : Kept) (old new : Option (List ℕ)) (result : Result (Unit {0}) ReplayFault) → rest ≡ after_empty_lines text → 0 < length rest
     → start_at rest ≡ Some (begin, after) → Stands kept (start begin.replicas) → kept.base ≡ begin.base
     → ((w : World) → Stands kept w → ReplaysFrom kept.base w text after old new result) → Replays text old new result
 replays_on text rest after begin kept old new result rest_is some is stands base_is replayed =
-    replays_as text _ old new result (script_at text rest rest_is some ∙ ap (begun rest) is)
+    replays_as text _ old new result (script_at text rest rest_is some ∙ ap (script_begun_by rest) is)
     (subst (λ (b : List ℕ). ReplaysFrom b (start begin.replicas) text after old new result) base_is (replayed (start begin.replicas) stands))

@@ -16,7 +16,7 @@ use Rattle.link_format.specs.Grammar.{Link, Reading}
 use Rattle.link_format.specs.Limits.{FewLinks, FewParams, ShortTargets}
 use Rattle.timemap_reader.specs.Answer.{IsAnswer, IsShort, base_of}
 use Rattle.timemap_reader.specs.Page.{IsPageOf}
-use Rattle.link_format.specs.Writing.{param_text, params_text, link_text, escape, followed}
+use Rattle.link_format.specs.Writing.{param_text, params_text, link_text, escape, links_each_behind}
 use Rattle.link_format.proofs.Appended.{escape_longer}
 use Rattle.timemap_writer.specs.Service.{IsBase}
 use Rattle.timemap_writer.specs.TimeMap as written
@@ -126,13 +126,13 @@ line_length first last m is =
     let dated : 42 ≤ length date = omega (arith, param_length (codes "datetime") (imf m.at), (Reads-imf m.at is).len) in
     longer_right (codes "<" ++ m.uri ++ codes ">") _ 42 (longer_right relations _ 42 (longer_left date [] 42 dated))
 
-lines_length : (separator : List ℕ) (first : Bool) (ms : List Memento) → All IsMemento ms → 42 * length ms ≤ length (followed separator (memento_links first ms))
+lines_length : (separator : List ℕ) (first : Bool) (ms : List Memento) → All IsMemento ms → 42 * length ms ≤ length (links_each_behind separator (memento_links first ms))
 lines_length separator first [] each = omega arith
 lines_length separator first (m ∷ ms) each =
     let last = length ms == 0 in
     let one = longer_right separator (link_text (memento_link first last m)) 42 (line_length first last m (All-head IsMemento m ms each).at) in
     let more = lines_length separator false ms (All-tail IsMemento m ms each) in
-    rw (length-append (separator ++ link_text (memento_link first last m)) (followed separator (memento_links false ms))) (omega (arith, one, more))
+    rw (length-append (separator ++ link_text (memento_link first last m)) (links_each_behind separator (memento_links false ms))) (omega (arith, one, more))
 
 text_length : (base original : List ℕ) (ms : List Memento) → All IsMemento ms → 42 * length ms ≤ length (timemap_text base original ms)
 unfolding timemap_text
@@ -141,7 +141,7 @@ text_length base original ms each =
     let separator = codes ",\n" in
     let gate = separator ++ link_text (timegate_link base original) in
     let self = separator ++ link_text (timemap_link (codes "self") (written.timemap_address base original) ms) in
-    let lines = followed separator (memento_links true ms) in
+    let lines = links_each_behind separator (memento_links true ms) in
     let body = gate ++ (self ++ lines) in
     let inside : n ≤ length body = longer_right gate (self ++ lines) n (longer_right self lines n (lines_length separator true ms each)) in
     longer_left (link_text (original_link original) ++ body) (codes "\n") n (longer_right (link_text (original_link original)) body n inside)
@@ -162,12 +162,12 @@ page_line address ms =
     subst (λ (t : List ℕ). 42 ≤ length t) (sym parts) (longer_right start ((relation ++ kind) ++ more) 42 (longer_left (relation ++ kind) more 42 both))
 
 page_lines_length : (base original : List ℕ) (ms : List Memento) (separator : List ℕ) (from count : ℕ)
-    → 42 * count ≤ length (followed separator (map (page_link base original ms) (range_with_len from count)))
+    → 42 * count ≤ length (links_each_behind separator (map (page_link base original ms) (range_with_len from count)))
 page_lines_length base original ms separator from zero = omega arith
 page_lines_length base original ms separator from (suc count) =
     let line = link_text (page_link base original ms from) in
     let one = longer_right separator line 42 (page_line (page_address base original from) (stretch from ms)) in
-    let rest = followed separator (map (page_link base original ms) (range_with_len (from + 1) count)) in
+    let rest = links_each_behind separator (map (page_link base original ms) (range_with_len (from + 1) count)) in
     let more = page_lines_length base original ms separator (from + 1) count in
     rw (length-append (separator ++ line) rest) (omega (arith, one, more))
 
@@ -178,7 +178,7 @@ index_length base original ms =
     let separator = codes ",\n" in
     let gate = separator ++ link_text (timegate_link base original) in
     let self = separator ++ link_text (timemap_link (codes "self") (written.timemap_address base original) ms) in
-    let lines = followed separator (map (page_link base original ms) (numbers ms)) in
+    let lines = links_each_behind separator (map (page_link base original ms) (numbers ms)) in
     let body = gate ++ (self ++ lines) in
     let inside : n ≤ length body = longer_right gate (self ++ lines) n (longer_right self lines n (page_lines_length base original ms separator 1 (pages ms))) in
     longer_left (link_text (original_link original) ++ body) (codes "\n") n (longer_right (link_text (original_link original)) body n inside)

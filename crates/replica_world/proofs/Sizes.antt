@@ -12,7 +12,7 @@ use Rattle.memento_time.specs.Mementos.{IsMemento}
 use Rattle.memento_time.specs.Second.{IsSecond, imf}
 use Rattle.memento_time.proofs.ReadLemmas.{Reads-imf}
 use Rattle.link_format.specs.Grammar.{Param, Link}
-use Rattle.link_format.specs.Writing.{param_text, params_text, link_text, escape, followed}
+use Rattle.link_format.specs.Writing.{param_text, params_text, link_text, escape, links_each_behind}
 use Rattle.timemap_reader.specs.Answer.{IsShort}
 use Rattle.timemap_writer.specs.TimeMap as written
 use Rattle.timemap_writer.specs.TimeMap.{memento_link, memento_links, memento_relations, original_link, timegate_link, timemap_link, period}
@@ -88,12 +88,12 @@ line_short first last m is =
       is.uri.0.1,
     )
 
-lines_short : (first more : Bool) (ms : List Memento) → All IsMemento ms → length (followed (codes ",\n") (stretch_links first more ms)) ≤ 8311 * length ms
+lines_short : (first more : Bool) (ms : List Memento) → All IsMemento ms → length (links_each_behind (codes ",\n") (stretch_links first more ms)) ≤ 8311 * length ms
 lines_short first more [] each = omega arith
 lines_short first more (m ∷ ms) each =
     let last = not more && (length ms == 0) in
     let line = codes ",\n" ++ link_text (memento_link first last m) in
-    let rest = followed (codes ",\n") (stretch_links false more ms) in
+    let rest = links_each_behind (codes ",\n") (stretch_links false more ms) in
     let front : length line ≡ 2 + length (link_text (memento_link first last m)) = length-append (codes ",\n") (link_text (memento_link first last m)) in
     let one = line_short first last m (All-head IsMemento m ms each) in
     let others = lines_short false more ms (All-tail IsMemento m ms each) in
@@ -139,9 +139,9 @@ page_is_short base original ms page known gate self each =
     let here = stretch page ms in
     let here_each = All-stretch IsMemento page ms each in
     let few : length here ≤ 1000 = omega (arith, length-take 1000 (drop (1000 * (page - 1)) ms)) in
-    let lines : length (followed (codes ",\n") (stretch page (memento_links true ms))) ≤ 8311 * length here =
-    subst (λ (links : List Link). length (followed (codes ",\n") links) ≤ 8311 * length here) (lines_taken page ms)
+    let lines : length (links_each_behind (codes ",\n") (stretch page (memento_links true ms))) ≤ 8311 * length here =
+    subst (λ (links : List Link). length (links_each_behind (codes ",\n") links) ≤ 8311 * length here) (lines_taken page ms)
     (lines_short (1000 * (page - 1) == 0) (nat_lt 1000 (length (drop (1000 * (page - 1)) ms))) here here_each) in
     let whole = lengths (link_text (original_link original)) (link_text (timegate_link base original)) (link_text (timemap_link (codes "self") (page_address base original page) here))
-    (followed (codes ",\n") (stretch page (memento_links true ms))) in
+    (links_each_behind (codes ",\n") (stretch page (memento_links true ms))) in
     omega (arith, whole, original_short original known, gate_short base original gate, self_short (page_address base original page) here self here_each, lines, few)

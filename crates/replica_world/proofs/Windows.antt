@@ -11,7 +11,7 @@ use Rattle.std.proofs.lemmas.List.{drop-drop, take-append-drop}
 use Rattle.std.proofs.Math.Seq.{take-append_seam}
 use Rattle.replica_world.specs.declared.replaying.fault.ReplayFault.{ReplayFault}
 use Rattle.replica_world.specs.declared.replaying.fault.ReplayFault.TheVariants.{BadLine, Read, Write, NoMemory}
-use Rattle.replica_world.specs.Watching.{grown, Counted}
+use Rattle.replica_world.specs.Watching.{count_after, Counted}
 use Rattle.replica_world.specs.Fields.{after_empty_lines}
 use Rattle.replica_world.specs.Script.{number_of_line}
 use Rattle.replica_world.specs.Reading.{Held, Told, Drops, IsLeft, IsLeftOf, IsReadTo, BlamesReader, SameText, Fills, ReadsOn, ends_of_lines, nothing_held, room}
@@ -93,7 +93,7 @@ front_used start next items old new low bytes rest lines pieces ended =
 
 -- a piece came
 pub filled : (old mid new : Held) (before after : Told) (piece : List ℕ) → mid ≡ old → new ≡ record mid { bytes = mid.bytes ++ piece; pieces = mid.pieces + 1 } → old.ended ≡ false
-    → length piece ≤ 65536 → 0 < length piece → Consumes before.bytes after.bytes piece → after.failures ≡ before.failures → old.pieces < 1000000000 → after.pieces ≡ grown 1 before.pieces
+    → length piece ≤ 65536 → 0 < length piece → Consumes before.bytes after.bytes piece → after.failures ≡ before.failures → old.pieces < 1000000000 → after.pieces ≡ count_after 1 before.pieces
     → Fills old before new after
 filled old mid new before after piece mid_is new_is more short some consumed failures most counted =
     let is : new ≡ record old { bytes = old.bytes ++ piece; pieces = old.pieces + 1 } = new_is ∙ ap (λ (h : Held). record h { bytes = h.bytes ++ piece; pieces = h.pieces + 1 }) mid_is in
@@ -135,7 +135,7 @@ text_filled old new piece (Some rest) (Some left) bytes consumed =
 reads_filled : (begun : Told) (old : Held) (before : Told) (new : Held) (after : Told) → Fills old before new after → IsReadTo begun old before → IsReadTo begun new after
 reads_filled begun old before new after fills reads = on fills.counted where
   on : ((new.ended ≡ true) × (fills.piece ≡ []) × IsAtEnd after.bytes × (new.pieces ≡ old.pieces) × (after.pieces ≡ before.pieces))
-      ⊎ ((new.ended ≡ false) × (0 < length fills.piece) × (new.pieces ≡ old.pieces + 1) × (old.pieces < 1000000000) × (after.pieces ≡ grown 1 before.pieces))
+      ⊎ ((new.ended ≡ false) × (0 < length fills.piece) × (new.pieces ≡ old.pieces + 1) × (old.pieces < 1000000000) × (after.pieces ≡ count_after 1 before.pieces))
       → IsReadTo begun new after
   on (inl (ended, none, end, pieces, counted)) = record {
     left = leftof_filled begun.bytes old new before.bytes after.bytes fills.piece reads.left fills.bytes fills.lines fills.consumed (omega (arith, pieces)) (λ is. end);
@@ -152,7 +152,7 @@ reads_filled begun old before new after fills reads = on fills.counted where
 room_filled : (old : Held) (before : Told) (new : Held) (after : Told) → Fills old before new after → room new ≤ room old
 room_filled old before new after fills = on fills.counted where
   on : ((new.ended ≡ true) × (fills.piece ≡ []) × IsAtEnd after.bytes × (new.pieces ≡ old.pieces) × (after.pieces ≡ before.pieces))
-      ⊎ ((new.ended ≡ false) × (0 < length fills.piece) × (new.pieces ≡ old.pieces + 1) × (old.pieces < 1000000000) × (after.pieces ≡ grown 1 before.pieces))
+      ⊎ ((new.ended ≡ false) × (0 < length fills.piece) × (new.pieces ≡ old.pieces + 1) × (old.pieces < 1000000000) × (after.pieces ≡ count_after 1 before.pieces))
       → room new ≤ room old
   on (inl (ended, none, end, pieces, counted)) =
       omega (arith, pieces, ap length fills.bytes, length-append old.bytes fills.piece, ap length none)
@@ -228,26 +228,26 @@ reader_blamed_on begun now result fault is blames = subst (λ (r : Result (Unit 
 
 -- what follows for a whole replay
 pub read_failed : (begun now : Told) (result : Result (Unit {0}) ReplayFault) → BlamesReader result begun now → result ≡ Err Read
-    → (now.failures ≡ grown 1 begun.failures) ⊎ (now.pieces ≡ grown 1000000000 begun.pieces)
+    → (now.failures ≡ count_after 1 begun.failures) ⊎ (now.pieces ≡ count_after 1000000000 begun.pieces)
 read_failed begun now result blames is = on (subst (λ (r : Result (Unit {0}) ReplayFault). BlamesReader r begun now) is blames) where
-  on : (now.failures ≡ grown 1 begun.failures) ⊎ ((now.pieces ≡ grown 1000000000 begun.pieces) × IfSome begun.bytes (λ script. 1000000000 ≤ length script))
-      → (now.failures ≡ grown 1 begun.failures) ⊎ (now.pieces ≡ grown 1000000000 begun.pieces)
+  on : (now.failures ≡ count_after 1 begun.failures) ⊎ ((now.pieces ≡ count_after 1000000000 begun.pieces) × IfSome begun.bytes (λ script. 1000000000 ≤ length script))
+      → (now.failures ≡ count_after 1 begun.failures) ⊎ (now.pieces ≡ count_after 1000000000 begun.pieces)
   on (inl failed) = inl failed
   on (inr many) = inr many.0
 
 pub read_of_few_failed : (begun now : Told) (result : Result (Unit {0}) ReplayFault) → BlamesReader result begun now → result ≡ Err Read
-    → IfSome begun.bytes (λ script. length script < 1000000000 → now.failures ≡ grown 1 begun.failures)
+    → IfSome begun.bytes (λ script. length script < 1000000000 → now.failures ≡ count_after 1 begun.failures)
 read_of_few_failed begun now result blames is = on (subst (λ (r : Result (Unit {0}) ReplayFault). BlamesReader r begun now) is blames) where
-  few : (o : Option (List ℕ)) → IfSome o (λ script. 1000000000 ≤ length script) → IfSome o (λ script. length script < 1000000000 → now.failures ≡ grown 1 begun.failures)
+  few : (o : Option (List ℕ)) → IfSome o (λ script. 1000000000 ≤ length script) → IfSome o (λ script. length script < 1000000000 → now.failures ≡ count_after 1 begun.failures)
   few None many = tt
   few (Some script) many = λ short. absurd (omega (arith, short, many))
 
-  any : (o : Option (List ℕ)) → now.failures ≡ grown 1 begun.failures → IfSome o (λ script. length script < 1000000000 → now.failures ≡ grown 1 begun.failures)
+  any : (o : Option (List ℕ)) → now.failures ≡ count_after 1 begun.failures → IfSome o (λ script. length script < 1000000000 → now.failures ≡ count_after 1 begun.failures)
   any None failed = tt
   any (Some script) failed = λ short. failed
 
-  on : (now.failures ≡ grown 1 begun.failures) ⊎ ((now.pieces ≡ grown 1000000000 begun.pieces) × IfSome begun.bytes (λ script. 1000000000 ≤ length script))
-      → IfSome begun.bytes (λ script. length script < 1000000000 → now.failures ≡ grown 1 begun.failures)
+  on : (now.failures ≡ count_after 1 begun.failures) ⊎ ((now.pieces ≡ count_after 1000000000 begun.pieces) × IfSome begun.bytes (λ script. 1000000000 ≤ length script))
+      → IfSome begun.bytes (λ script. length script < 1000000000 → now.failures ≡ count_after 1 begun.failures)
   on (inl failed) = any begun.bytes failed
   on (inr many) = few begun.bytes many.1
 

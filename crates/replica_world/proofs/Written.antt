@@ -4,7 +4,7 @@ use Rattle.std.proofs.Common.{Result, Ok, Err, sym, ap, subst, ◌∙◌, append
 use Rattle.std.specs.Io.KnownBytes.{Appends}
 use Rattle.std.proofs.KnownBytes.{Appends-trans}
 use Rattle.std.proofs.lemmas.List.{take-append-drop}
-use Rattle.replica_world.specs.Watching.{grown, Counted}
+use Rattle.replica_world.specs.Watching.{count_after, Counted}
 use Rattle.replica_world.specs.declared.replaying.fault.ReplayFault.{ReplayFault}
 use Rattle.replica_world.specs.declared.replaying.fault.ReplayFault.TheVariants.{BadLine, Read, Write, NoMemory}
 use Rattle.replica_world.specs.Devices.{BlamesWriter}
@@ -24,10 +24,10 @@ min_twice most old more mid new mid_is new_is = omega arith
 pub none_counted : (old : ℕ) → Counted 0 old old
 none_counted old = record { none = λ _. refl; some = λ more. absurd (omega (arith, more)) }
 
-pub one_more_counted : (more old mid new : ℕ) → Counted more old mid → new ≡ grown 1 mid → Counted (more + 1) old new
+pub one_more_counted : (more old mid new : ℕ) → Counted more old mid → new ≡ count_after 1 mid → Counted (more + 1) old new
 one_more_counted zero old mid new counted is = record {
   none = λ none. absurd (omega (arith, none));
-  some = λ _. is ∙ ap (grown 1) (counted.none refl);
+  some = λ _. is ∙ ap (count_after 1) (counted.none refl);
 }
 one_more_counted (suc more) old mid new counted is = record {
   none = λ none. absurd (omega (arith, none));
@@ -37,7 +37,7 @@ one_more_counted (suc more) old mid new counted is = record {
 -- ---- whose fault a failure is
 
 -- it answers `Write` just where a write failed
-pub write_failed : (result : Result (Unit {0}) ReplayFault) (old new : ℕ) → BlamesWriter result old new → result ≡ Err Write → new ≡ grown 1 old
+pub write_failed : (result : Result (Unit {0}) ReplayFault) (old new : ℕ) → BlamesWriter result old new → result ≡ Err Write → new ≡ count_after 1 old
 write_failed result old new blames is = subst (λ (r : Result (Unit {0}) ReplayFault). BlamesWriter r old new) is blames
 
 pub no_write_failed : (result : Result (Unit {0}) ReplayFault) (old new : ℕ) → BlamesWriter result old new → result ≢ Err Write → new ≡ old

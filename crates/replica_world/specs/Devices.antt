@@ -3,7 +3,7 @@ use Rattle.std.specs.Prelude.{◌≡◌, ℕ, List, ◌++◌, Option, Result, Ok
 use Rattle.std.specs.Io.KnownBytes.{Appends}
 use Rattle.replica_world.specs.declared.replaying.fault.ReplayFault.{ReplayFault}
 use Rattle.replica_world.specs.declared.replaying.fault.ReplayFault.TheVariants.{BadLine, Read, Write, NoMemory}
-use Rattle.replica_world.specs.Watching.{grown}
+use Rattle.replica_world.specs.Watching.{count_after}
 
 -- known bytes grow by a beginning of these
 abbrev pub AppendsBeginning : Option (List ℕ) → Option (List ℕ) → List ℕ → Type 0
@@ -27,6 +27,6 @@ IsBreak (BadLine number) = ⊥
 abbrev pub BlamesWriter : {T : Type 0} → Result T ReplayFault → ℕ → ℕ → Type 0
 BlamesWriter (Ok u) old new = new ≡ old
 BlamesWriter (Err Read) old new = new ≡ old
-BlamesWriter (Err Write) old new = new ≡ grown 1 old
+BlamesWriter (Err Write) old new = new ≡ count_after 1 old
 BlamesWriter (Err NoMemory) old new = new ≡ old
 BlamesWriter (Err (BadLine number)) old new = new ≡ old

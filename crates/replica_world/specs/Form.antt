@@ -4,7 +4,7 @@ use Rattle.std.specs.Prelude.{nat_le, if◌then◌else◌, codes, bytes_eq, IsTr
 use Rattle.std.specs.Fmt.{decimal}
 use Rattle.std.specs.List.{list_all}
 use Rattle.text_fields.specs.Decimals.{number_of}
-use Rattle.text_fields.specs.Parts.{Lacks, space, parted}
+use Rattle.text_fields.specs.Parts.{Lacks, space, spaced_fields}
 use Rattle.replica_world.specs.Fields.{field, number_field, word_field, is_visible}
 use Rattle.link_format.specs.Scan.{◌>>=◌}
 
@@ -54,18 +54,18 @@ take_word false = codes "takepart"
 -- the line of a command
 abbrev pub form_text : Form → List ℕ
 form_text (Take f) =
-    parted
+    spaced_fields
     (take_word f.is_whole ∷ decimal f.replica ∷ f.archive ∷ decimal f.revision ∷ f.address ∷ decimal f.len ∷ f.original
     ∷ [])
-form_text (Map replica original) = parted (codes "map" ∷ decimal replica ∷ original ∷ [])
-form_text (Gate replica original) = parted (codes "gate" ∷ decimal replica ∷ original ∷ [])
-form_text (GateAt replica original asked) = parted (codes "gate" ∷ decimal replica ∷ original ∷ asked ∷ [])
-form_text (Ask f) = parted (codes "ask" ∷ decimal f.replica ∷ f.method ∷ decimal f.count ∷ f.target ∷ [])
-form_text (Send replica) = parted (codes "send" ∷ decimal replica ∷ [])
-form_text (SendFrom replica merges) = parted (codes "sendfrom" ∷ decimal replica ∷ decimal merges ∷ [])
-form_text (Deliver replica message) = parted (codes "deliver" ∷ decimal replica ∷ decimal message ∷ [])
-form_text (Receive replica len) = parted (codes "receive" ∷ decimal replica ∷ decimal len ∷ [])
-form_text (Restart replica) = parted (codes "restart" ∷ decimal replica ∷ [])
+form_text (Map replica original) = spaced_fields (codes "map" ∷ decimal replica ∷ original ∷ [])
+form_text (Gate replica original) = spaced_fields (codes "gate" ∷ decimal replica ∷ original ∷ [])
+form_text (GateAt replica original asked) = spaced_fields (codes "gate" ∷ decimal replica ∷ original ∷ asked ∷ [])
+form_text (Ask f) = spaced_fields (codes "ask" ∷ decimal f.replica ∷ f.method ∷ decimal f.count ∷ f.target ∷ [])
+form_text (Send replica) = spaced_fields (codes "send" ∷ decimal replica ∷ [])
+form_text (SendFrom replica merges) = spaced_fields (codes "sendfrom" ∷ decimal replica ∷ decimal merges ∷ [])
+form_text (Deliver replica message) = spaced_fields (codes "deliver" ∷ decimal replica ∷ decimal message ∷ [])
+form_text (Receive replica len) = spaced_fields (codes "receive" ∷ decimal replica ∷ decimal len ∷ [])
+form_text (Restart replica) = spaced_fields (codes "restart" ∷ decimal replica ∷ [])
 
 -- a number of 64 bits
 abbrev pub IsNumber : ℕ → Type 0

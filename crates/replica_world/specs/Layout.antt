@@ -2,7 +2,7 @@
 use Rattle.std.specs.Prelude.{◌≡◌, ◌≢◌, ℕ, zero, suc, ◌<◌, ◌≤◌, ◌⊎◌, List, [], ◌∷◌, ◌++◌, length, replicate, Option}
 use Rattle.std.specs.Prelude.{None, Some, codes}
 use Rattle.std.specs.Fmt.{decimal}
-use Rattle.text_fields.specs.Parts.{Lacks, parted}
+use Rattle.text_fields.specs.Parts.{Lacks, spaced_fields}
 use Rattle.replica_events.specs.declared.event.Event.{Event}
 use Rattle.replica_events.specs.declared.event.Event.TheVariants.{Send, SendFrom, Deliver, Receive, Restart, Ask}
 use Rattle.replica_world.specs.Fields.{after_empty_lines}
@@ -84,7 +84,7 @@ pub record IsCommandAt (text : List ℕ) (command : Command) (rest : List ℕ) :
 -- `replicas N BASE` at the front of a text
 pub record IsStartAt (text : List ℕ) (begin : Start) (rest : List ℕ) : Type 0 where
   pub base : List ℕ
-  pub line : IsLine text (parted (codes "replicas" ∷ decimal begin.replicas ∷ base ∷ []), rest)
+  pub line : IsLine text (spaced_fields (codes "replicas" ∷ decimal begin.replicas ∷ base ∷ []), rest)
   pub some : 1 ≤ begin.replicas
   pub most : begin.replicas ≤ 16
   pub service : service_of base ≡ Some begin.base

@@ -7,7 +7,7 @@ use Rattle.replica_world.specs.declared.replaying.fault.ReplayFault.{ReplayFault
 use Rattle.replica_world.specs.declared.replaying.fault.ReplayFault.TheVariants.{BadLine, Read, Write, NoMemory}
 use Rattle.replica_world.specs.declared.replaying.settled.Part.{Part}
 use Rattle.replica_world.specs.declared.replaying.settled.Part.TheVariants as part
-use Rattle.replica_world.specs.Watching.{Seen, grown, Counted}
+use Rattle.replica_world.specs.Watching.{Seen, count_after, Counted}
 use Rattle.replica_world.specs.Fields.{after_empty_lines}
 use Rattle.replica_world.specs.Script.{command_at, start_at}
 
@@ -85,8 +85,8 @@ pub record Told : Type 0 where
   pub pieces : ℕ
 
 -- what is told of a reader that is watched
-abbrev pub told : {D : Type 0} → (D → Option (List ℕ)) → Seen D → Told
-told bytes seen = record { bytes = bytes seen.device; failures = seen.failures; pieces = seen.pieces }
+abbrev pub told_of : {D : Type 0} → (D → Option (List ℕ)) → Seen D → Told
+told_of bytes seen = record { bytes = bytes seen.device; failures = seen.failures; pieces = seen.pieces }
 
 -- since a reader was told to be so, all of its pieces came here, and no read failed
 pub record IsReadTo (begun : Told) (held : Held) (now : Told) : Type 0 where
@@ -98,8 +98,8 @@ pub record IsReadTo (begun : Told) (held : Held) (now : Told) : Type 0 where
 abbrev pub BlamesReader : {T : Type 0} → Result T ReplayFault → Told → Told → Type 0
 BlamesReader (Ok u) begun now = now.failures ≡ begun.failures
 BlamesReader (Err Read) begun now =
-    (now.failures ≡ grown 1 begun.failures)
-    ⊎ ((now.pieces ≡ grown 1000000000 begun.pieces) × IfSome begun.bytes (λ script. 1000000000 ≤ length script))
+    (now.failures ≡ count_after 1 begun.failures)
+    ⊎ ((now.pieces ≡ count_after 1000000000 begun.pieces) × IfSome begun.bytes (λ script. 1000000000 ≤ length script))
 BlamesReader (Err Write) begun now = now.failures ≡ begun.failures
 BlamesReader (Err NoMemory) begun now = now.failures ≡ begun.failures
 BlamesReader (Err (BadLine number)) begun now = now.failures ≡ begun.failures
@@ -123,7 +123,7 @@ pub record Fills (old : Held) (before : Told) (new : Held) (after : Told) : Type
   pub counted :
       ((new.ended ≡ true) × (piece ≡ []) × IsAtEnd after.bytes × (new.pieces ≡ old.pieces) × (after.pieces ≡ before.pieces))
       ⊎ ((new.ended ≡ false) × (0 < length piece) × (new.pieces ≡ old.pieces + 1) × (old.pieces < 1000000000)
-      × (after.pieces ≡ grown 1 before.pieces))
+      × (after.pieces ≡ count_after 1 before.pieces))
 
 -- no text was lost but empty lines at its front
 pub record ReadsOn (old : Held) (before : Told) (new : Held) (after : Told) : Type 0 where

@@ -49,28 +49,28 @@ taking_of f body =
     }
 
 -- an event, and the text behind its command
-abbrev pub stepped : Event → List ℕ → Found
-stepped event rest = Some (Step event, rest)
+abbrev pub step_and_rest : Event → List ℕ → Found
+step_and_rest event rest = Some (Step event, rest)
 
 -- the command of a line, with the block or the lines that follow it
 unfoldable pub command_of : Form → List ℕ → Found
 command_of (form.Take f) rest = do
   body ← block_of f.len rest
   Some (Take (taking_of f body.0), body.1)
-command_of (form.Map replica original) rest = stepped (Ask replica (get (codes "/timemap/link/" ++ original) [])) rest
-command_of (form.Gate replica original) rest = stepped (Ask replica (get (codes "/timegate/" ++ original) [])) rest
+command_of (form.Map replica original) rest = step_and_rest (Ask replica (get (codes "/timemap/link/" ++ original) [])) rest
+command_of (form.Gate replica original) rest = step_and_rest (Ask replica (get (codes "/timegate/" ++ original) [])) rest
 command_of (form.GateAt replica original asked) rest =
-    stepped (Ask replica (get (codes "/timegate/" ++ original) (asked ∷ []))) rest
+    step_and_rest (Ask replica (get (codes "/timegate/" ++ original) (asked ∷ []))) rest
 command_of (form.Ask f) rest = do
   asked ← lines_of f.count rest
-  stepped (Ask f.replica (record { method = f.method; target = f.target; asked = asked.0 })) asked.1
-command_of (form.Send replica) rest = stepped (Send replica) rest
-command_of (form.SendFrom replica merges) rest = stepped (SendFrom replica merges) rest
-command_of (form.Deliver replica message) rest = stepped (Deliver replica message) rest
+  step_and_rest (Ask f.replica (record { method = f.method; target = f.target; asked = asked.0 })) asked.1
+command_of (form.Send replica) rest = step_and_rest (Send replica) rest
+command_of (form.SendFrom replica merges) rest = step_and_rest (SendFrom replica merges) rest
+command_of (form.Deliver replica message) rest = step_and_rest (Deliver replica message) rest
 command_of (form.Receive replica len) rest = do
   body ← block_of len rest
-  stepped (Receive replica body.0) body.1
-command_of (form.Restart replica) rest = stepped (Restart replica) rest
+  step_and_rest (Receive replica body.0) body.1
+command_of (form.Restart replica) rest = step_and_rest (Restart replica) rest
 
 -- the command at the front of a text; none if the line is bad
 unfoldable pub command_at : List ℕ → Found
@@ -148,14 +148,14 @@ pub record Script : Type 0 where
   pub commands : Commands
 
 -- the script that its first line begins
-abbrev pub begun : List ℕ → Option (Start × List ℕ) → Script
-begun text None = record { start = None; commands = bad_from text }
-begun text (Some found) = record { start = Some found.0; commands = commands_of found.1 }
+abbrev pub script_begun_by : List ℕ → Option (Start × List ℕ) → Script
+script_begun_by text None = record { start = None; commands = bad_from text }
+script_begun_by text (Some found) = record { start = Some found.0; commands = commands_of found.1 }
 
 -- the script from its first line that is not empty
 abbrev pub script_from : List ℕ → Script
 script_from [] = record { start = None; commands = no_more }
-script_from (b ∷ text) = begun (b ∷ text) (start_at (b ∷ text))
+script_from (b ∷ text) = script_begun_by (b ∷ text) (start_at (b ∷ text))
 
 -- a text as a script
 unfoldable pub script_of : List ℕ → Script

@@ -8,8 +8,8 @@ pub record Seen (D : Type 0) : Type 0 where
   pub pieces : ℕ
 
 -- a count once n more were counted; it stays at the greatest number of 64 bits
-abbrev pub grown : ℕ → ℕ → ℕ
-grown n count = min (count + n) (2 ^ 64 - 1)
+abbrev pub count_after : ℕ → ℕ → ℕ
+count_after n count = min (count + n) (2 ^ 64 - 1)
 
 -- a read gave bytes
 abbrev pub IsPiece : {E : Type 0} → Result ℕ E → Type 0
@@ -24,4 +24,4 @@ IsFailedWrite (Err e) bytes = Unit {0}
 -- a count after so many more
 pub record Counted (more old new : ℕ) : Type 0 where
   pub none : more ≡ 0 → new ≡ old
-  pub some : 0 < more → new ≡ grown more old
+  pub some : 0 < more → new ≡ count_after more old

@@ -9,7 +9,7 @@ use Rattle.std.proofs.lemmas.Fmt.{decimal_injective}
 use Rattle.std.proofs.lemmas.List.Elements.{All-head, All-tail}
 use Rattle.text_fields.proofs.DecimalLemmas.{decimal_lacks}
 use Rattle.text_fields.proofs.PartLemmas.{one_split}
-use Rattle.service_status.specs.Exposition.{escaped_byte, escaped, Label, label_text, labels_text, value_text, Sample, sample_line, is_name_byte, IsName, AreReadBack}
+use Rattle.service_status.specs.Exposition.{escaped_byte, escaped_value, Label, label_text, labels_text, value_text, Sample, sample_line, is_name_byte, IsName, AreReadBack}
 
 -- a byte before what a value has
 abbrev with_byte : ℕ → List ℕ × List ℕ → List ℕ × List ℕ
@@ -39,14 +39,14 @@ byte_at b false true end text s q e = ap (λ (n : ℕ). with_byte n (read_value 
 byte_at b false false true text s q e = ap (λ (n : ℕ). with_byte n (read_value text false)) (sym ((Decides-eqb b 10).0 e))
 byte_at b false false false text s q e = plain_at (b == 34) (b == 92) ([], text) (read_value text true) (with_byte b (read_value text false)) q s
 
-value_read : (value rest : List ℕ) → read_value (escaped value ++ 34 ∷ rest) false ≡ (value, rest)
+value_read : (value rest : List ℕ) → read_value (escaped_value value ++ 34 ∷ rest) false ≡ (value, rest)
 value_read [] rest = refl
 value_read (b ∷ value) rest =
-    ap (λ (t : List ℕ). read_value t false) (append_assoc (escaped_byte b) (escaped value) (34 ∷ rest))
-    ∙ byte_at b (b == 92) (b == 34) (b == 10) (escaped value ++ 34 ∷ rest) refl refl refl
+    ap (λ (t : List ℕ). read_value t false) (append_assoc (escaped_byte b) (escaped_value value) (34 ∷ rest))
+    ∙ byte_at b (b == 92) (b == 34) (b == 10) (escaped_value value ++ 34 ∷ rest) refl refl refl
     ∙ ap (with_byte b) (value_read value rest)
 
-one_value : (a b x y : List ℕ) → escaped a ++ 34 ∷ x ≡ escaped b ++ 34 ∷ y → (a ≡ b) × (x ≡ y)
+one_value : (a b x y : List ℕ) → escaped_value a ++ 34 ∷ x ≡ escaped_value b ++ 34 ∷ y → (a ≡ b) × (x ≡ y)
 one_value a b x y same =
     let read : (a, x) ≡ (b, y) = sym (value_read a x) ∙ ap (λ (t : List ℕ). read_value t false) same ∙ value_read b y in
     (ap (λ (p : List ℕ × List ℕ). p.0) read, ap (λ (p : List ℕ × List ℕ). p.1) read)
@@ -67,15 +67,15 @@ one_name (e ∷ a) (f ∷ b) x y c d na nb ec ed same =
     let rest = one_name a b x y c d (and_parts (is_name_byte e) (list_all is_name_byte a) na).1 (and_parts (is_name_byte f) (list_all is_name_byte b) nb).1 ec ed tails in
     ((λ i. heads i ∷ rest.0 i), rest.1)
 
-label_parts : (l : Label) (x : List ℕ) → label_text l ++ x ≡ l.0 ++ 61 ∷ 34 ∷ (escaped l.1 ++ 34 ∷ x)
+label_parts : (l : Label) (x : List ℕ) → label_text l ++ x ≡ l.0 ++ 61 ∷ 34 ∷ (escaped_value l.1 ++ 34 ∷ x)
 label_parts l x =
-    append_assoc (l.0 ++ codes "=\"" ++ escaped l.1) (codes "\"") x
-    ∙ append_assoc (l.0 ++ codes "=\"") (escaped l.1) (34 ∷ x)
-    ∙ append_assoc l.0 (codes "=\"") (escaped l.1 ++ 34 ∷ x)
+    append_assoc (l.0 ++ codes "=\"" ++ escaped_value l.1) (codes "\"") x
+    ∙ append_assoc (l.0 ++ codes "=\"") (escaped_value l.1) (34 ∷ x)
+    ∙ append_assoc l.0 (codes "=\"") (escaped_value l.1 ++ 34 ∷ x)
 
 one_label : (l k : Label) (x y : List ℕ) → IsName l.0 → IsName k.0 → label_text l ++ x ≡ label_text k ++ y → (l ≡ k) × (x ≡ y)
 one_label l k x y nl nk same =
-    let names = one_name l.0 k.0 (34 ∷ (escaped l.1 ++ 34 ∷ x)) (34 ∷ (escaped k.1 ++ 34 ∷ y)) 61 61 nl nk refl refl
+    let names = one_name l.0 k.0 (34 ∷ (escaped_value l.1 ++ 34 ∷ x)) (34 ∷ (escaped_value k.1 ++ 34 ∷ y)) 61 61 nl nk refl refl
     (sym (label_parts l x) ∙ (same ∙ label_parts k y)) in
     let values = one_value l.1 k.1 x y (ap (λ (t : List ℕ). drop 2 t) names.1) in
     ((λ i. (names.0 i, values.0 i)), values.1)

@@ -38,15 +38,15 @@ with_pull pull.Gap c = record c { gap = one_more c.gap }
 with_pull pull.NoMemory c = record c { no_memory = one_more c.no_memory }
 
 -- so many, as far as 64 bits can count
-abbrev pub counted : ℕ → ℕ
-counted n = min n (2 ^ 64 - 1)
+abbrev pub capped_count : ℕ → ℕ
+capped_count n = min n (2 ^ 64 - 1)
 
 -- so many wishes more
 abbrev pub with_wishes : WishCounts → WishCounts → WishCounts
 with_wishes more c = record {
-  granted = counted (c.granted + more.granted);
-  ended = counted (c.ended + more.ended);
-  turned_away = counted (c.turned_away + more.turned_away);
+  granted = capped_count (c.granted + more.granted);
+  ended = capped_count (c.ended + more.ended);
+  turned_away = capped_count (c.turned_away + more.turned_away);
 }
 
 -- a word for how something ended, and how often it did

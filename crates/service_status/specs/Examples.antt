@@ -4,7 +4,7 @@ use Rattle.timegate.specs.declared.request.Request.{Request}
 use Rattle.timegate.specs.declared.reply.Header.TheVariants.{Allow, ContentType}
 use Rattle.service_status.specs.declared.metrics.Metric.TheVariants as metric
 use Rattle.service_status.specs.declared.status.Status.{Status}
-use Rattle.service_status.specs.Exposition.{escaped, sample_line}
+use Rattle.service_status.specs.Exposition.{escaped_value, sample_line}
 use Rattle.service_status.specs.Samples.{metric_text}
 use Rattle.service_status.specs.Replies.{reply_of}
 
@@ -16,7 +16,7 @@ pub record AreExamples : Type 0 where
   pub plain : sample_line (codes "entries") ([], 7) ≡ codes "entries 7\n"
   pub labelled : sample_line (codes "replies") ((codes "gate", codes "1") ∷ (codes "status", codes "200") ∷ [], 12)
       ≡ codes "replies{gate=\"1\",status=\"200\"} 12\n"
-  pub escapes : escaped (codes "a\\b\"c\n") ≡ codes "a\\\\b\\\"c\\n"
+  pub escapes : escaped_value (codes "a\\b\"c\n") ≡ codes "a\\\\b\\\"c\\n"
   pub rounds : (s : Status) → s.rounds ≡ 3 → metric_text s metric.Rounds
       ≡ codes "# HELP maplewrench_rounds_total Rounds that were made.\n# TYPE maplewrench_rounds_total counter\n"
       ++ codes "maplewrench_rounds_total 3\n"

@@ -12,8 +12,8 @@ escaped_byte b =
     else b ∷ []
 
 -- a label's value
-abbrev pub escaped : List ℕ → List ℕ
-escaped text = flat_map escaped_byte text
+abbrev pub escaped_value : List ℕ → List ℕ
+escaped_value text = flat_map escaped_byte text
 
 -- a label: its name and its value
 abbrev pub Label : Type 0
@@ -21,7 +21,7 @@ Label = List ℕ × List ℕ
 
 -- a label with its value in quotes
 abbrev pub label_text : Label → List ℕ
-label_text label = label.0 ++ codes "=\"" ++ escaped label.1 ++ codes "\""
+label_text label = label.0 ++ codes "=\"" ++ escaped_value label.1 ++ codes "\""
 
 -- labels in braces, with commas between them; nothing if there is none
 abbrev pub labels_text : List Label → List ℕ

@@ -1,6 +1,6 @@
 //! What a service tells of itself.
 ghost use Rattle.std.specs.Prelude.{◌≡◌};
-ghost use Rattle.service_status.specs.Events.{walked, pulled, published, refused};
+ghost use Rattle.service_status.specs.Events.{after_walk, after_pull, after_publish, after_refusal};
 
 use crate::counts::{PullCounts, PullEnd, ReplyCounts, WalkCounts, WalkEnd, WishCounts};
 use memento_time::{ArchiveName, Clean};
@@ -28,7 +28,7 @@ pub struct PublishStatus {
 impl PublishStatus {
     /// Counts a publish in this second.
     pub fn add(&mut self, second: u64)
-        ensures { self.new ≡ published second self.old }
+        ensures { self.new ≡ after_publish second self.old }
     {
         self.published = self.published.saturating_add(1);
         self.last = second;
@@ -36,7 +36,7 @@ impl PublishStatus {
 
     /// Counts a publish for which memory was refused.
     pub fn add_refused(&mut self)
-        ensures { self.new ≡ refused self.old }
+        ensures { self.new ≡ after_refusal self.old }
     {
         self.refused = self.refused.saturating_add(1);
     }
@@ -64,7 +64,7 @@ pub struct ArchiveStatus {
 impl ArchiveStatus {
     /// Counts a walk that ended so, and took so many seconds.
     pub fn add_walk(&mut self, end: WalkEnd, seconds: u64)
-        ensures { self.new ≡ walked end seconds self.old }
+        ensures { self.new ≡ after_walk end seconds self.old }
     {
         self.walks.add(end);
         self.seconds = self.seconds.saturating_add(seconds);
@@ -83,7 +83,7 @@ pub struct PeerStatus {
 impl PeerStatus {
     /// Counts a pull that ended so in this second.
     pub fn add_pull(&mut self, end: PullEnd, second: u64)
-        ensures { self.new ≡ pulled end second self.old }
+        ensures { self.new ≡ after_pull end second self.old }
     {
         self.pulls.add(end);
         if matches!(end, PullEnd::News | PullEnd::NoNews) {

@@ -1,7 +1,7 @@
 //! Writes a status as text.
 ghost use Rattle.std.specs.Prelude.{◌≡◌, ◌++◌, ◌∷◌, [], OnOk, IfOk, map, flat_map, codes};
 ghost use Rattle.service_status.specs.Exposition as spec;
-ghost use Rattle.service_status.specs.Exposition.{escaped_byte, escaped, label_text, labels_text, sample_line, help_line, type_line};
+ghost use Rattle.service_status.specs.Exposition.{escaped_byte, escaped_value, label_text, labels_text, sample_line, help_line, type_line};
 ghost use Rattle.service_status.specs.Metrics.{name_of, help_of, kind_of};
 ghost use Rattle.service_status.specs.Labels.{as_label, only, behind};
 ghost use Rattle.service_status.specs.Samples.{alone, by_end, archive_label, peer_label, bit, if_known, walks_of};
@@ -35,7 +35,7 @@ fn push_byte(out: &mut Vec<u8>, byte: u8) -> Result<(), AllocError>
 
 /// Appends a label's value.
 fn push_escaped(out: &mut Vec<u8>, text: &[u8]) -> Result<(), AllocError>
-    ensures { OnOk result (out.new.items ≡ out.old.items ++ escaped text.now) }
+    ensures { OnOk result (out.new.items ≡ out.old.items ++ escaped_value text.now) }
 {
     let mut left = text;
     while let [byte, rest @ ..] = left {

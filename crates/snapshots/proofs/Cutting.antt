@@ -10,7 +10,7 @@ use Rattle.harvest_lattice.specs.Lattice.{Key, key_cmp, Kept, Entries, join_kept
 use Rattle.harvest_lattice.proofs.Entries.{key_cmp_total, key_cmp_exact, get-join}
 use Rattle.harvest_lattice.proofs.Knowledge.{same_key, below_none}
 use Rattle.harvest_lattice.proofs.RowLemmas.{entries_made}
-use Rattle.snapshots.specs.Cuts.{state_of, joined, join_all, IsCut}
+use Rattle.snapshots.specs.Cuts.{state_of, entries_joined, join_all, IsCut}
 
 -- what is behind in order is in order
 pub back_rises : (p q : List (Key × Kept)) → T (fmap.is_sorted key_cmp (p ++ q)) → T (fmap.is_sorted key_cmp q)
@@ -61,9 +61,9 @@ nothing_made : fmap.empty ≡ state_of []
 nothing_made = fmap.same_map key_cmp_total key_cmp_exact _ _ (λ k. fmap.get-empty key_cmp k ∙ sym (fmap.get-from_entries key_cmp_total [] k))
 
 -- the states of all lists
-pub all_states : (parts : List (List (Key × Kept))) → T (fmap.is_sorted key_cmp (joined parts)) → join_all (map state_of parts) ≡ state_of (joined parts)
+pub all_states : (parts : List (List (Key × Kept))) → T (fmap.is_sorted key_cmp (entries_joined parts)) → join_all (map state_of parts) ≡ state_of (entries_joined parts)
 all_states [] h = nothing_made
-all_states (p ∷ ps) h = ap (join (state_of p)) (all_states ps (back_rises p (joined ps) h)) ∙ two_states p (joined ps) h
+all_states (p ∷ ps) h = ap (join (state_of p)) (all_states ps (back_rises p (entries_joined ps) h)) ∙ two_states p (entries_joined ps) h
 
 -- a state is that of its own entries
 own_state : (x : Entries) → state_of (fmap.entries x) ≡ x
@@ -71,5 +71,5 @@ own_state x = fmap.same_entries_map (state_of (fmap.entries x)) x (entries_made 
 
 pub cut_joined : (x : Entries) (states : List Entries) → IsCut x states → join_all states ≡ x
 cut_joined x states cut =
-    let rise : T (fmap.is_sorted key_cmp (joined cut.parts)) = subst (λ (es : List (Key × Kept)). T (fmap.is_sorted key_cmp es)) (sym cut.whole) (fmap.entries_sorted x) in
+    let rise : T (fmap.is_sorted key_cmp (entries_joined cut.parts)) = subst (λ (es : List (Key × Kept)). T (fmap.is_sorted key_cmp es)) (sym cut.whole) (fmap.entries_sorted x) in
     ap join_all cut.states_are ∙ (all_states cut.parts rise ∙ (ap state_of cut.whole ∙ own_state x))

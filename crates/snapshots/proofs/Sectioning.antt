@@ -14,7 +14,7 @@ use Rattle.harvest_lattice.specs.Lattice.{Key, key_cmp, Kept, Entries}
 use Rattle.harvest_lattice.proofs.RowLemmas.{entries_made}
 use Rattle.replica_exchange.specs.StateText.{entry_text, state_text, IsEntry, AreEntries}
 use Rattle.snapshot_sections.specs.Sections.{first_line, last_line, section_line, section_text, snapshot_text}
-use Rattle.snapshots.specs.Cuts.{state_of, joined}
+use Rattle.snapshots.specs.Cuts.{state_of, entries_joined}
 use Rattle.snapshots.specs.Snapshots.{IsReadable, Writes, IsShort, IsLong, longest_body}
 use Rattle.snapshots.specs.Standing.{Stands, Ended, IsPart, text_of}
 use Rattle.snapshots.proofs.Cutting.{front_rises, back_rises}
@@ -23,9 +23,9 @@ push_all : {A : Type 0} (P : A → Type 0) (xs : List A) (x : A) → AllByRecurs
 push_all P [] x all p = (p, tt)
 push_all P (y ∷ xs) x all p = (all.0, push_all P xs x all.1 p)
 
-joined_push : (ps : List (List (Key × Kept))) (p : List (Key × Kept)) → joined (ps ++ p ∷ []) ≡ joined ps ++ p
+joined_push : (ps : List (List (Key × Kept))) (p : List (Key × Kept)) → entries_joined (ps ++ p ∷ []) ≡ entries_joined ps ++ p
 joined_push [] p = append-nil p
-joined_push (q ∷ ps) p = ap (λ (l : List (Key × Kept)). q ++ l) (joined_push ps p) ∙ sym (append_assoc q (joined ps) p)
+joined_push (q ∷ ps) p = ap (λ (l : List (Key × Kept)). q ++ l) (joined_push ps p) ∙ sym (append_assoc q (entries_joined ps) p)
 
 flat_push : {A : Type 0} (f : A → List ℕ) (xs : List A) (x : A) → flat_map f (xs ++ x ∷ []) ≡ flat_map f xs ++ f x
 flat_push f [] x = append-nil (f x)
@@ -51,7 +51,7 @@ pub section_ended : (start old now : Option (List ℕ)) (body : List ℕ) (entri
 section_ended start old now body entries sections done stands few section = record {
   parts = stands.parts ++ stands.rest ∷ [];
   rest = [];
-  all = append-nil (joined (stands.parts ++ stands.rest ∷ [])) ∙ (joined_push stands.parts stands.rest ∙ stands.all);
+  all = append-nil (entries_joined (stands.parts ++ stands.rest ∷ [])) ∙ (joined_push stands.parts stands.rest ∙ stands.all);
   fit = push_all IsPart stands.parts stands.rest stands.fit (record {
     entries = record { each = stands.rest_fits; count = subst (λ (n : ℕ). n < 2 ^ 64) stands.entries_are few };
     short = subst (λ (t : List ℕ). length t ≤ 268435456) (sym same) (text_short entries body few stands.short);
@@ -80,7 +80,7 @@ pub entry_added : (start now : Option (List ℕ)) (body next : List ℕ) (entrie
 entry_added start now body next entries sections done e stands grown is fits short = record {
   parts = stands.parts;
   rest = stands.rest ++ e ∷ [];
-  all = sym (append_assoc (joined stands.parts) stands.rest (e ∷ [])) ∙ ap (λ (l : List (Key × Kept)). l ++ e ∷ []) stands.all;
+  all = sym (append_assoc (entries_joined stands.parts) stands.rest (e ∷ [])) ∙ ap (λ (l : List (Key × Kept)). l ++ e ∷ []) stands.all;
   fit = stands.fit;
   written = stands.written;
   counted = stands.counted;
@@ -117,7 +117,7 @@ pub all_ended : (start old now : Option (List ℕ)) (body : List ℕ) (entries s
     → Appends old now (last_line sections) → Ended start now done
 all_ended start old now body entries sections done stands empty few last = record {
   parts = stands.parts;
-  all = sym (append-nil (joined stands.parts)) ∙ (ap (λ (l : List (Key × Kept)). joined stands.parts ++ l) (sym none) ∙ stands.all);
+  all = sym (append-nil (entries_joined stands.parts)) ∙ (ap (λ (l : List (Key × Kept)). entries_joined stands.parts ++ l) (sym none) ∙ stands.all);
   fit = stands.fit;
   few = subst (λ (n : ℕ). n < 2 ^ 64) stands.counted few;
   written = subst (Appends start now)
@@ -139,20 +139,20 @@ one_readable p rise is = record {
   short = subst (λ (es : List (Key × Kept)). length (text_of es) ≤ 268435456) (sym (entries_made p rise)) is.short;
 }
 
-all_readable : (ps : List (List (Key × Kept))) → T (fmap.is_sorted key_cmp (joined ps)) → AllByRecursion IsPart ps → AllByRecursion IsReadable (map state_of ps)
+all_readable : (ps : List (List (Key × Kept))) → T (fmap.is_sorted key_cmp (entries_joined ps)) → AllByRecursion IsPart ps → AllByRecursion IsReadable (map state_of ps)
 all_readable [] rise are = tt
-all_readable (p ∷ ps) rise are = (one_readable p (front_rises p (joined ps) rise) are.0, all_readable ps (back_rises p (joined ps) rise) are.1)
+all_readable (p ∷ ps) rise are = (one_readable p (front_rises p (entries_joined ps) rise) are.0, all_readable ps (back_rises p (entries_joined ps) rise) are.1)
 
-same_texts : (ps : List (List (Key × Kept))) → T (fmap.is_sorted key_cmp (joined ps)) → map text_of ps ≡ map state_text (map state_of ps)
+same_texts : (ps : List (List (Key × Kept))) → T (fmap.is_sorted key_cmp (entries_joined ps)) → map text_of ps ≡ map state_text (map state_of ps)
 same_texts [] rise = refl
 same_texts (p ∷ ps) rise =
-    let first : text_of p ≡ state_text (state_of p) = ap text_of (sym (entries_made p (front_rises p (joined ps) rise))) in
-    let rest = same_texts ps (back_rises p (joined ps) rise) in
+    let first : text_of p ≡ state_text (state_of p) = ap text_of (sym (entries_made p (front_rises p (entries_joined ps) rise))) in
+    let rest = same_texts ps (back_rises p (entries_joined ps) rise) in
     λ i. first i ∷ rest i
 
 pub state_written : (start now : Option (List ℕ)) (x : Entries) → Ended start now (fmap.entries x) → Writes start now x
 state_written start now x ended =
-    let rise : T (fmap.is_sorted key_cmp (joined ended.parts)) = subst (λ (es : List (Key × Kept)). T (fmap.is_sorted key_cmp es)) (sym ended.all) (fmap.entries_sorted x) in
+    let rise : T (fmap.is_sorted key_cmp (entries_joined ended.parts)) = subst (λ (es : List (Key × Kept)). T (fmap.is_sorted key_cmp es)) (sym ended.all) (fmap.entries_sorted x) in
     record {
       bytes = snapshot_text (map text_of ended.parts);
       snapshot = record {

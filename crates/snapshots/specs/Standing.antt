@@ -6,7 +6,7 @@ use Rattle.harvest_lattice.specs.Lattice.{Key, Kept}
 use Rattle.replica_exchange.specs.StateText.{entry_text, entries_text, line, IsEntry, AreEntries}
 use Rattle.replica_exchange.specs.Faults.{longest_text}
 use Rattle.snapshot_sections.specs.Sections.{first_line, section_text, snapshot_text}
-use Rattle.snapshots.specs.Cuts.{joined}
+use Rattle.snapshots.specs.Cuts.{entries_joined}
 use Rattle.snapshots.specs.Snapshots.{longest_body, IsShort}
 
 -- the text of the state of these entries, if they stand in order
@@ -22,7 +22,7 @@ pub record IsPart (es : List (Key × Kept)) : Type 0 where
 pub record Stands (start now : Option (List ℕ)) (body : List ℕ) (entries sections : ℕ) (done : List (Key × Kept)) : Type 0 where
   pub parts : List (List (Key × Kept))
   pub rest : List (Key × Kept)
-  pub all : joined parts ++ rest ≡ done
+  pub all : entries_joined parts ++ rest ≡ done
   pub fit : AllByRecursion IsPart parts
   pub written : Appends start now (first_line ++ flat_map section_text (map_list text_of parts))
   pub counted : sections ≡ length parts
@@ -35,7 +35,7 @@ pub record Stands (start now : Option (List ℕ)) (body : List ℕ) (entries sec
 -- all entries stand in sections, and the last line is written
 pub record Ended (start now : Option (List ℕ)) (done : List (Key × Kept)) : Type 0 where
   pub parts : List (List (Key × Kept))
-  pub all : joined parts ≡ done
+  pub all : entries_joined parts ≡ done
   pub fit : AllByRecursion IsPart parts
   pub few : length parts < 2 ^ 64
   pub written : Appends start now (snapshot_text (map_list text_of parts))

@@ -15,10 +15,10 @@ abbrev pub Lacks : ℕ → List ℕ → Type 0
 Lacks byte text = All (λ b. b ≢ byte) text
 
 -- fields with one space between them
-abbrev pub parted : List (List ℕ) → List ℕ
-parted [] = []
-parted (field ∷ []) = field
-parted (field ∷ next ∷ fields) = field ++ space ∷ parted (next ∷ fields)
+abbrev pub spaced_fields : List (List ℕ) → List ℕ
+spaced_fields [] = []
+spaced_fields (field ∷ []) = field
+spaced_fields (field ∷ next ∷ fields) = field ++ space ∷ spaced_fields (next ∷ fields)
 
 -- a part without the byte, the byte, and what stands behind it
 abbrev pub IsSplit : ℕ → List ℕ → List ℕ × List ℕ → Type 0

@@ -18,7 +18,7 @@ use Rattle.timegate.specs.declared.request.Request.{Request}
 use Rattle.timegate.specs.declared.route.Route.{Route}
 use Rattle.timegate.specs.declared.route.Route.TheVariants.{BadMethod, State, Delta, NoRoute, BadOriginal, BadDatetime, TimeGate, TimeMap, Page}
 use Rattle.timegate.specs.Route.{is_get, is_head, is_state, is_whole_delta, is_delta, is_timegate, is_timemap, timemaps, page_part, slash}
-use Rattle.timegate.specs.Route.{original_at, delta_route, datetime_route, timegate_route, original_route, numbered, listing_route}
+use Rattle.timegate.specs.Route.{original_at, delta_route, datetime_route, timegate_route, original_route, number_and_rest, listing_route}
 use Rattle.timegate.specs.Route.{map_route, route_of, AsksPage}
 use Rattle.timegate.proofs.Promises.{asking, at_target, first_of, page_at, page_read}
 use Rattle.timegate.proofs.Deltas.{allowed_method}
@@ -26,12 +26,12 @@ use Rattle.timegate.proofs.Deltas.{allowed_method}
 -- ---- who asks for a page gets it
 
 head_page_at : (asked : List (List ℕ)) (bytes : List ℕ)
-    → route_of (asking (codes "HEAD") (codes "/timemap/link/page/" ++ bytes) asked) ≡ listing_route (numbered (parts_at slash bytes)) (page_part ++ bytes)
+    → route_of (asking (codes "HEAD") (codes "/timemap/link/page/" ++ bytes) asked) ≡ listing_route (number_and_rest (parts_at slash bytes)) (page_part ++ bytes)
 unfolding route_of
 head_page_at asked bytes = refl
 
 page_asked_at : (method bytes : List ℕ) (asked : List (List ℕ)) → (method ≡ codes "GET") ⊎ (method ≡ codes "HEAD")
-    → route_of (asking method (codes "/timemap/link/page/" ++ bytes) asked) ≡ listing_route (numbered (parts_at slash bytes)) (page_part ++ bytes)
+    → route_of (asking method (codes "/timemap/link/page/" ++ bytes) asked) ≡ listing_route (number_and_rest (parts_at slash bytes)) (page_part ++ bytes)
 page_asked_at method bytes asked (inl get) = ap (λ (m : List ℕ). route_of (asking m (codes "/timemap/link/page/" ++ bytes) asked)) get ∙ page_at asked bytes
 page_asked_at method bytes asked (inr head) = ap (λ (m : List ℕ). route_of (asking m (codes "/timemap/link/page/" ++ bytes) asked)) head ∙ head_page_at asked bytes
 
@@ -116,7 +116,7 @@ read_named bytes rest front back (Some k) number original begins split reads is 
     }
 
 split_named : (bytes rest : List ℕ) (parts : Option (List ℕ × List ℕ)) (number : ℕ) (original : List ℕ) → bytes ≡ page_part ++ rest → parts_at slash rest ≡ parts
-    → page_asked (listing_route (numbered parts) bytes) ≡ Some (number, original) → Named bytes number original
+    → page_asked (listing_route (number_and_rest parts) bytes) ≡ Some (number, original) → Named bytes number original
 split_named bytes rest None number original begins at is = absurd (whole_asks_none (original_at bytes) (number, original) is)
 split_named bytes rest (Some p) number original begins at is = read_named bytes rest p.0 p.1 (number_of p.0) number original begins ((parts_are slash rest p).0 at).1 refl is
 

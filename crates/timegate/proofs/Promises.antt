@@ -29,7 +29,7 @@ use Rattle.timegate.specs.declared.request.Request.{Request}
 use Rattle.timegate.specs.declared.route.Route.{Route}
 use Rattle.timegate.specs.declared.route.Route.TheVariants.{BadMethod, State, Delta, NoRoute, BadOriginal, BadDatetime, TimeGate, TimeMap, Page}
 use Rattle.timegate.specs.Route.{is_get, is_head, is_state, is_timegate, is_timemap, is_whole_delta, is_delta, deltas, timegates, timemaps, slash}
-use Rattle.timegate.specs.Route.{page_part, IsAsked, original_at, original_in, datetime_route, delta_route, timegate_route, original_route, numbered}
+use Rattle.timegate.specs.Route.{page_part, IsAsked, original_at, original_in, datetime_route, delta_route, timegate_route, original_route, number_and_rest}
 use Rattle.timegate.specs.Route.{page_in, listing_route, map_route, route_of}
 use Rattle.timegate.specs.Reply.{Headers, reply_at, reply_of, redirect, choice_at}
 use Rattle.timegate.specs.Served.{IsServed}
@@ -239,7 +239,7 @@ unfolding route_of
 map_at asked bytes = refl
 
 pub page_at : (asked : List (List ℕ)) (bytes : List ℕ)
-    → route_of (record { method = codes "GET"; target = codes "/timemap/link/page/" ++ bytes; asked = asked }) ≡ listing_route (numbered (parts_at slash bytes)) (page_part ++ bytes)
+    → route_of (record { method = codes "GET"; target = codes "/timemap/link/page/" ++ bytes; asked = asked }) ≡ listing_route (number_and_rest (parts_at slash bytes)) (page_part ++ bytes)
 unfolding route_of
 page_at asked bytes = refl
 
@@ -276,11 +276,11 @@ map_served base original q is method address =
     ∙ ap (λ (page : Option (ℕ × List ℕ)). listing_route page original) (no_page original is.followed.web) ∙ ap (original_route TimeMap) is.itself
 
 -- the number of a page is read as it is written
-pub page_read : (number : ℕ) (original : List ℕ) → number < 2 ^ 64 → numbered (parts_at slash (decimal number ++ slash ∷ original)) ≡ Some (number, original)
+pub page_read : (number : ℕ) (original : List ℕ) → number < 2 ^ 64 → number_and_rest (parts_at slash (decimal number ++ slash ∷ original)) ≡ Some (number, original)
 page_read number original small =
     let parts = (parts_are slash (decimal number ++ slash ∷ original) (decimal number, original)).1 (decimal_lacks slash (omega arith) number small, refl) in
     let digits : number_of (decimal number) ≡ Some number = (number_is (decimal number) number).1 (small, refl) in
-    ap numbered parts ∙ ap (λ (n : Option ℕ). option_map (λ (k : ℕ). (k, original)) n) digits
+    ap number_and_rest parts ∙ ap (λ (n : Option ℕ). option_map (λ (k : ℕ). (k, original)) n) digits
 
 page_served : (base original : List ℕ) (q : Request) (number : ℕ) → original_at original ≡ Some original → number < 2 ^ 64 → q.method ≡ codes "GET"
     → base ++ q.target ≡ page_address base original number → route_of q ≡ Page number original

@@ -29,7 +29,7 @@ use Rattle.replica_exchange.specs.Stamps.{StampedState}
 use Rattle.replica_exchange.specs.CursorRule.{delta_from}
 use Rattle.replica_exchange.specs.DeltaText.{delta_text}
 use Rattle.timegate.specs.Route.{IsOfTaken, is_head, route_of}
-use Rattle.timegate.specs.Reply.{reply_at, reply, reply_of, unnumbered, redirect, timemap, page, choice_at, vary}
+use Rattle.timegate.specs.Reply.{reply_at, reply, reply_of, without_numbers, redirect, timemap, page, choice_at, vary}
 use Rattle.timegate.specs.Redirect.{Redirects, IsGateReply}
 
 -- what is shown of each original follows from the state
@@ -50,7 +50,7 @@ shown_from_state base known s q (Page number original) is =
 
 -- only a delta tells of merges
 untold : (base : List ℕ) (shows : List ℕ → Mementos) (s : StampedState) (q : Request) (route : Route) → ((cursor : Option Cursor) → ¬ (route ≡ Delta cursor))
-    → reply_at base shows s q route ≡ reply_at base shows (unnumbered s.entries) q route
+    → reply_at base shows s q route ≡ reply_at base shows (without_numbers s.entries) q route
 untold base shows s q BadMethod taken = refl
 untold base shows s q State taken = refl
 untold base shows s q (Delta cursor) taken = absurd (taken cursor refl)
@@ -62,35 +62,35 @@ untold base shows s q (TimeMap original) taken = refl
 untold base shows s q (Page number original) taken = refl
 
 -- a reply is that of the state
-pub reply_of_state : (base : List ℕ) (known : List Harvested) (q : Request) → reply base known q ≡ reply_of base (unnumbered (lat known)) q
+pub reply_of_state : (base : List ℕ) (known : List Harvested) (q : Request) → reply base known q ≡ reply_of base (without_numbers (lat known)) q
 unfolding reply reply_of
-reply_of_state base known q = shown_from_state base known (unnumbered (lat known)) q (route_of q) refl
+reply_of_state base known q = shown_from_state base known (without_numbers (lat known)) q (route_of q) refl
 
-reply_untold : (base : List ℕ) (s : StampedState) (q : Request) → IsOfTaken q → reply_of base s q ≡ reply_of base (unnumbered s.entries) q
+reply_untold : (base : List ℕ) (s : StampedState) (q : Request) → IsOfTaken q → reply_of base s q ≡ reply_of base (without_numbers s.entries) q
 unfolding reply_of
 reply_untold base s q taken = untold base (shown_of s.entries) s q (route_of q) taken
 
 -- and of whatever has this state
 pub reply_from_state : (base : List ℕ) (known : List Harvested) (s : StampedState) (q : Request) → s.entries ≡ lat known → IsOfTaken q → reply_of base s q ≡ reply base known q
 reply_from_state base known s q is taken =
-    reply_untold base s q taken ∙ (ap (λ (entries : Entries). reply_of base (unnumbered entries) q) is ∙ sym (reply_of_state base known q))
+    reply_untold base s q taken ∙ (ap (λ (entries : Entries). reply_of base (without_numbers entries) q) is ∙ sym (reply_of_state base known q))
 
 -- a TimeMap is asked for
 pub timemap_reply : (base : List ℕ) (known : List Harvested) (q : Request) (original : List ℕ) → route_of q ≡ TimeMap original
     → reply base known q ≡ timemap base q original (set.items (shown known original))
 unfolding reply
-timemap_reply base known q original is = ap (λ (route : Route). reply_at base (shown known) (unnumbered (lat known)) q route) is
+timemap_reply base known q original is = ap (λ (route : Route). reply_at base (shown known) (without_numbers (lat known)) q route) is
 
 -- a page of one is
 pub page_reply : (base : List ℕ) (known : List Harvested) (q : Request) (number : ℕ) (original : List ℕ) → route_of q ≡ Page number original
     → reply base known q ≡ page base q number original (set.items (shown known original))
 unfolding reply
-page_reply base known q number original is = ap (λ (route : Route). reply_at base (shown known) (unnumbered (lat known)) q route) is
+page_reply base known q number original is = ap (λ (route : Route). reply_at base (shown known) (without_numbers (lat known)) q route) is
 
 -- equal states give equal replies
 pub same_reply : (base : List ℕ) (known others : List Harvested) (q : Request) → lat known ≡ lat others → reply base known q ≡ reply base others q
 same_reply base known others q same =
-    reply_of_state base known q ∙ (ap (λ (entries : Entries). reply_of base (unnumbered entries) q) same ∙ sym (reply_of_state base others q))
+    reply_of_state base known q ∙ (ap (λ (entries : Entries). reply_of base (without_numbers entries) q) same ∙ sym (reply_of_state base others q))
 
 pub same_harvests : (base : List ℕ) (known others : List Harvested) → ((h : Harvested) → Contains known h ↔ Contains others h) → (q : Request) → reply base known q ≡ reply base others q
 same_harvests base known others same q = same_reply base known others q (lat_same known others (λ h. (same h).0) (λ h. (same h).1))
@@ -177,7 +177,7 @@ pub gate_reply : (base : List ℕ) (known : List Harvested) (q : Request) (origi
     → IsGateReply known original asked (reply base known q)
 unfolding reply
 gate_reply base known q original asked is =
-    subst (λ (route : Route). IsGateReply known original asked (reply_at base (shown known) (unnumbered (lat known)) q route)) (sym is) (gate_at base known q original asked _ refl)
+    subst (λ (route : Route). IsGateReply known original asked (reply_at base (shown known) (without_numbers (lat known)) q route)) (sym is) (gate_at base known q original asked _ refl)
 
 -- one of two replies, neither of them a redirect
 not_found : (b : Bool) (x y : Reply) → x.status ≡ 404 → y.status ≡ 200 → (if b then x else y).status ≡ 302 → ⊥
@@ -192,9 +192,9 @@ none_found false other x y z is lost found status = not_found other y z lost fou
 -- that the reply to what is asked for redirects well
 abbrev RedirectsAt : List ℕ → List Harvested → Request → Route → Type 0
 RedirectsAt base known q route =
-    (original : List ℕ) × (asked : Option ℕ) × (route ≡ TimeGate original asked) × Redirects known original asked (reply_at base (shown known) (unnumbered (lat known)) q route)
+    (original : List ℕ) × (asked : Option ℕ) × (route ≡ TimeGate original asked) × Redirects known original asked (reply_at base (shown known) (without_numbers (lat known)) q route)
 
-at_route : (base : List ℕ) (known : List Harvested) (q : Request) (route : Route) → (reply_at base (shown known) (unnumbered (lat known)) q route).status ≡ 302 → RedirectsAt base known q route
+at_route : (base : List ℕ) (known : List Harvested) (q : Request) (route : Route) → (reply_at base (shown known) (without_numbers (lat known)) q route).status ≡ 302 → RedirectsAt base known q route
 at_route base known q BadMethod status = absurd (omega arith)
 at_route base known q State status = absurd (omega arith)
 at_route base known q (Delta cursor) status = absurd (omega arith)

@@ -102,12 +102,12 @@ unfoldable pub reply_of : List ℕ → StampedState → Request → Reply
 reply_of base s q = reply_at base (shown_of s.entries) s q (route_of q)
 
 -- a state of which no merge is told
-abbrev pub unnumbered : Entries → StampedState
-unnumbered x = record { entries = x; stamps = map.empty; number = 0; incarnation = 0 }
+abbrev pub without_numbers : Entries → StampedState
+without_numbers x = record { entries = x; stamps = map.empty; number = 0; incarnation = 0 }
 
 -- the reply of one that has taken these harvests, as far as it follows from them alone
 unfoldable pub reply : List ℕ → List Harvested → Request → Reply
-reply base known q = reply_at base (shown known) (unnumbered (lat known)) q (route_of q)
+reply base known q = reply_at base (shown known) (without_numbers (lat known)) q (route_of q)
 
 -- what stands at the address of an original's TimeMap: the TimeMap, or the index of its pages
 abbrev pub timemap_of : List ℕ → List Harvested → List ℕ → List ℕ

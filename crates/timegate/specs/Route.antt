@@ -124,15 +124,15 @@ abbrev pub page_part : List ℕ
 page_part = codes "page/"
 
 -- the number before a slash, if it is a decimal of 64 bits, and what stands behind it
-abbrev pub numbered : Option (List ℕ × List ℕ) → Option (ℕ × List ℕ)
-numbered None = None
-numbered (Some parts) = option_map (λ number. (number, parts.1)) (number_of parts.0)
+abbrev pub number_and_rest : Option (List ℕ × List ℕ) → Option (ℕ × List ℕ)
+number_and_rest None = None
+number_and_rest (Some parts) = option_map (λ number. (number, parts.1)) (number_of parts.0)
 
 -- the number of a page and what stands behind it, if bytes begin with these
 abbrev pub page_in : List ℕ → Option (ℕ × List ℕ)
 page_in bytes =
     if starts_with nat_eq bytes page_part
-    then numbered (parts_at slash (drop (length page_part) bytes))
+    then number_and_rest (parts_at slash (drop (length page_part) bytes))
     else None
 
 -- a page of a TimeMap, if bytes begin with its number, and else the TimeMap of the original that they name

@@ -1,7 +1,7 @@
 //! TimeMaps, and the `Link` header of a redirect.
 ghost use Rattle.std.specs.Prelude.{◌≡◌, ◌≤◌, ◌==◌, ◌&&◌, not, ◌++◌, length, IfOk, OnOk, codes};
 ghost use Rattle.link_format.specs.Grammar.{IsTarget};
-ghost use Rattle.link_format.specs.Writing.{followed, joined, link_text};
+ghost use Rattle.link_format.specs.Writing.{links_each_behind, links_joined_by, link_text};
 ghost use Rattle.timemap_writer.specs.TimeMap.{lines_text, timemap_link, timemap_text, gate_links};
 ghost use Rattle.timemap_writer.specs.Pages.{pages, IsPage, stretch, page_address, page_path, page_text, index_text};
 ghost use Rattle.timemap_writer.specs.Pages.{stretch_links};
@@ -162,7 +162,7 @@ fn push_head(
 ) -> Result<(), NoMemory>
     requires { IsTarget place.now.path.now }
     ensures { OnOk result (out.new.items
-        ≡ out.old.items ++ joined (codes ",\n") (head_at place.now mementos.now)) }
+        ≡ out.old.items ++ links_joined_by (codes ",\n") (head_at place.now mementos.now)) }
 {
     push_original(out, place.original)?;
     out.extend_from_slice(b",\n")?;
@@ -210,7 +210,7 @@ fn push_mementos(
     mementos: &[Memento],
 ) -> Result<(), NoMemory>
     ensures { OnOk result (out.new.items
-        ≡ out.old.items ++ followed (codes ",\n") (stretch_links first more mementos.now)) }
+        ≡ out.old.items ++ links_each_behind (codes ",\n") (stretch_links first more mementos.now)) }
 {
     let mut first = first;
     let mut left = mementos;

@@ -6,7 +6,7 @@ use Rattle.std.proofs.lemmas.Bool.{and_parts, or_parts, true≢false, false_from
 use Rattle.std.proofs.lemmas.Slice.Eq.{bytes_eq-Decides}
 use Rattle.std.proofs.lemmas.List.Folds.{list_any-append}
 use Rattle.wish_list.specs.declared.queue.Wish.{Wish}
-use Rattle.wish_list.specs.Queue.{are_distinct, granted, is_of, isnt_of, stands}
+use Rattle.wish_list.specs.Queue.{are_distinct, with_grant, is_of, isnt_of, stands}
 
 -- two texts that differ do so in either order
 apart : (x y : List ℕ) → bytes_eq y x ≡ false → bytes_eq x y ≡ false
@@ -32,7 +32,7 @@ some_is : (x w : Wish) → Some x ≡ Some w → x ≡ w
 some_is x w is = cc
 
 -- whether a wish is granted doesn't matter
-stands_same : (ws : List Wish) (k : ℕ) (w : Wish) (b : Bool) (o : List ℕ) → slice_get ws k ≡ Some w → stands (slice_set ws k (granted b w)) o ≡ stands ws o
+stands_same : (ws : List Wish) (k : ℕ) (w : Wish) (b : Bool) (o : List ℕ) → slice_get ws k ≡ Some w → stands (slice_set ws k (with_grant b w)) o ≡ stands ws o
 stands_same [] k w b o is = refl
 stands_same (x ∷ xs) zero w b o is = ap (λ (y : Wish). bytes_eq o y.original || stands xs o) (sym (some_is x w is))
 stands_same (x ∷ xs) (suc k) w b o is = ap (λ (r : Bool). bytes_eq o x.original || r) (stands_same xs k w b o is)
@@ -40,11 +40,11 @@ stands_same (x ∷ xs) (suc k) w b o is = ap (λ (r : Bool). bytes_eq o x.origin
 are_same : (a b c d : Bool) → a ≡ c → b ≡ d → (not a && b) ≡ (not c && d)
 are_same a b c d e f = ap (λ (r : Bool). not r && b) e ∙ ap (λ (r : Bool). not c && r) f
 
-pub distinct_same : (ws : List Wish) (k : ℕ) (w : Wish) (b : Bool) → slice_get ws k ≡ Some w → are_distinct (slice_set ws k (granted b w)) ≡ are_distinct ws
+pub distinct_same : (ws : List Wish) (k : ℕ) (w : Wish) (b : Bool) → slice_get ws k ≡ Some w → are_distinct (slice_set ws k (with_grant b w)) ≡ are_distinct ws
 distinct_same [] k w b is = refl
 distinct_same (x ∷ xs) zero w b is = ap (λ (y : Wish). not (stands xs y.original) && are_distinct xs) (sym (some_is x w is))
 distinct_same (x ∷ xs) (suc k) w b is =
-    are_same (stands (slice_set xs k (granted b w)) x.original) (are_distinct (slice_set xs k (granted b w))) (stands xs x.original) (are_distinct xs)
+    are_same (stands (slice_set xs k (with_grant b w)) x.original) (are_distinct (slice_set xs k (with_grant b w))) (stands xs x.original) (are_distinct xs)
     (stands_same xs k w b x.original is) (distinct_same xs k w b is)
 
 either_false : (a b : Bool) → a ≡ false → b ≡ false → (a || b) ≡ false

@@ -7,7 +7,7 @@ use Rattle.wish_list.specs.declared.stages.Stage.{Stage}
 use Rattle.wish_list.specs.declared.stages.Stage.TheVariants.{Waits, Out, Has, HasNone, Failed, Skipped, Spared}
 use Rattle.wish_list.specs.declared.stages.Answer.{Answer}
 use Rattle.wish_list.specs.declared.stages.Answer.TheVariants.{Copies, NoCopies, NoHarvest}
-use Rattle.wish_list.specs.Stages.{Act, AreAskedOnce, IsRun, asks, begun, can, changed, holds, is_out, stage_of, times_asked, waits, was_asked}
+use Rattle.wish_list.specs.Stages.{Act, AreAskedOnce, IsRun, asks, stage_at_first, can, stages_after, holds, is_out, stage_of, times_asked, waits, was_asked}
 use Rattle.wish_list.specs.Stages.Act.{Asks, Comes, Skips}
 
 one : Bool → ℕ
@@ -78,7 +78,7 @@ asks_other : (a b : ℕ) → (a ≡ b → ⊥) → asks a (Asks b) ≡ 0
 asks_other a b ne = ap (λ (t : Bool). if t then 1 else 0) (eqb_false a b ne)
 
 -- one call counts what it asks
-step : (act : Act) (stages : List Stage) (archive : ℕ) → can act stages ≡ true → asks archive act + asked_at stages archive ≡ asked_at (changed act stages) archive
+step : (act : Act) (stages : List Stage) (archive : ℕ) → can act stages ≡ true → asks archive act + asked_at stages archive ≡ asked_at (stages_after act stages) archive
 step (Asks other) stages archive h = elim (cases_eq archive other) [
   | inl e ↦
       let before : asked_at stages other ≡ 0 = was stages other waits 0 waits_uncounted h in
@@ -120,11 +120,11 @@ step (Skips other) stages archive h = elim (cases_eq archive other) [
 run : (start : List Stage) (acts : List Act) (end : List Stage) (archive : ℕ) → IsRun start acts end → times_asked archive acts + asked_at start archive ≡ asked_at end archive
 run start [] end archive is = let same : asked_at start archive ≡ asked_at end archive = ap (λ (stages : List Stage). asked_at stages archive) is in omega (arith, same)
 run start (act ∷ acts) end archive is =
-    let first : asks archive act + asked_at start archive ≡ asked_at (changed act start) archive = step act start archive is.0 in
-    let rest : times_asked archive acts + asked_at (changed act start) archive ≡ asked_at end archive = run (changed act start) acts end archive is.1 in
+    let first : asks archive act + asked_at start archive ≡ asked_at (stages_after act start) archive = step act start archive is.0 in
+    let rest : times_asked archive acts + asked_at (stages_after act start) archive ≡ asked_at end archive = run (stages_after act start) acts end archive is.1 in
     omega (arith, first, rest)
 
-none_at_first : (spared : List Bool) (archive : ℕ) → asked_at (map begun spared) archive ≡ 0
+none_at_first : (spared : List Bool) (archive : ℕ) → asked_at (map stage_at_first spared) archive ≡ 0
 none_at_first [] archive = refl
 none_at_first (true ∷ spared) zero = refl
 none_at_first (false ∷ spared) zero = refl
@@ -132,6 +132,6 @@ none_at_first (b ∷ spared) (suc archive) = none_at_first spared archive
 
 pub once : AreAskedOnce
 once spared acts end archive is =
-    let all : times_asked archive acts + asked_at (map begun spared) archive ≡ asked_at end archive = run (map begun spared) acts end archive is in
-    let none : asked_at (map begun spared) archive ≡ 0 = none_at_first spared archive in
+    let all : times_asked archive acts + asked_at (map stage_at_first spared) archive ≡ asked_at end archive = run (map stage_at_first spared) acts end archive is in
+    let none : asked_at (map stage_at_first spared) archive ≡ 0 = none_at_first spared archive in
     omega (arith, all, none)

@@ -44,8 +44,8 @@ pub record AreWishes (wishes : List Wish) : Type 0 where
   pub distinct : are_distinct wishes ≡ true
   pub few : length wishes ≤ most_wishes
 
-abbrev pub granted : Bool → Wish → Wish
-granted is wish = record wish { is_granted = is }
+abbrev pub with_grant : Bool → Wish → Wish
+with_grant is wish = record wish { is_granted = is }
 
 -- the oldest that waits is granted, and it is for this original
 pub record Grants (old : List Wish) (original : List ℕ) (new : List Wish) : Type 0 where
@@ -54,9 +54,9 @@ pub record Grants (old : List Wish) (original : List ℕ) (new : List Wish) : Ty
   pub oldest : position is_waiting old ≡ Some place
   pub there : slice_get old place ≡ Some wish
   pub original_is : wish.original ≡ original
-  pub after : new ≡ slice_set old place (granted true wish)
+  pub after : new ≡ slice_set old place (with_grant true wish)
 
 -- the wish for this original, if there is one, waits
 abbrev pub PutsBack : List Wish → List ℕ → List Wish → Type 0
 PutsBack old original new = MatchOption (position (is_of original) old) (new ≡ old)
-    (λ place. (wish : Wish) × (slice_get old place ≡ Some wish) × (new ≡ slice_set old place (granted false wish)))
+    (λ place. (wish : Wish) × (slice_get old place ≡ Some wish) × (new ≡ slice_set old place (with_grant false wish)))

@@ -8,9 +8,9 @@ use Rattle.wish_list.specs.declared.stages.Answer.TheVariants.{Copies, NoCopies,
 use Rattle.wish_list.specs.declared.stages.Outcome.{Outcome}
 
 -- when a wish is granted, each archive is to be asked, or is spared
-abbrev pub begun : Bool → Stage
-begun true = Spared
-begun false = Waits
+abbrev pub stage_at_first : Bool → Stage
+stage_at_first true = Spared
+stage_at_first false = Waits
 
 -- it is to be asked
 unfoldable pub waits : Stage → Bool
@@ -96,14 +96,14 @@ can (Comes archive answer) stages = holds is_out (slice_get stages archive)
 can (Skips archive) stages = holds waits (slice_get stages archive)
 
 -- what it changes
-abbrev pub changed : Act → List Stage → List Stage
-changed (Asks archive) stages = slice_set stages archive Out
-changed (Comes archive answer) stages = slice_set stages archive (stage_of answer)
-changed (Skips archive) stages = slice_set stages archive Skipped
+abbrev pub stages_after : Act → List Stage → List Stage
+stages_after (Asks archive) stages = slice_set stages archive Out
+stages_after (Comes archive answer) stages = slice_set stages archive (stage_of answer)
+stages_after (Skips archive) stages = slice_set stages archive Skipped
 
 -- the archives then: if it can't happen, nothing changes
 abbrev pub after : Act → List Stage → List Stage
-after act stages = if can act stages then changed act stages else stages
+after act stages = if can act stages then stages_after act stages else stages
 
 -- the first archive that is to be asked and may be
 abbrev pub ready : List Bool → List Stage → Option ℕ
@@ -124,7 +124,7 @@ outcome_of stages = record {
 -- all that happens to the archives of a wish, from the time when it is granted
 abbrev pub IsRun : List Stage → List Act → List Stage → Type 0
 IsRun start [] end = start ≡ end
-IsRun start (act ∷ acts) end = (can act start ≡ true) × IsRun (changed act start) acts end
+IsRun start (act ∷ acts) end = (can act start ≡ true) × IsRun (stages_after act start) acts end
 
 -- how often an archive is asked by this
 abbrev pub asks : ℕ → Act → ℕ
@@ -141,5 +141,5 @@ times_asked archive (act ∷ acts) = asks archive act + times_asked archive acts
 -- and none twice.
 abbrev pub AreAskedOnce : Type 0
 AreAskedOnce = (spared : List Bool) (acts : List Act) (end : List Stage) (archive : ℕ)
-    → IsRun (map begun spared) acts end
+    → IsRun (map stage_at_first spared) acts end
     → times_asked archive acts ≡ (if holds was_asked (slice_get end archive) then 1 else 0)

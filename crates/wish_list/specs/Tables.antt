@@ -13,10 +13,10 @@ abbrev pub second_of : Seconds → List ℕ → Option ℕ
 second_of table original = lookup (bytes_eq original) table.entries
 
 -- once an original was asked for: it stands first, if it is there
-abbrev pub asked : Seconds → List ℕ → Seconds
-asked table original = lru_cache (promoted (bytes_eq original) table.entries) table.cap
+abbrev pub after_asking : Seconds → List ℕ → Seconds
+after_asking table original = lru_cache (promoted (bytes_eq original) table.entries) table.cap
 
 -- once an original was looked after in a second: it stands first, and if it wasn't there and there was no room, the
 -- last is gone
-abbrev pub noted : Seconds → List ℕ → ℕ → Seconds
-noted table original second = lru_cache (put_entries bytes_eq table original second) table.cap
+abbrev pub after_noting : Seconds → List ℕ → ℕ → Seconds
+after_noting table original second = lru_cache (put_entries bytes_eq table original second) table.cap

@@ -3,7 +3,7 @@ use Rattle.std.specs.Prelude.{ℕ, ◌-◌, ◌+◌, ◌^◌, min, Bool, true, f
 use Rattle.std.specs.Prelude.{Option, Some, None, if◌then◌else◌}
 use Rattle.original_sets.specs.Sets as set
 use Rattle.wish_list.specs.Queue.{is_unshown, most_wishes, stands, stands_from}
-use Rattle.wish_list.specs.Tables.{Seconds, asked, noted, second_of}
+use Rattle.wish_list.specs.Tables.{Seconds, after_asking, after_noting, second_of}
 use Rattle.wish_list.specs.declared.queue.Wish.{Wish}
 use Rattle.wish_list.specs.declared.wishes.Wishes.{Wishes}
 use Rattle.wish_list.specs.declared.wishes.Decision.{Decision}
@@ -93,7 +93,7 @@ turned_away Listed count = count
 
 -- the originals then of which something is shown: one that was asked for stands first
 abbrev pub asked_if : Bool → Seconds → List ℕ → Seconds
-asked_if true table original = asked table original
+asked_if true table original = after_asking table original
 asked_if false table original = table
 
 -- the second to note for an original that was looked after now: so that it is to be looked after again if an archive
@@ -104,5 +104,5 @@ noted_second again false now = now - (again - 600)
 
 -- once an original was looked after in this second, of which something is shown or nothing
 abbrev pub with_note : Wishes → List ℕ → Bool → ℕ → Wishes
-with_note w original true second = record w { shown = noted w.shown original second }
-with_note w original false second = record w { unshown = noted w.unshown original second }
+with_note w original true second = record w { shown = after_noting w.shown original second }
+with_note w original false second = record w { unshown = after_noting w.unshown original second }

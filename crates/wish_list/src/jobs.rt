@@ -1,6 +1,6 @@
 //! The jobs of granted wishes: which archives are to be asked, which are being asked, and what came.
 ghost use Rattle.std.specs.Prelude.{◌≡◌, ◌++◌, ◌∷◌, [], Some, None, IfNone, IfSome, OnOk, OnErr, length, map, option_map, position, slice_get};
-ghost use Rattle.wish_list.specs.Jobs.{Changes, ChangesAt, TakesEnded, begun_for, has_ready, is_for, is_over, skipped};
+ghost use Rattle.wish_list.specs.Jobs.{Changes, ChangesAt, TakesEnded, begun_for, has_ready, is_for, is_over, after_skip};
 ghost use Rattle.wish_list.specs.Stages.{ready};
 ghost use Rattle.wish_list.specs.Stages.Act.{Asks, Comes};
 
@@ -63,7 +63,7 @@ fn place_of(wishes: &[Granted], original: &Original) -> Option<usize>
 
 /// Skips an archive in a wish for which it is to be asked.
 fn skip_in(granted: &mut Granted, archive: usize)
-    ensures { granted.new ≡ skipped archive granted.old }
+    ensures { granted.new ≡ after_skip archive granted.old }
 {
     let _ = granted.stages.skip(archive);
 }
@@ -140,7 +140,7 @@ impl WishJobs {
 
     /// Skips an archive in each wish for which it is to be asked.
     pub fn skip(&mut self, archive: usize)
-        ensures { self.new.wishes.items ≡ map (skipped archive) self.old.wishes.items }
+        ensures { self.new.wishes.items ≡ map (after_skip archive) self.old.wishes.items }
     {
         for granted in self.wishes.iter_mut() {
             skip_in(granted, archive);

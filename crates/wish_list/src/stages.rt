@@ -2,7 +2,7 @@
 ghost use Rattle.std.specs.Prelude.{◌≡◌, IfOk, map, slice_get, slice_set};
 ghost use Rattle.std.specs.List.{list_any};
 ghost use Rattle.wish_list.specs.Stages as spec;
-ghost use Rattle.wish_list.specs.Stages.{after, begun, can, holds, outcome_of, ready, stage_of};
+ghost use Rattle.wish_list.specs.Stages.{after, stage_at_first, can, holds, outcome_of, ready, stage_of};
 ghost use Rattle.wish_list.specs.Stages.Act.{Asks, Comes, Skips};
 
 use memento_time::NoMemory;
@@ -67,7 +67,7 @@ impl Model for Stages {
 
 /// How far an archive is when a wish is granted.
 fn first_stage(is_spared: bool) -> Stage
-    ensures { result ≡ begun is_spared }
+    ensures { result ≡ stage_at_first is_spared }
 {
     if is_spared {
         Stage::Spared
@@ -160,7 +160,7 @@ fn any_was_asked(list: &[Stage]) -> bool
 impl Stages {
     /// A wish is granted: each archive is to be asked, except those that are spared.
     pub(crate) fn new(alloc: Global, spared: &[bool]) -> Result<Stages, NoMemory>
-        ensures { IfOk result (λ stages. stages ≡ map begun spared.now) }
+        ensures { IfOk result (λ stages. stages ≡ map stage_at_first spared.now) }
     {
         let list = spared
             .iter()

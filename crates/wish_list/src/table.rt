@@ -2,7 +2,7 @@
 ghost use Rattle.std.specs.Prelude.{◌≡◌, ◌≤◌, [], length, IfOk, OnOk, OnErr};
 ghost use Rattle.std.specs.NonZero.{non_zero_usize_get};
 ghost use Rattle.lru.specs.LruCache.{lru_cache};
-ghost use Rattle.wish_list.specs.Tables.{asked, noted, second_of};
+ghost use Rattle.wish_list.specs.Tables.{after_asking, after_noting, second_of};
 
 use lru::LruCache;
 use memento_time::NoMemory;
@@ -63,14 +63,14 @@ impl Table {
 
     /// Notes that an original was asked for: it stands first, if it is there.
     pub(crate) fn ask(&mut self, original: &Key)
-        ensures { self.new ≡ asked self.old original.now }
+        ensures { self.new ≡ after_asking self.old original.now }
     {
         let _ = self.seconds.promote(original);
     }
 
     /// Notes that an original was looked after in a second.
     pub(crate) fn note(&mut self, original: Key, second: u64) -> Result<(), NoMemory>
-        ensures ok { OnOk result (self.new ≡ noted self.old original second) }
+        ensures ok { OnOk result (self.new ≡ after_noting self.old original second) }
         ensures err { OnErr result (self.new ≡ self.old) }
     {
         self.seconds.put(original, second)?;

@@ -9,7 +9,7 @@ use Rattle.timegate.specs.declared.request.Request.{Request}
 use Rattle.timegate.specs.declared.route.Route.{Route}
 use Rattle.timegate.specs.declared.route.Route.TheVariants.{BadMethod, State, Delta, NoRoute, BadOriginal, BadDatetime, TimeGate, TimeMap, Page}
 use Rattle.timegate.specs.Route.{cursor_at, datetime_route, delta_route, deltas, is_delta, is_get, is_head, is_state, is_timegate, is_timemap, is_whole_delta, listing_route}
-use Rattle.timegate.specs.Route.{map_route, numbered, original_at, original_route, page_in, page_part, route_of, slash, timegate_route, timegates, timemaps}
+use Rattle.timegate.specs.Route.{map_route, number_and_rest, original_at, original_route, page_in, page_part, route_of, slash, timegate_route, timegates, timemaps}
 use Rattle.text_fields.specs.Parts.{parts_at}
 use Rattle.replica_exchange.specs.declared.cursor.Cursor.{Cursor}
 use Rattle.timegate.proofs.Promises.{asking, at_target, front_is}
@@ -114,7 +114,7 @@ listed (Some original) = refl
 pub at_map : (q : Request) (bytes : List ℕ) → Answered q → q.target ≡ codes "/timemap/link/" ++ bytes → is_page q ≡ false → list_in (route_of q) ≡ original_at bytes
 at_map q bytes method is page =
     let alone : starts_with nat_eq bytes (codes "page/") ≡ false = ap (λ (t : List ℕ). starts_with nat_eq t (codes "/timemap/link/page/")) (sym is) ∙ page in
-    let none : page_in bytes ≡ None = ap (λ (b : Bool). if b then numbered (parts_at slash (drop (length page_part) bytes)) else None) alone in
+    let none : page_in bytes ≡ None = ap (λ (b : Bool). if b then number_and_rest (parts_at slash (drop (length page_part) bytes)) else None) alone in
     ap list_in (map_route_of q bytes method is ∙ ap (λ (p : Option (ℕ × List ℕ)). listing_route p bytes) none) ∙ listed (original_at bytes)
 
 page_asked : (page : Bool) (other : Option (List ℕ)) → page ≡ true → (if page then nothing else other) ≡ nothing

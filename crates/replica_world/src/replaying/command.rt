@@ -1,7 +1,7 @@
 //! The commands of a script: a line, and the block or the lines that follow it.
 ghost use Rattle.std.specs.Prelude.{◌≡◌, ◌++◌, ◌∷◌, [], codes, IfOk};
 ghost use Rattle.std.specs.Option.{option_map};
-ghost use Rattle.replica_world.specs.Script.{get, stepped, command_of, command_at};
+ghost use Rattle.replica_world.specs.Script.{get, step_and_rest, command_of, command_at};
 ghost use Rattle.replica_world.specs.Spelled.{command_view, form_view, take_form_view, ask_form_view};
 ghost use Rattle.replica_world.specs.Form.{Take as TakeLine, Ask as AskLine, Receive as ReceiveLine};
 
@@ -53,7 +53,7 @@ fn get(
 
 /// An event, and the text after its command.
 fn step(event: Event, rest: &[u8]) -> Option<(Command<'_>, &[u8])>
-    ensures { option_map (λ p. (command_view p.0, p.1.now)) result ≡ stepped event rest.now }
+    ensures { option_map (λ p. (command_view p.0, p.1.now)) result ≡ step_and_rest event rest.now }
 {
     Some((Command::Step(event), rest))
 }

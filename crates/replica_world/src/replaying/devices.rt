@@ -1,7 +1,7 @@
 //! Writes everything that is to be written.
 ghost use Rattle.std.specs.Prelude.{◌≡◌, OnOk, OnErr, Err};
 ghost use Rattle.std.specs.Io.KnownBytes.{Appends};
-ghost use Rattle.replica_world.specs.Watching.{grown};
+ghost use Rattle.replica_world.specs.Watching.{count_after};
 ghost use Rattle.replica_world.specs.Devices.{AppendsBeginning};
 
 use crate::replaying::fault::ReplayFault;
@@ -17,7 +17,7 @@ pub(crate) fn write_whole<W: Write>(
     ensures err { OnErr result
         (AppendsBeginning (W.contents writer.old.device) (W.contents writer.new.device) bytes.now) }
     ensures write { OnErr result (result ≡ Err ReplayFault.Write) }
-    ensures failed { OnErr result (writer.new.failures ≡ grown 1 writer.old.failures) }
+    ensures failed { OnErr result (writer.new.failures ≡ count_after 1 writer.old.failures) }
     ensures not_failed { OnOk result (writer.new.failures ≡ writer.old.failures) }
 {
     let mut rest = bytes;

@@ -1,7 +1,7 @@
 //! What one command writes.
 ghost use Rattle.std.specs.Prelude.{◌≡◌, ◌++◌, OnOk, OnErr};
 ghost use Rattle.std.specs.Io.KnownBytes.{Appends};
-ghost use Rattle.replica_world.specs.Watching.{grown};
+ghost use Rattle.replica_world.specs.Watching.{count_after};
 ghost use Rattle.replica_world.specs.Devices.{AppendsBeginning};
 
 use crate::replaying::devices::write_whole;
@@ -48,7 +48,7 @@ impl Output {
         ensures err { OnErr result
             (AppendsBeginning (W.contents writer.old.device) (W.contents writer.new.device) self.now) }
         ensures write { OnErr result (result ≡ Err ReplayFault.Write) }
-        ensures failed { OnErr result (writer.new.failures ≡ grown 1 writer.old.failures) }
+        ensures failed { OnErr result (writer.new.failures ≡ count_after 1 writer.old.failures) }
         ensures not_failed { OnOk result (writer.new.failures ≡ writer.old.failures) }
     {
         write_whole(writer, &self.lines)?;

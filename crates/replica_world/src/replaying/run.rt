@@ -3,11 +3,11 @@ ghost use Rattle.std.specs.Prelude.{◌≡◌, ◌≢◌, ◌⊎◌, ◌++◌, �
 ghost use Rattle.replica_world.specs.Script.{command_at};
 ghost use Rattle.replica_events.specs.World.{World as Replicas};
 ghost use Rattle.replica_world.specs.Stands.{Stands};
-ghost use Rattle.replica_world.specs.Watching.{grown};
+ghost use Rattle.replica_world.specs.Watching.{count_after};
 ghost use Rattle.replica_world.specs.Devices.{BlamesWriter};
 ghost use Rattle.replica_world.specs.Output.{Replays, ReplaysFrom};
 ghost use Rattle.replica_world.specs.Performing.{IsFirstPerformed};
-ghost use Rattle.replica_world.specs.Reading.{Told, IsReadTo, BlamesReader, told, nothing_held};
+ghost use Rattle.replica_world.specs.Reading.{Told, IsReadTo, BlamesReader, told_of, nothing_held};
 
 use crate::replaying::command::command_at;
 use crate::replaying::fault::ReplayFault;
@@ -50,11 +50,11 @@ fn replay_commands<R: Read, W: Write>(
     writer: &mut Watched<W>,
 ) -> Result<(), ReplayFault>
     ensures replays { (begun : Told) (script rest : List ℕ) → begun.bytes ≡ Some script →
-        R.remaining reader.old.device ≡ Some rest → IsReadTo begun window.old (told R.remaining reader.old) →
+        R.remaining reader.old.device ≡ Some rest → IsReadTo begun window.old (told_of R.remaining reader.old) →
         (w : Replicas) → Stands world.old w → ReplaysFrom world.old.base w script (window.old.bytes ++ rest)
         (W.contents writer.old.device) (W.contents writer.new.device) result }
-    ensures reader { (begun : Told) → IsReadTo begun window.old (told R.remaining reader.old) →
-        BlamesReader result begun (told R.remaining reader.new) }
+    ensures reader { (begun : Told) → IsReadTo begun window.old (told_of R.remaining reader.old) →
+        BlamesReader result begun (told_of R.remaining reader.new) }
     ensures writer { BlamesWriter result writer.old.failures writer.new.failures }
 {
     // A body has only one page, so what a failed replay wrote is a prefix of the script's one output.
@@ -85,7 +85,7 @@ fn replay_script<R: Read, W: Write>(
     requires { window.old ≡ nothing_held }
     ensures replays { IfSome (R.remaining reader.old.device) (λ script.
         Replays script (W.contents writer.old.device) (W.contents writer.new.device) result) }
-    ensures reader { BlamesReader result (told R.remaining reader.old) (told R.remaining reader.new) }
+    ensures reader { BlamesReader result (told_of R.remaining reader.old) (told_of R.remaining reader.new) }
     ensures writer { BlamesWriter result writer.old.failures writer.new.failures }
 {
     await_part(Part::Start, window, reader, writer)?;
@@ -152,11 +152,11 @@ pub fn replay<R: Read, W: Write>(
 ) -> Result<(), ReplayFault>
     ensures output { IfSome (R.remaining reader.old.device) (λ script.
         Replays script (W.contents writer.old.device) (W.contents writer.new.device) result) }
-    ensures read { result ≡ Err ReplayFault.Read → (reader.new.failures ≡ grown 1 reader.old.failures)
-        ⊎ (reader.new.pieces ≡ grown 1000000000 reader.old.pieces) }
+    ensures read { result ≡ Err ReplayFault.Read → (reader.new.failures ≡ count_after 1 reader.old.failures)
+        ⊎ (reader.new.pieces ≡ count_after 1000000000 reader.old.pieces) }
     ensures read_of_few { result ≡ Err ReplayFault.Read → IfSome (R.remaining reader.old.device)
-        (λ script. length script < 1000000000 → reader.new.failures ≡ grown 1 reader.old.failures) }
-    ensures write { result ≡ Err ReplayFault.Write → writer.new.failures ≡ grown 1 writer.old.failures }
+        (λ script. length script < 1000000000 → reader.new.failures ≡ count_after 1 reader.old.failures) }
+    ensures write { result ≡ Err ReplayFault.Write → writer.new.failures ≡ count_after 1 writer.old.failures }
     ensures no_read_failed { result ≢ Err ReplayFault.Read → reader.new.failures ≡ reader.old.failures }
     ensures no_write_failed { result ≢ Err ReplayFault.Write → writer.new.failures ≡ writer.old.failures }
 {

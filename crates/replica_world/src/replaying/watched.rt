@@ -2,7 +2,7 @@
 ghost use Rattle.std.specs.Prelude.{◌≡◌, OnOk, OnErr};
 ghost use Rattle.std.specs.Io.{ReadsAtMost, WritesAtMost};
 ghost use Rattle.std.specs.Io.KnownBytes.{ReadConsumes, WriteAppends, Keeps};
-ghost use Rattle.replica_world.specs.Watching.{grown, IsPiece, IsFailedWrite};
+ghost use Rattle.replica_world.specs.Watching.{count_after, IsPiece, IsFailedWrite};
 
 use std::io::{self, Read, Write};
 use std::marker::Model;
@@ -63,9 +63,9 @@ impl<R: Read> Watched<R> {
     pub fn read(&mut self, buffer: &mut [u8]) -> io::Result<usize>
         ensures bound { ReadsAtMost result buffer.new }
         ensures bytes { ReadConsumes (R.remaining self.old.device) (R.remaining self.new.device) result buffer.new }
-        ensures failed { OnErr result (self.new.failures ≡ grown 1 self.old.failures) }
+        ensures failed { OnErr result (self.new.failures ≡ count_after 1 self.old.failures) }
         ensures not_failed { OnOk result (self.new.failures ≡ self.old.failures) }
-        ensures piece { IsPiece result → self.new.pieces ≡ grown 1 self.old.pieces }
+        ensures piece { IsPiece result → self.new.pieces ≡ count_after 1 self.old.pieces }
         ensures no_piece { ¬ (IsPiece result) → self.new.pieces ≡ self.old.pieces }
     {
         let result = self.device.read(buffer);
@@ -83,7 +83,7 @@ impl<W: Write> Watched<W> {
     pub fn write(&mut self, bytes: &[u8]) -> io::Result<usize>
         ensures bound { WritesAtMost result bytes.now }
         ensures bytes { WriteAppends (W.contents self.old.device) (W.contents self.new.device) result bytes.now }
-        ensures failed { IsFailedWrite result bytes.now → self.new.failures ≡ grown 1 self.old.failures }
+        ensures failed { IsFailedWrite result bytes.now → self.new.failures ≡ count_after 1 self.old.failures }
         ensures not_failed { ¬ (IsFailedWrite result bytes.now) → self.new.failures ≡ self.old.failures }
         ensures no_piece { self.new.pieces ≡ self.old.pieces }
     {
@@ -97,7 +97,7 @@ impl<W: Write> Watched<W> {
     /// Flushes once, and counts whether that failed.
     pub fn flush(&mut self) -> io::Result<()>
         ensures bytes { Keeps (W.contents self.old.device) (W.contents self.new.device) }
-        ensures failed { OnErr result (self.new.failures ≡ grown 1 self.old.failures) }
+        ensures failed { OnErr result (self.new.failures ≡ count_after 1 self.old.failures) }
         ensures not_failed { OnOk result (self.new.failures ≡ self.old.failures) }
         ensures no_piece { self.new.pieces ≡ self.old.pieces }
     {

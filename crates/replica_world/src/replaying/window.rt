@@ -3,7 +3,7 @@ ghost use Rattle.std.specs.Prelude.{◌≡◌, ◌+◌, ◌<◌, ◌≤◌, ◌+
 ghost use Rattle.std.specs.Io.KnownBytes.{Keeps};
 ghost use Rattle.replica_world.specs.Devices.{BlamesWriter, IsBreak, StopsReading};
 ghost use Rattle.replica_world.specs.Fields.{after_empty_lines};
-ghost use Rattle.replica_world.specs.Reading.{Drops, Told, IsReadTo, BlamesReader, Fills, ReadsOn, IsWhole, told, ends_of_lines};
+ghost use Rattle.replica_world.specs.Reading.{Drops, Told, IsReadTo, BlamesReader, Fills, ReadsOn, IsWhole, told_of, ends_of_lines};
 ghost use Rattle.replica_world.specs.Reading.{nothing_held};
 
 use crate::replaying::fault::ReplayFault;
@@ -193,9 +193,9 @@ impl Window {
     ) -> Result<(), ReplayFault>
         requires more { self.old.ended ≡ false }
         requires long { length piece.old ≡ 65536 }
-        ensures ok { OnOk result (Fills self.old (told R.remaining reader.old) self.new (told R.remaining reader.new)) }
-        ensures blame { (begun : Told) → IsReadTo begun self.old (told R.remaining reader.old) →
-            BlamesReader result begun (told R.remaining reader.new) }
+        ensures ok { OnOk result (Fills self.old (told_of R.remaining reader.old) self.new (told_of R.remaining reader.new)) }
+        ensures blame { (begun : Told) → IsReadTo begun self.old (told_of R.remaining reader.old) →
+            BlamesReader result begun (told_of R.remaining reader.new) }
         ensures fault { IfErr result StopsReading }
     {
         if self.pieces() == MOST_PIECES {
@@ -224,11 +224,11 @@ fn read_part<R: Read, W: Write>(
 ) -> Result<(), ReplayFault>
     requires { after_empty_lines window.old.bytes ≡ window.old.bytes }
     ensures on { OnOk result
-        (ReadsOn window.old (told R.remaining reader.old) window.new (told R.remaining reader.new)) }
+        (ReadsOn window.old (told_of R.remaining reader.old) window.new (told_of R.remaining reader.new)) }
     ensures whole { OnOk result (IsWhole part window.new) }
     ensures front { OnOk result (after_empty_lines window.new.bytes ≡ window.new.bytes) }
-    ensures reader { (begun : Told) → IsReadTo begun window.old (told R.remaining reader.old) →
-        BlamesReader result begun (told R.remaining reader.new) }
+    ensures reader { (begun : Told) → IsReadTo begun window.old (told_of R.remaining reader.old) →
+        BlamesReader result begun (told_of R.remaining reader.new) }
     ensures fault { IfErr result IsBreak }
     ensures kept { Keeps (W.contents writer.old.device) (W.contents writer.new.device) }
     ensures writer { BlamesWriter result writer.old.failures writer.new.failures }
@@ -252,11 +252,11 @@ pub(crate) fn await_part<R: Read, W: Write>(
     writer: &mut Watched<W>,
 ) -> Result<(), ReplayFault>
     ensures on { OnOk result
-        (ReadsOn window.old (told R.remaining reader.old) window.new (told R.remaining reader.new)) }
+        (ReadsOn window.old (told_of R.remaining reader.old) window.new (told_of R.remaining reader.new)) }
     ensures whole { OnOk result (IsWhole part window.new) }
     ensures front { OnOk result (after_empty_lines window.new.bytes ≡ window.new.bytes) }
-    ensures reader { (begun : Told) → IsReadTo begun window.old (told R.remaining reader.old) →
-        BlamesReader result begun (told R.remaining reader.new) }
+    ensures reader { (begun : Told) → IsReadTo begun window.old (told_of R.remaining reader.old) →
+        BlamesReader result begun (told_of R.remaining reader.new) }
     ensures fault { IfErr result IsBreak }
     ensures kept { Keeps (W.contents writer.old.device) (W.contents writer.new.device) }
     ensures writer { BlamesWriter result writer.old.failures writer.new.failures }

@@ -2,7 +2,7 @@ use Rattle.std.proofs.Common.{◌≡◌, ◌++◌, ◌∷◌, [], ℕ, Bool, tru
 use Rattle.std.specs.Prelude.{filter, if◌then◌else◌}
 use Rattle.std.proofs.lemmas.Grind.{common_steps}
 use Rattle.std.proofs.lemmas.List.Elements.{filter-append}
-use Rattle.original_list.specs.Spellings.{is_itself, may_swap, swapped, text_of}
+use Rattle.original_list.specs.Spellings.{is_itself, may_swap, swapped_spellings, text_of}
 use Rattle.original_list.proofs.spellings.add_swapped.Goals as goal
 
 pub returns : goal.returns
@@ -12,7 +12,7 @@ returns c =
     let one = text_of c.args.is_secure (not c.args.has_www) rest in
     let other = text_of (not c.args.is_secure) (not c.args.has_www) rest in
     let may : c.may_swap.result ≡ true = grind (arith, common_steps) in
-    let on : swapped c.args.is_secure c.args.has_www rest ≡ one ∷ other ∷ [] =
+    let on : swapped_spellings c.args.is_secure c.args.has_www rest ≡ one ∷ other ∷ [] =
     ap (λ (b : Bool). if b then one ∷ other ∷ [] else []) (sym c.may_swap.ensures ∙ may) in
     c.in_ok-add_spelling-2.ensures
     ∙ (ap (λ (xs : List (List ℕ)). xs ++ filter is_itself (other ∷ [])) c.in_ok-add_spelling.ensures

@@ -2,14 +2,14 @@ use Rattle.std.proofs.Common.{◌≡◌, ◌++◌, ◌∷◌, [], ℕ, Bool, tru
 use Rattle.std.specs.Prelude.{filter, if◌then◌else◌}
 use Rattle.std.proofs.lemmas.Grind.{common_steps}
 use Rattle.std.proofs.lemmas.List.Elements.{filter-append}
-use Rattle.original_list.specs.Spellings.{is_itself, is_named, others, swapped, text_of}
+use Rattle.original_list.specs.Spellings.{is_itself, is_named, others, swapped_spellings, text_of}
 use Rattle.original_list.proofs.spellings.others.Goals as goal
 
 pub returns : goal.returns
 returns c =
     let rest = c.args.rest.now in
     let first = text_of (not c.args.is_secure) c.args.has_www rest in
-    let more = swapped c.args.is_secure c.args.has_www rest in
+    let more = swapped_spellings c.args.is_secure c.args.has_www rest in
     let named : c.is_named.result ≡ true = grind (arith, common_steps) in
     let on : others c.args.is_secure c.args.has_www rest ≡ first ∷ more =
     ap (λ (b : Bool). if b then first ∷ more else []) (sym c.is_named.ensures ∙ named) in

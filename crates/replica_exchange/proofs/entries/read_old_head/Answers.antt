@@ -1,7 +1,7 @@
 use Rattle.std.proofs.Common.{ℕ, ◌<◌, ◌^◌, sym, subst, arith}
 use Rattle.std.specs.Fmt.{decimal}
 use Rattle.memento_time.specs.Text.{IsArchiveName, IsOriginal}
-use Rattle.replica_exchange.specs.Spelling.{ended, field, number}
+use Rattle.replica_exchange.specs.Spelling.{value_and_end, field, number}
 use Rattle.replica_exchange.specs.Parts.{old_head}
 use Rattle.replica_exchange.proofs.SpellingLemmas.{ended_found, ended_none, field_refused, name_lacks, number_once}
 use Rattle.replica_exchange.proofs.Sequences.{passed_on, refused_with, malformed}
@@ -34,7 +34,7 @@ returns-in_err-revision-clause-refused c =
     let archive = ended_found IsArchiveName (λ text. text) 32 c.in_ok-rest.rest.now c.in_ok-name.name.now c.in_ok-name.rest.now c.in-Some.archive c.in_ok-name.ensures.found
     (sym c.in-Some.ensures.1) (subst IsArchiveName (sym c.in-Some.ensures.1) c.in-Some.ensures.0) in
     passed_on old_head text c.from_residual-in_err-revision.result c.in_err-revision.field-0.0 c.from_residual-in_err-revision.ensures.1
-    (refused_with (ended (λ (n : ℕ). n < 2 ^ 64) decimal 32) old_head text _ (line_leaves_field (λ (n : ℕ). n < 2 ^ 64) decimal text _ c.in_ok-rest.ensures.found _ _ archive)
+    (refused_with (value_and_end (λ (n : ℕ). n < 2 ^ 64) decimal 32) old_head text _ (line_leaves_field (λ (n : ℕ). n < 2 ^ 64) decimal text _ c.in_ok-rest.ensures.found _ _ archive)
     c.in_err-revision.field-0.0 c.in_err-revision.ensures.refused)
 
 pub returns-in_err-count-clause-refused : goal.returns-in_err-count-clause-refused

@@ -4,19 +4,19 @@ use Rattle.std.proofs.lemmas.List.{take_more, map_push}
 use Rattle.std.proofs.lemmas.List.Elements.{All-weaker, All-get_or}
 use Rattle.harvest_lattice.specs.Lattice.{Key, key_cmp}
 use Rattle.replica_exchange.specs.declared.stamps.ChangedKey.{ChangedKey}
-use Rattle.replica_exchange.specs.StampShelves.{Shelves, filled, slot, key_of, restamped}
+use Rattle.replica_exchange.specs.StampShelves.{Shelves, stamp_in, slot, key_of, stamp_after}
 use Rattle.replica_exchange.proofs.ShelfLemmas.{slot_stays_filled}
 use Rattle.replica_exchange.proofs.AbsorbLemmas.{filled_cond, restamped_push}
 use Rattle.replica_exchange.proofs.stamps.fill_all.Goals as goal
 
 one_more : (keys next_keys : List Key) (key : Key) (stamp : ℕ) (first now next : Shelves) → next_keys ≡ keys ++ key ∷ []
-    → ((k : Key) → filled (slot now k) ≡ restamped keys stamp k (filled (slot first k))) → ((k : Key) → slot next k ≡ cond (eq_by_cmp key_cmp k key) (Some (Some stamp)) (slot now k))
-    → (k : Key) → filled (slot next k) ≡ restamped next_keys stamp k (filled (slot first k))
+    → ((k : Key) → stamp_in (slot now k) ≡ stamp_after keys stamp k (stamp_in (slot first k))) → ((k : Key) → slot next k ≡ cond (eq_by_cmp key_cmp k key) (Some (Some stamp)) (slot now k))
+    → (k : Key) → stamp_in (slot next k) ≡ stamp_after next_keys stamp k (stamp_in (slot first k))
 one_more keys next_keys key stamp first now next more before after k =
-    ap filled (after k)
+    ap stamp_in (after k)
     ∙ (filled_cond (eq_by_cmp key_cmp k key) stamp (slot now k)
     ∙ (ap (λ (o : Option ℕ). cond (eq_by_cmp key_cmp k key) (Some stamp) o) (before k)
-    ∙ (sym (restamped_push keys key stamp k (filled (slot first k))) ∙ ap (λ (ks : List Key). restamped ks stamp k (filled (slot first k))) (sym more))))
+    ∙ (sym (restamped_push keys key stamp k (stamp_in (slot first k))) ∙ ap (λ (ks : List Key). stamp_after ks stamp k (stamp_in (slot first k))) (sym more))))
 
 pub loop-key-init : goal.loop-key-init
 loop-key-init c = record { stamps = λ k. refl; room = c.requires.room; ordered = c.requires.ordered }
@@ -47,4 +47,4 @@ fill-requires-clause-room c =
 pub returns-clause-stamps : goal.returns-clause-stamps
 returns-clause-stamps c k =
     let whole : take c.loop-key.key-index c.args.keys.now ≡ c.args.keys.now = take_all c.loop-key.key-index c.args.keys.now c.loop-key-test.false in
-    c.loop-key.invariant.stamps k ∙ ap (λ (keys : List ChangedKey). restamped (map key_of keys) c.args.stamp k (filled (slot c.args.shelves.now k))) whole
+    c.loop-key.invariant.stamps k ∙ ap (λ (keys : List ChangedKey). stamp_after (map key_of keys) c.args.stamp k (stamp_in (slot c.args.shelves.now k))) whole

@@ -7,13 +7,14 @@ use Rattle.std.proofs.lemmas.List.Sorted.{IsNonDecreasingBy-from_sort_by_key}
 use Rattle.std.proofs.lemmas.Map.Iter.{iter_end}
 use Rattle.replica_exchange.specs.declared.order.OrderRow.{OrderRow}
 use Rattle.replica_exchange.specs.StampShelves.{Slots}
-use Rattle.replica_exchange.specs.StampOrder.{given}
+use Rattle.replica_exchange.specs.StampOrder.{stamp_and_key}
 use Rattle.replica_exchange.proofs.OrderLemmas.{shelf_order, sorted_standing, one_shelf_more}
 use Rattle.replica_exchange.proofs.order.StampOrder.standing_rows.Goals as goal
 
 pub loop-archive-preserved : goal.loop-archive-preserved
 loop-archive-preserved c = record {
-  listed = one_shelf_more (map given c.loop-archive.rows.items) (map given c.list_shelf.new.rows.items) (map deref_pair c.loop-archive.yielded) _ (arc_value c.in_ok-name.name) c.in-Some.archive.now
+  listed = one_shelf_more (map stamp_and_key c.loop-archive.rows.items) (map stamp_and_key c.list_shelf.new.rows.items) (map deref_pair c.loop-archive.yielded)
+      _ (arc_value c.in_ok-name.name) c.in-Some.archive.now
       c.in-Some.shelf.now c.loop-archive.invariant.listed c.in_ok-list_shelf.ensures c.in_ok-name.ensures.name (map_push deref_pair c.loop-archive.yielded (c.in-Some.archive, c.in-Some.shelf));
   same = c.name.ensures.same ∙ c.loop-archive.invariant.same;
 }

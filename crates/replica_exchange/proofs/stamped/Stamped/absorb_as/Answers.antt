@@ -7,7 +7,7 @@ use Rattle.harvest_lattice.specs.Rows.{row_key}
 use Rattle.memento_index.specs.Merges.{adds_of}
 use Rattle.replica_exchange.specs.declared.stamps.ChangedKey.{ChangedKey}
 use Rattle.replica_exchange.specs.Stamps.{StampedState}
-use Rattle.replica_exchange.specs.StampShelves.{stamps_in, restamped, key_of}
+use Rattle.replica_exchange.specs.StampShelves.{stamps_in, stamp_after, key_of}
 use Rattle.replica_exchange.proofs.ShelfLemmas.{same_stamps}
 use Rattle.replica_exchange.specs.StampOrder.{given_at, order_of, IsOrderOf}
 use Rattle.replica_exchange.proofs.AbsorbLemmas.{absorbed, get-restamped}
@@ -41,7 +41,7 @@ returns-in-Ok-clause-ok c =
     let is : IsNews s.entries (lat (adds_of m)) news = subst (λ (y : Entries). IsNews y (lat (adds_of m)) news) entries c.in_ok-changes.ensures.news in
     let joined : c.put_with_room-taken.new.index ≡ join s.entries news = c.in-Ok.ensures.ok ∙ ap (λ (y : Entries). join y news) entries in
     let of_rows : keys ≡ map_list row_key c.rows.result.now = ap (λ (ks : List ChangedKey). map_list key_of ks) c.deref-in-Ok.ensures.value ∙ c.in_ok-keys.ensures in
-    let stamped : (k : Key) → map.get (stamps_in c.fill_all.new.shelves) k ≡ restamped keys c.args.number k (map.get s.stamps k) =
+    let stamped : (k : Key) → map.get (stamps_in c.fill_all.new.shelves) k ≡ stamp_after keys c.args.number k (map.get s.stamps k) =
     get-restamped s.stamps keys c.args.number x.stamps c.put_with_room-taken.new.stamps c.fill_all.new.shelves stamps c.self.invariant.0 c.fill_all.ensures.ordered
     c.put_with_room-taken.ensures.same c.fill_all.ensures.stamps in
     absorbed s (record { entries = c.put_with_room-taken.new.index; stamps = stamps_in c.fill_all.new.shelves; number = c.args.number; incarnation = x.incarnation }) m news c.rows.result.now keys

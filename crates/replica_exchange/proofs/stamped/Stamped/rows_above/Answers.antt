@@ -5,7 +5,7 @@ use Rattle.harvest_lattice.specs.Lattice.{Key}
 use Rattle.harvest_lattice.specs.Rows.{row_entry}
 use Rattle.replica_exchange.specs.declared.order.OrderRow.{OrderRow}
 use Rattle.replica_exchange.specs.Stamps.{StampedState}
-use Rattle.replica_exchange.specs.StampOrder.{given, order_of, standing_entry}
+use Rattle.replica_exchange.specs.StampOrder.{stamp_and_key, order_of, standing_entry}
 use Rattle.replica_exchange.proofs.OrderLemmas.{noted_more, above_behind}
 use Rattle.replica_exchange.proofs.ShelfLemmas.{get-stamps_in}
 use Rattle.replica_exchange.proofs.stamped.Stamped.rows_above.Goals as goal
@@ -28,5 +28,5 @@ returns c =
     let rows = c.behind-behind.result.now in
     let stamps = λ (k : Key). sym (ap (λ (t : StampedState). fmap.get t.stamps k) c.self.view_is) ∙ get-stamps_in x.stamps c.self.invariant.0 k in
     let whole : take c.loop-given.given-index rows ≡ rows = take_all c.loop-given.given-index rows c.loop-given-test.false in
-    above_behind s c.args.start x.stamps (order_of x.order) (map given rows) x.number (map row_entry c.loop-given.rows.items) stamps c.self.invariant.1 c.behind-behind.ensures
-    (c.loop-given.invariant ∙ ap (λ (l : List OrderRow). flat_map (standing_entry s) (map given l)) whole)
+    above_behind s c.args.start x.stamps (order_of x.order) (map stamp_and_key rows) x.number (map row_entry c.loop-given.rows.items) stamps c.self.invariant.1 c.behind-behind.ensures
+    (c.loop-given.invariant ∙ ap (λ (l : List OrderRow). flat_map (standing_entry s) (map stamp_and_key l)) whole)

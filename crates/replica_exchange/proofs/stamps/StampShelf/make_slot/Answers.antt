@@ -1,6 +1,6 @@
 use Rattle.std.proofs.Common.{◌≡◌, false, is_some, IsSome, ℕ, List, None, sym, ap, subst, ◌∙◌}
 use Rattle.std.specs.FinMap as map
-use Rattle.replica_exchange.specs.StampShelves.{Slots, filled}
+use Rattle.replica_exchange.specs.StampShelves.{Slots, stamp_in}
 use Rattle.replica_exchange.proofs.ShelfLemmas.{get-slots, slot_put, slot_same, slot_stay, slot_made}
 use Rattle.replica_exchange.proofs.stamps.StampShelf.make_slot.Goals as goal
 
@@ -11,7 +11,7 @@ returns-in_ok-insert-clause-same c o =
     ∙ (ap is_some (get-slots c.self.inside.slots.entries a) ∙ (sym c.contains_key.ensures ∙ c.if-not-contains_key.true)) in
     let put = slot_put c.self.inside.slots.entries c.insert.new.self.entries c.in_ok-original.original None c.args.self.now c.self.view_is c.in_ok-insert.ensures.updates.0
     ∙ ap (λ (o : List ℕ). map.insert c.args.self.now o None) c.in_ok-original.ensures in
-    ap (λ (s : Slots). filled (map.get s o)) put ∙ slot_same c.args.self.now a none o
+    ap (λ (s : Slots). stamp_in (map.get s o)) put ∙ slot_same c.args.self.now a none o
 
 pub returns-in_ok-insert-clause-stay : goal.returns-in_ok-insert-clause-stay
 returns-in_ok-insert-clause-stay c o had =

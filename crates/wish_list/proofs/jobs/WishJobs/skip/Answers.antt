@@ -1,12 +1,12 @@
 use Rattle.std.proofs.Common.{◌≡◌, ◌++◌, ◌+◌, ℕ, List, suc, map, take, drop, set, get_or, ap, ◌∙◌, arith}
 use Rattle.wish_list.specs.declared.jobs.Granted.{Granted}
-use Rattle.wish_list.specs.Jobs.{skipped}
+use Rattle.wish_list.specs.Jobs.{after_skip}
 use Rattle.wish_list.proofs.Places.{mapped_more}
 use Rattle.wish_list.proofs.jobs.WishJobs.skip.Goals as goal
 
 pub loop-granted-preserved : goal.loop-granted-preserved
 loop-granted-preserved c =
-    let f = skipped c.args.archive in
+    let f = after_skip c.args.archive in
     let first = c.deref_mut-granted-items.result.now in
     let i = c.loop-granted.granted-index in
     let new = c.skip_in.new.granted in

@@ -1,7 +1,7 @@
 use Rattle.std.proofs.Common.{◌≡◌, ◌<◌, ℕ, List, Some, length, true, sym, ap, subst, ◌∙◌, arith, length-set}
 use Rattle.std.specs.Prelude.{position, slice_get, slice_set}
 use Rattle.wish_list.specs.declared.queue.Wish.{Wish}
-use Rattle.wish_list.specs.Queue.{granted, is_waiting}
+use Rattle.wish_list.specs.Queue.{with_grant, is_waiting}
 use Rattle.wish_list.proofs.Places.{passes}
 use Rattle.wish_list.proofs.QueueLemmas.{distinct_same}
 use Rattle.wish_list.proofs.queue.Queue.grant.Goals as goal
@@ -16,7 +16,7 @@ invariant_of-self-2 c =
     let at = passes is_waiting old place wish first c.index_mut-wish.ensures.value in
     record {
       distinct = distinct_same old place wish true at.2 ∙ c.self.invariant.distinct;
-      few = omega (arith, length-set old place (granted true wish), c.self.invariant.few);
+      few = omega (arith, length-set old place (with_grant true wish), c.self.invariant.few);
     }
 
 pub returns-clause-some : goal.returns-clause-some
@@ -33,5 +33,5 @@ returns-clause-some c =
       oldest = ap (λ (ws : List Wish). position is_waiting ws) (sym c.self.view_is) ∙ first;
       there = subst (λ (ws : List Wish). slice_get ws place ≡ Some wish) c.self.view_is at.2;
       original_is = sym c.in_ok-original.ensures;
-      after = ap (λ (ws : List Wish). slice_set ws place (granted true wish)) c.self.view_is;
+      after = ap (λ (ws : List Wish). slice_set ws place (with_grant true wish)) c.self.view_is;
     }
