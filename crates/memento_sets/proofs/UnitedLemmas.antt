@@ -134,12 +134,12 @@ pub any_next : (p : Memento → Bool) (m : Memento) (now was : Bool) (rest : Lis
     → (now || list_any p rest) ≡ (was || list_any p (m ∷ rest))
 any_next p m now was rest is = ap (λ b. b || list_any p rest) is ∙ or_next (p m) was (list_any p rest)
 
-pub any_none : (p : Memento → Bool) (b : Bool) (rest : List Memento) → rest ≡ [] → (b || list_any p rest) ≡ b
-any_none p b rest none = ap (λ (xs : List Memento). b || list_any p xs) none ∙ or_false b
-
 pub or_false : (a : Bool) → (a || false) ≡ a
 or_false true = refl
 or_false false = refl
+
+pub any_none : (p : Memento → Bool) (b : Bool) (rest : List Memento) → rest ≡ [] → (b || list_any p rest) ≡ b
+any_none p b rest none = ap (λ (xs : List Memento). b || list_any p xs) none ∙ or_false b
 
 -- lists with the members of two are the union of their sets
 pub united_is : (new old added : List Memento) → ((m : Memento)

@@ -1,15 +1,14 @@
 //! Walks over archives in memory: which pages are fetched and in which order, which are lost, and where a walk ends.
 use anyhow::{Result, bail};
 use harvester::{
-    Answer, Fetch, FetchFault, Job, MAX_PAGES, MAX_WORKERS, MemoryFetch, Outcome, WalkFault,
+    Answer, FetchFault, Job, MAX_PAGES, MAX_WORKERS, MemoryFetch, Outcome, WalkFault,
     asked_patience, harvest_job, have_first_urls, run_round, walk,
 };
-use memento_time::{Clean, Items};
+use memento_time::Items;
 use std::alloc::{AllocGlobal, Global};
 use std::net::{Net, TcpListener, TcpStream};
 use std::random::RandomSource;
 use std::sync::Wait;
-use std::sync::atomic::{AtomicU64, Ordering};
 use std::thread::Threads;
 use std::time::Clock;
 use text_tests::makers::{archive, clean, octets, original};
@@ -572,53 +571,5 @@ fn the_longest_patience_counts(rt: HostRuntime) -> Result<()> {
         asking(alloc, 429, "7")?,
     )?;
     assert_eq!(rt; walk_unkept(&rt, &table)?, (Some((0, true)), Some(120)));
-    Ok(())
-}
-
-/// Answers from a table, and counts how often it is asked.
-#[derive(Drop)]
-struct CountedFetch {
-    table: MemoryFetch,
-    asked: AtomicU64,
-}
-
-impl Fetch for CountedFetch {
-    ghost use Rattle.std.specs.Prelude.{⊤};
-
-    ghost answers = { λ _ _ _. ⊤ };
-
-    ghost faults = { λ _ _ _. ⊤ };
-
-    fn fetch<R>(&self, rt: &R, url: &Clean) -> Result<Answer, FetchFault>
-    where
-        R: Wait
-            + Clock
-            + Net<Listener = TcpListener, Stream = TcpStream>
-            + RandomSource
-            + AllocGlobal,
-    {
-        self.asked.fetch_add(1, Ordering::SeqCst);
-        self.table.fetch(rt, url)
-    }
-}
-
-#[test]
-fn each_page_is_asked_for_once(rt: HostRuntime) -> Result<()> {
-    let job = job(rt.alloc(), "http://arc.example/i")?;
-    if !job.has_first_url() {
-        bail!("no first URL");
-    }
-    for table in [
-        three_pages(rt.alloc(), 200, "", 404)?,
-        silent_page(rt.alloc())?,
-    ] {
-        let fetch = CountedFetch {
-            table,
-            asked: AtomicU64::new(0),
-        };
-        let outcome = walk(&rt, &fetch, &job);
-        assert!(rt; outcome.result.is_ok());
-        assert_eq!(rt; fetch.asked.load(Ordering::SeqCst), 3);
-    }
     Ok(())
 }

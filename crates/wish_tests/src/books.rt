@@ -87,10 +87,24 @@ fn a_closed_book_takes_nothing(rt: HostRuntime) -> Result<()> {
     Ok(())
 }
 
+/// What a book decides on wishes, one after the other: each for an original of which something is shown or nothing, and
+/// in its second.
+fn decide(
+    alloc: Global,
+    book: &WishBook,
+    made: &[(&[u8], bool, u64)],
+) -> Result<Vec<Option<Decision>>> {
+    let mut decisions = Vec::new(alloc);
+    for (uri, is_shown, second) in made {
+        decisions.push(book.note(original(alloc, uri)?, *is_shown, *second))?;
+    }
+    Ok(decisions)
+}
+
 #[test]
 fn a_wish_goes_through_a_book(rt: HostRuntime) -> Result<()> {
     let alloc = rt.alloc();
-    let (a, b) = (original(alloc, A)?, original(alloc, B)?);
+    let a = original(alloc, A)?;
     let book = book_in(&rt)?;
     assert!(rt; book.is_open());
     let other = book.share()?;
@@ -105,28 +119,41 @@ fn a_wish_goes_through_a_book(rt: HostRuntime) -> Result<()> {
     assert!(rt; book.grant(&rt).context("no wish")? == a);
     book.put_back(&rt, &a);
     assert!(rt; book.grant(&rt).context("no wish")? == a);
-    book.end(&rt, &a, true, FOUND, 60);
+    Ok(())
+}
+
+#[test]
+fn a_wish_that_ended_is_fresh(rt: HostRuntime) -> Result<()> {
+    let alloc = rt.alloc();
+    let book = book_in(&rt)?;
+    let _ = decide(alloc, &book, &[(A, false, 60)])?;
+    book.end(&rt, &original(alloc, A)?, true, FOUND, 60);
+    let made = [(A, true, 1_059), (B, true, 60), (B, true, 120)];
     assert_eq!(rt;
-        book.note(original(alloc, A)?, true, 1_059),
-        Some(Decision::Fresh)
+        decide(alloc, &book, &made)?.as_slice(),
+        [
+            Some(Decision::Fresh),
+            Some(Decision::Late),
+            Some(Decision::Added)
+        ]
+        .as_slice()
     );
-    assert_eq!(rt;
-        book.note(original(alloc, B)?, true, 60),
-        Some(Decision::Late)
-    );
-    assert_eq!(rt;
-        book.note(original(alloc, B)?, true, 120),
-        Some(Decision::Added)
-    );
+    Ok(())
+}
+
+#[test]
+fn a_wish_that_asked_nobody_gives_its_place_back(rt: HostRuntime) -> Result<()> {
+    let alloc = rt.alloc();
+    let book = book_in(&rt)?;
+    let _ = decide(alloc, &book, &[(B, true, 120)])?;
     let spared = Outcome {
         is_asked: false,
         ..FOUND
     };
-    book.end(&rt, &b, true, spared, 120);
+    book.end(&rt, &original(alloc, B)?, true, spared, 120);
     assert_eq!(rt;
-        book.note(original(alloc, A)?, false, 120),
-        Some(Decision::Added),
-        "the one before asked nobody"
+        decide(alloc, &book, &[(A, false, 120)])?.as_slice(),
+        [Some(Decision::Added)].as_slice()
     );
     Ok(())
 }

@@ -1,34 +1,47 @@
 //! Tests of the jobs of granted wishes.
 use anyhow::{Context, Result};
+use std::alloc::{AllocGlobal, Global};
 use std::test::*;
 use text_tests::makers::original;
 use wish_list::{Answer, Ask, WishJobs};
 
+const A: &[u8] = b"http://a.example/";
+
+const FIRST: Ask = Ask {
+    wish: 0,
+    archive: 0,
+};
+
+const LAST: Ask = Ask {
+    wish: 0,
+    archive: 2,
+};
+
+/// The jobs of a wish of which the second of three archives is spared.
+fn one_spared(alloc: Global) -> Result<WishJobs> {
+    let mut jobs = WishJobs::new(alloc);
+    jobs.push(original(alloc, A)?, &[false, true, false])?;
+    Ok(jobs)
+}
+
 #[test]
 fn each_archive_is_asked_unless_it_is_spared(rt: HostRuntime) -> Result<()> {
-    let alloc = rt.alloc();
-    let a = original(alloc, b"http://a.example/")?;
-    let mut jobs = WishJobs::new(alloc);
-    jobs.push(
-        original(alloc, b"http://a.example/")?,
-        &[false, true, false],
-    )?;
+    let mut jobs = one_spared(rt.alloc())?;
     assert_eq!(rt; jobs.len(), 1);
-    assert!(rt; *jobs.original(0).context("no wish")? == a);
-    let first = Ask {
-        wish: 0,
-        archive: 0,
-    };
-    let last = Ask {
-        wish: 0,
-        archive: 2,
-    };
-    assert_eq!(rt; jobs.next(&[true, true, true]), Some(first));
-    assert!(rt; jobs.ask(first));
-    assert!(rt; !jobs.ask(first), "it is being asked");
-    assert_eq!(rt; jobs.next(&[true, true, true]), Some(last));
+    assert!(rt; *jobs.original(0).context("no wish")? == original(rt.alloc(), A)?);
+    assert_eq!(rt; jobs.next(&[true, true, true]), Some(FIRST));
+    assert!(rt; jobs.ask(FIRST));
+    assert!(rt; !jobs.ask(FIRST), "it is being asked");
+    assert_eq!(rt; jobs.next(&[true, true, true]), Some(LAST));
     assert_eq!(rt; jobs.next(&[true, true, false]), None);
-    assert!(rt; jobs.ask(last));
+    Ok(())
+}
+
+#[test]
+fn a_wish_is_over_once_its_archives_have_answered(rt: HostRuntime) -> Result<()> {
+    let a = original(rt.alloc(), A)?;
+    let mut jobs = one_spared(rt.alloc())?;
+    assert!(rt; jobs.ask(FIRST) && jobs.ask(LAST));
     assert!(rt; jobs.answer(&a, 0, Answer::NoCopies));
     assert!(rt; jobs.take_ended().is_none(), "one is being asked");
     assert!(rt; jobs.answer(&a, 2, Answer::Copies));
@@ -43,7 +56,7 @@ fn each_archive_is_asked_unless_it_is_spared(rt: HostRuntime) -> Result<()> {
 fn what_asks_nobody_is_over_at_once(rt: HostRuntime) -> Result<()> {
     let alloc = rt.alloc();
     let mut jobs = WishJobs::new(alloc);
-    jobs.push(original(alloc, b"http://a.example/")?, &[true, true])?;
+    jobs.push(original(alloc, A)?, &[true, true])?;
     let ended = jobs.take_ended().context("no end")?;
     assert!(rt; !ended.outcome.is_found && ended.outcome.is_whole && !ended.outcome.is_asked);
     jobs.push(original(alloc, b"http://b.example/")?, &[true, false])?;

@@ -1,7 +1,7 @@
 //! Tests of wishes and their queue.
 use anyhow::{Context, Result};
 use original_sets::{Key, OriginalSet};
-use std::alloc::AllocGlobal;
+use std::alloc::{AllocGlobal, Global};
 use std::hash::RandomState;
 use std::num::NonZeroUsize;
 use std::random::RandomSource;
@@ -25,65 +25,77 @@ fn no_wishes<R: RandomSource + AllocGlobal>(rt: &R) -> Result<Wishes> {
     Ok(Wishes::new(rt.alloc(), limits, RandomState::new(rt)?)?)
 }
 
+/// What is decided on wishes, one after the other: each for an original of which something is shown or nothing, and in
+/// its second.
+fn decide(
+    alloc: Global,
+    wishes: &mut Wishes,
+    made: &[(&[u8], bool, u64)],
+) -> Result<Vec<Decision>> {
+    let mut decisions = Vec::new(alloc);
+    for (uri, is_shown, second) in made {
+        decisions.push(wishes.wish(original(alloc, uri)?, *is_shown, *second)?)?;
+    }
+    Ok(decisions)
+}
+
 #[test]
 fn a_wish_is_taken_once_and_two_in_a_minute(rt: HostRuntime) -> Result<()> {
-    let alloc = rt.alloc();
     let mut wishes = no_wishes(&rt)?;
+    let made = [
+        (A, false, 60),
+        (A, false, 61),
+        (B, true, 119),
+        (C, false, 119),
+        (C, false, 120),
+    ];
     assert_eq!(rt;
-        wishes.wish(original(alloc, A)?, false, 60)?,
-        Decision::Added
-    );
-    assert_eq!(rt;
-        wishes.wish(original(alloc, A)?, false, 61)?,
-        Decision::Waits
-    );
-    assert_eq!(rt;
-        wishes.wish(original(alloc, B)?, true, 119)?,
-        Decision::Added
-    );
-    assert_eq!(rt;
-        wishes.wish(original(alloc, C)?, false, 119)?,
-        Decision::Late
-    );
-    assert_eq!(rt;
-        wishes.wish(original(alloc, C)?, false, 120)?,
-        Decision::Added
+        decide(rt.alloc(), &mut wishes, &made)?.as_slice(),
+        [
+            Decision::Added,
+            Decision::Waits,
+            Decision::Added,
+            Decision::Late,
+            Decision::Added
+        ]
+        .as_slice()
     );
     Ok(())
 }
 
 #[test]
-fn a_wish_is_granted_put_back_and_ended(rt: HostRuntime) -> Result<()> {
-    let alloc = rt.alloc();
-    let a = original(alloc, A)?;
+fn a_wish_is_granted_and_put_back(rt: HostRuntime) -> Result<()> {
+    let a = original(rt.alloc(), A)?;
     let mut wishes = no_wishes(&rt)?;
-    assert_eq!(rt;
-        wishes.wish(original(alloc, A)?, false, 60)?,
-        Decision::Added
-    );
+    let _ = decide(rt.alloc(), &mut wishes, &[(A, false, 60)])?;
     assert!(rt; wishes.grant()?.context("no wish")? == a);
     assert!(rt; wishes.grant()?.is_none(), "it is granted");
     wishes.put_back(&a);
     assert!(rt; wishes.grant()?.context("no wish")? == a);
+    Ok(())
+}
+
+#[test]
+fn what_was_looked_after_is_fresh(rt: HostRuntime) -> Result<()> {
+    let (a, b) = (original(rt.alloc(), A)?, original(rt.alloc(), B)?);
+    let mut wishes = no_wishes(&rt)?;
     wishes.note(&a, false, true, 70)?;
-    wishes.end(&a, true);
+    wishes.note(&b, false, false, 70)?;
+    let made = [
+        (A, false, 1_069),
+        (A, false, 1_070),
+        (B, false, 69 + RETRY),
+        (B, false, 70 + RETRY),
+    ];
     assert_eq!(rt;
-        wishes.wish(original(alloc, A)?, false, 1_069)?,
-        Decision::Fresh
-    );
-    assert_eq!(rt;
-        wishes.wish(original(alloc, A)?, false, 1_070)?,
-        Decision::Added
-    );
-    wishes.end(&a, true);
-    wishes.note(&a, false, false, 2_000)?;
-    assert_eq!(rt;
-        wishes.wish(original(alloc, A)?, false, 1_999 + RETRY)?,
-        Decision::Fresh
-    );
-    assert_eq!(rt;
-        wishes.wish(original(alloc, A)?, false, 2_000 + RETRY)?,
-        Decision::Added
+        decide(rt.alloc(), &mut wishes, &made)?.as_slice(),
+        [
+            Decision::Fresh,
+            Decision::Added,
+            Decision::Fresh,
+            Decision::Added
+        ]
+        .as_slice()
     );
     Ok(())
 }
@@ -92,28 +104,18 @@ fn a_wish_is_granted_put_back_and_ended(rt: HostRuntime) -> Result<()> {
 fn a_wish_that_asks_no_archive_does_not_count(rt: HostRuntime) -> Result<()> {
     let alloc = rt.alloc();
     let mut wishes = no_wishes(&rt)?;
+    let made = [(A, true, 60), (B, true, 60), (C, false, 60)];
     assert_eq!(rt;
-        wishes.wish(original(alloc, A)?, true, 60)?,
-        Decision::Added
-    );
-    assert_eq!(rt;
-        wishes.wish(original(alloc, B)?, true, 60)?,
-        Decision::Added
-    );
-    assert_eq!(rt;
-        wishes.wish(original(alloc, C)?, false, 60)?,
-        Decision::Late
+        decide(alloc, &mut wishes, &made)?.as_slice(),
+        [Decision::Added, Decision::Added, Decision::Late].as_slice()
     );
     wishes.end(&original(alloc, A)?, false);
-    assert_eq!(rt;
-        wishes.wish(original(alloc, C)?, false, 60)?,
-        Decision::Added
-    );
+    let _ = decide(alloc, &mut wishes, &[(C, false, 60)])?;
     wishes.end(&original(alloc, B)?, true);
     assert_eq!(rt;
-        wishes.wish(original(alloc, A)?, false, 60)?,
-        Decision::Late,
-        "an archive was asked"
+        decide(alloc, &mut wishes, &[(C, false, 60), (A, false, 60)])?.as_slice(),
+        [Decision::Waits, Decision::Late].as_slice(),
+        "C has A's place, and an archive was asked for B"
     );
     Ok(())
 }
@@ -122,28 +124,18 @@ fn a_wish_that_asks_no_archive_does_not_count(rt: HostRuntime) -> Result<()> {
 fn a_wish_of_an_earlier_minute_gives_none_back(rt: HostRuntime) -> Result<()> {
     let alloc = rt.alloc();
     let mut wishes = no_wishes(&rt)?;
-    assert_eq!(rt;
-        wishes.wish(original(alloc, A)?, true, 60)?,
-        Decision::Added
-    );
-    assert_eq!(rt;
-        wishes.wish(original(alloc, B)?, false, 120)?,
-        Decision::Added
-    );
-    assert_eq!(rt;
-        wishes.wish(original(alloc, C)?, false, 120)?,
-        Decision::Added
-    );
+    let made = [(A, true, 60), (B, false, 120), (C, false, 120)];
+    let _ = decide(alloc, &mut wishes, &made)?;
     wishes.end(&original(alloc, A)?, false);
     assert_eq!(rt;
-        wishes.wish(original(alloc, A)?, true, 120)?,
-        Decision::Late
+        decide(alloc, &mut wishes, &[(A, true, 120)])?.as_slice(),
+        [Decision::Late].as_slice()
     );
     Ok(())
 }
 
 #[test]
-fn rounds_have_their_originals_and_room_is_bounded(rt: HostRuntime) -> Result<()> {
+fn rounds_have_their_originals(rt: HostRuntime) -> Result<()> {
     let alloc = rt.alloc();
     let mut wishes = no_wishes(&rt)?;
     let mut listed = OriginalSet::with_room(alloc, 1, RandomState::new(&rt)?)?;
@@ -151,23 +143,21 @@ fn rounds_have_their_originals_and_room_is_bounded(rt: HostRuntime) -> Result<()
     assert!(rt; listed.insert(a)?);
     drop(wishes.set_listed(listed));
     assert_eq!(rt;
-        wishes.wish(original(alloc, A)?, true, 60)?,
-        Decision::Listed
+        decide(alloc, &mut wishes, &[(A, true, 60), (A, false, 60)])?.as_slice(),
+        [Decision::Listed, Decision::Added].as_slice(),
+        "nothing of it is shown the second time"
     );
+    Ok(())
+}
+
+#[test]
+fn room_is_bounded_for_what_is_not_shown(rt: HostRuntime) -> Result<()> {
+    let mut wishes = no_wishes(&rt)?;
     wishes.set_room(1);
+    let made = [(A, false, 60), (B, false, 60), (B, true, 60)];
     assert_eq!(rt;
-        wishes.wish(original(alloc, A)?, false, 60)?,
-        Decision::Added,
-        "nothing of it is shown"
-    );
-    assert_eq!(rt;
-        wishes.wish(original(alloc, B)?, false, 60)?,
-        Decision::Full
-    );
-    assert_eq!(rt;
-        wishes.wish(original(alloc, B)?, true, 60)?,
-        Decision::Added,
-        "something of it is shown"
+        decide(rt.alloc(), &mut wishes, &made)?.as_slice(),
+        [Decision::Added, Decision::Full, Decision::Added].as_slice()
     );
     assert_eq!(rt; wishes.turned_away(), 1);
     assert_eq!(rt; wishes.turned_away(), 0);
