@@ -9,9 +9,9 @@ ghost use Rattle.aggregator_service.specs.Keeping.{after_publish, with_states, S
 use crate::dues::Due;
 use crate::lines::{Line, SnapshotEnd};
 use crate::logs::Log;
-use crate::runtimes::SocketRuntime;
 use crate::settings::Storing;
 use harvest_lattice::State;
+use harvester::SocketRuntime;
 use memento_index::Merge;
 use memento_time::NoMemory;
 use published_index::Merger;

@@ -39,7 +39,6 @@ mod pool;
 mod pulls;
 mod reasons;
 mod rounds;
-mod runtimes;
 mod serving;
 mod settings;
 mod terms;

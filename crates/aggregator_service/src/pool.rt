@@ -1,8 +1,8 @@
 //! Workers, which walk jobs in threads of their own for as long as rounds are made.
-use crate::runtimes::SocketRuntime;
 use crate::terms::Terms;
 use crossbeam_channel::{Receiver, RecvTimeoutError, Sender, bounded};
 use harvest_workers::{Assignment, WalkReport, WalkRules};
+use harvester::SocketRuntime;
 use std::alloc::{AllocError, Global};
 use std::sync::Wait;
 use std::thread::{self, JoinHandle, Threads};

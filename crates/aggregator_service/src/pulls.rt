@@ -1,6 +1,6 @@
 //! Pulls from peers in threads of their own.
-use crate::runtimes::SocketRuntime;
 use crossbeam_channel::{Receiver, Sender, bounded};
+use harvester::SocketRuntime;
 use hyper_edge::{Patience, PullFault, pull_within};
 use memento_time::Clean;
 use replica_exchange::{Cursor, Delta};

@@ -5,9 +5,9 @@ ghost use Rattle.aggregator_service.specs.Pulls.{Pulls, PullsNothing};
 
 use crate::lines::{Line, PeerFault};
 use crate::logs::Log;
-use crate::runtimes::SocketRuntime;
 use crate::settings::Settings;
 use harvest_lattice::Harvest;
+use harvester::SocketRuntime;
 use hyper_edge::{Patience, pull_within};
 use memento_index::Merge;
 use memento_time::Clean;

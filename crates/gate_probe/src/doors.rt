@@ -2,6 +2,7 @@
 //! serves two connections at once, and one that may be refused memory.
 use anyhow::{Result, bail};
 use crossbeam_channel::{Receiver, Sender, bounded};
+use harvester::SocketRuntime;
 use hyper_edge::{Answers, Bound, EdgeFault, GateService, bind, serve_gate, serve_together};
 use memento_time::{Items, Octets};
 use published_index::GateFault;
@@ -113,13 +114,7 @@ where
 /// Serves connections at a port that it tells, and counts those that ended with a fault.
 fn serve<R, G>(rt: &R, answers: G, port: &Sender<u16>, load: Load) -> Option<u64>
 where
-    R: Wait
-        + Clock
-        + Net<Listener = TcpListener, Stream = TcpStream>
-        + RandomSource
-        + AllocGlobal
-        + Clone
-        + Drop,
+    R: SocketRuntime + Clone + Drop,
     G: Answers,
 {
     let own = rt.clone().ok()?;
@@ -185,15 +180,7 @@ where
 /// fault, where each client got what it read.
 fn serve_and_ask<R, G>(rt: &R, answers: G, counts: &[usize]) -> Option<u64>
 where
-    R: Wait
-        + Clock
-        + Net<Listener = TcpListener, Stream = TcpStream>
-        + RandomSource
-        + AllocGlobal
-        + Threads
-        + Sync
-        + Clone
-        + Drop,
+    R: SocketRuntime + Threads + Sync + Clone + Drop,
     G: Answers + Send,
 {
     let (port_to, port_from) = bounded(rt.alloc(), 1).ok()?;
@@ -324,13 +311,7 @@ where
 /// memory ends is made again, on the same socket.
 fn serve_on<R>(rt: &R, port: &Sender<u16>, is_over: &AtomicU64, together: u64) -> bool
 where
-    R: Wait
-        + Clock
-        + Net<Listener = TcpListener, Stream = TcpStream>
-        + RandomSource
-        + AllocGlobal
-        + Clone
-        + Drop,
+    R: SocketRuntime + Clone + Drop,
 {
     let steady = Steady { alloc: rt.alloc() };
     let own: Result<R, _> = rt.clone();
@@ -364,7 +345,7 @@ where
 /// most one question got a refusal, and none anything else.
 fn ask_on<R>(rt: &R, port: &Receiver<u16>, is_over: &AtomicU64) -> Option<bool>
 where
-    R: Wait + Clock + Net<Listener = TcpListener, Stream = TcpStream>,
+    R: SocketRuntime,
 {
     let port = port.recv_timeout(rt, Duration::from_secs(10));
     let got = port.map(|port| {
@@ -387,15 +368,7 @@ where
 /// Two replies of a gate that may be refused memory once. `None` where the refusal let nothing begin.
 fn try_to_reply<R>(rt: &R, together: u64) -> Option<bool>
 where
-    R: Wait
-        + Clock
-        + Net<Listener = TcpListener, Stream = TcpStream>
-        + RandomSource
-        + AllocGlobal
-        + Threads
-        + Sync
-        + Clone
-        + Drop,
+    R: SocketRuntime + Threads + Sync + Clone + Drop,
 {
     let is_over = AtomicU64::new(0);
     let (port_to, port_from) = bounded(rt.alloc(), 1).ok()?;

@@ -19,7 +19,7 @@ use crate::patience::Patience;
 use crate::targets::target_of;
 use crate::waits::{Limit, while_connected};
 use bytes::Bytes;
-use harvester::{Answer, FetchFault};
+use harvester::{Answer, FetchFault, SocketRuntime};
 use http::request::Builder;
 use http_body_util::{BodyExt, Collected, Empty, Limited, LimitedError};
 use hyper::client::conn::http1::handshake;
@@ -27,7 +27,7 @@ use hyper::{Request, header};
 use memento_time::{Items, Octets};
 use std::alloc::{AllocError, AllocGlobal, Global};
 use std::hash::RandomState;
-use std::net::{Net, SocketAddr, TcpListener, TcpStream, ToSocketAddrs};
+use std::net::{Net, SocketAddr, ToSocketAddrs};
 use std::random::RandomSource;
 use std::sync::Wait;
 use std::sync::atomic::AtomicU64;
@@ -105,7 +105,7 @@ pub(crate) fn get<R>(
     most: usize,
 ) -> Result<Answer, FetchFault>
 where
-    R: Wait + Clock + Net<Listener = TcpListener, Stream = TcpStream> + RandomSource + AllocGlobal,
+    R: SocketRuntime,
     ensures within { IfOk result (λ answer. length answer.body ≤ most) }
     ensures listed { IfOk result (λ _. IfSome hosts.entry (λ listed. IsListedText listed.now url.now)) }
 {

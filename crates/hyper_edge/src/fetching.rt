@@ -8,7 +8,7 @@ use crate::exchanges::{Manner, get};
 use crate::hosts::AllowedHost;
 use crate::limits::{Limits, wait_within};
 use crate::patience::Patience;
-use harvester::{Answer, Fetch, FetchFault, WalkProgress};
+use harvester::{Answer, Fetch, FetchFault, SocketRuntime, WalkProgress};
 use memento_time::Clean;
 use std::alloc::AllocGlobal;
 use std::net::{Net, TcpListener, TcpStream};
@@ -116,7 +116,7 @@ fn fetch_within<R>(
     url: &Clean,
 ) -> Result<Answer, FetchFault>
 where
-    R: Wait + Clock + Net<Listener = TcpListener, Stream = TcpStream> + RandomSource + AllocGlobal,
+    R: SocketRuntime,
     ensures short { IfOk result (λ answer. IsShort answer.body) }
     ensures listed { IfOk result (λ _. IfSome hosts.entry (λ listed. IsListedText listed.now url.now)) }
 {

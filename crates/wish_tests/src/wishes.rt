@@ -164,9 +164,8 @@ fn room_is_bounded_for_what_is_not_shown(rt: HostRuntime) -> Result<()> {
     Ok(())
 }
 
-#[test]
-fn a_queue_has_what_stands_in_it(rt: HostRuntime) -> Result<()> {
-    let alloc = rt.alloc();
+/// A queue of one wish for A, of which nothing is shown, from the seventh minute.
+fn one_wish(alloc: Global) -> Result<Queue> {
     let mut queue = Queue::new(alloc);
     queue.push(Wish {
         original: original(alloc, A)?,
@@ -174,17 +173,28 @@ fn a_queue_has_what_stands_in_it(rt: HostRuntime) -> Result<()> {
         is_granted: false,
         minute: 7,
     })?;
-    let (a, b) = (original(alloc, A)?, original(alloc, B)?);
+    Ok(queue)
+}
+
+#[test]
+fn a_queue_has_what_stands_in_it(rt: HostRuntime) -> Result<()> {
+    let queue = one_wish(rt.alloc())?;
+    let (a, b) = (original(rt.alloc(), A)?, original(rt.alloc(), B)?);
     assert_eq!(rt; (queue.len(), queue.unshown()), (1, 1));
     assert_eq!(rt; (queue.has(&a), queue.has(&b)), (true, false));
-    assert_eq!(rt;
-        (
-            queue.has_from(&a, 7),
-            queue.has_from(&a, 8),
-            queue.has_from(&b, 7)
-        ),
-        (true, false, false)
+    let from = (
+        queue.has_from(&a, 7),
+        queue.has_from(&a, 8),
+        queue.has_from(&b, 7),
     );
+    assert_eq!(rt; from, (true, false, false));
+    Ok(())
+}
+
+#[test]
+fn a_queue_grants_once_and_ends_what_it_has(rt: HostRuntime) -> Result<()> {
+    let mut queue = one_wish(rt.alloc())?;
+    let (a, b) = (original(rt.alloc(), A)?, original(rt.alloc(), B)?);
     assert!(rt; queue.grant()?.context("no wish")? == a);
     assert!(rt; queue.grant()?.is_none());
     queue.put_back(&a);
