@@ -9,7 +9,7 @@
 //! - settings: `settings` (read from TOML), `terms` (which jobs they ask for, and how these are walked), `jobs` and
 //!   `listing` (the originals, of the settings and of a file);
 //! - threads: `serving` (opens them all), `gates` (those that answer), `pool` (those that walk), `pulls` (those that
-//!   ask peers), `means` (what they share) and `runtimes` (what they ask of the program's runtime);
+//!   ask peers) and `means` (what they share);
 //! - the thread of the rounds: `making` (hands out jobs and publishes what comes), `rounds` (what one comes to),
 //!   `dues` (what is due when), `freshness` (which jobs needn't be walked), `ordering` and `clocks`;
 //! - beside rounds: `desks`, `granting` and `wished` (what readers wished for) and `keeping` (the file of what is
