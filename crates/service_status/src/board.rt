@@ -1,4 +1,6 @@
 //! A status that the thread of the rounds tells what happens, and that the status' gate shows.
+ghost use Rattle.std.specs.Prelude.{◌≡◌, IfOk, IsSome, None, is_some};
+
 use crate::counts::{PullEnd, WalkEnd, WishCounts};
 use crate::status::{KnownStatus, RoundStatus, Status};
 use memento_time::NoMemory;
@@ -13,12 +15,16 @@ pub struct StatusBoard {
 
 impl StatusBoard {
     /// A board without a status. Takes no memory.
-    pub fn closed() -> StatusBoard {
+    pub fn closed() -> StatusBoard
+        ensures { result.shared ≡ None }
+    {
         StatusBoard { shared: None }
     }
 
     /// A board with this status.
-    pub fn open(alloc: Global, status: Status) -> Result<StatusBoard, NoMemory> {
+    pub fn open(alloc: Global, status: Status) -> Result<StatusBoard, NoMemory>
+        ensures { IfOk result (λ it. IsSome it.shared) }
+    {
         let shared = Arc::new(alloc, Mutex::new(status))?;
         Ok(StatusBoard {
             shared: Some(shared),
@@ -26,7 +32,9 @@ impl StatusBoard {
     }
 
     /// Another owner of the same status.
-    pub fn share(&self) -> Result<StatusBoard, NoMemory> {
+    pub fn share(&self) -> Result<StatusBoard, NoMemory>
+        ensures { IfOk result (λ other. is_some other.shared ≡ is_some self.now.shared) }
+    {
         let shared = match &self.shared {
             Some(shared) => Some(Arc::try_clone(shared)?),
             None => None,
@@ -35,7 +43,9 @@ impl StatusBoard {
     }
 
     /// Whether there is a status.
-    pub fn is_open(&self) -> bool {
+    pub fn is_open(&self) -> bool
+        ensures { result ≡ is_some self.now.shared }
+    {
         self.shared.is_some()
     }
 

@@ -1,4 +1,6 @@
 //! Counts of replies that gates add to without a lock.
+ghost use Rattle.std.specs.Prelude.{◌≡◌, IfOk, IsSome, None, is_some};
+
 use crate::counts::ReplyCounts;
 use memento_time::NoMemory;
 use std::alloc::Global;
@@ -25,12 +27,16 @@ pub struct ReplyCounter {
 
 impl ReplyCounter {
     /// A counter that counts nothing. Takes no memory.
-    pub fn closed() -> ReplyCounter {
+    pub fn closed() -> ReplyCounter
+        ensures { result.shared ≡ None }
+    {
         ReplyCounter { shared: None }
     }
 
     /// A counter of which nothing is counted yet.
-    pub fn open(alloc: Global) -> Result<ReplyCounter, NoMemory> {
+    pub fn open(alloc: Global) -> Result<ReplyCounter, NoMemory>
+        ensures { IfOk result (λ it. IsSome it.shared) }
+    {
         let counters = Counters {
             ok: AtomicU64::new(0),
             found: AtomicU64::new(0),
@@ -47,7 +53,9 @@ impl ReplyCounter {
     }
 
     /// Another owner of the same counts.
-    pub fn share(&self) -> Result<ReplyCounter, NoMemory> {
+    pub fn share(&self) -> Result<ReplyCounter, NoMemory>
+        ensures { IfOk result (λ other. is_some other.shared ≡ is_some self.now.shared) }
+    {
         let shared = match &self.shared {
             Some(shared) => Some(Arc::try_clone(shared)?),
             None => None,

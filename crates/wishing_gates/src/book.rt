@@ -1,4 +1,6 @@
 //! The book of wishes that the gates and the thread that hands out walks share.
+ghost use Rattle.std.specs.Prelude.{◌≡◌, IfOk, IsSome, None, is_some};
+
 use memento_time::{NoMemory, Original};
 use original_sets::OriginalSet;
 use std::alloc::Global;
@@ -14,13 +16,17 @@ pub struct WishBook {
 
 impl WishBook {
     /// A book that takes no wishes. Takes no memory.
-    pub fn closed() -> WishBook {
+    pub fn closed() -> WishBook
+        ensures { result.shared ≡ None }
+    {
         WishBook { shared: None }
     }
 
     /// A book without wishes that takes them within these limits. The keys of hashes are to be secret, as readers
     /// choose originals.
-    pub fn open(alloc: Global, limits: Limits, keys: RandomState) -> Result<WishBook, NoMemory> {
+    pub fn open(alloc: Global, limits: Limits, keys: RandomState) -> Result<WishBook, NoMemory>
+        ensures { IfOk result (λ book. IsSome book.shared) }
+    {
         let wishes = Mutex::new(Wishes::new(alloc, limits, keys)?);
         let shared = Arc::new(alloc, wishes)?;
         Ok(WishBook {
@@ -29,7 +35,9 @@ impl WishBook {
     }
 
     /// Another owner of the same book.
-    pub fn share(&self) -> Result<WishBook, NoMemory> {
+    pub fn share(&self) -> Result<WishBook, NoMemory>
+        ensures { IfOk result (λ other. is_some other.shared ≡ is_some self.now.shared) }
+    {
         let shared = match &self.shared {
             Some(shared) => Some(Arc::try_clone(shared)?),
             None => None,
@@ -38,21 +46,27 @@ impl WishBook {
     }
 
     /// Whether wishes are taken.
-    pub fn is_open(&self) -> bool {
+    pub fn is_open(&self) -> bool
+        ensures { result ≡ is_some self.now.shared }
+    {
         self.shared.is_some()
     }
 
     /// Takes a wish for an original that was asked for in this second, of which something was shown or nothing. Doesn't
     /// wait: while another thread has the book, and where memory is refused, nothing is taken, and a reader who still
     /// misses the original asks again.
-    pub fn note(&self, original: Original, is_shown: bool, now: u64) -> Option<Decision> {
+    pub fn note(&self, original: Original, is_shown: bool, now: u64) -> Option<Decision>
+        ensures closed { self.now.shared ≡ None → result ≡ None }
+    {
         let shared = self.shared.as_ref()?;
         let mut wishes = shared.try_lock()?;
         wishes.wish(original, is_shown, now).ok()
     }
 
     /// Grants the oldest wish that waits: its original. It is to be put back or ended.
-    pub fn grant<R: Wait>(&self, rt: &R) -> Option<Original> {
+    pub fn grant<R: Wait>(&self, rt: &R) -> Option<Original>
+        ensures closed { self.now.shared ≡ None → result ≡ None }
+    {
         let shared = self.shared.as_ref()?;
         let mut wishes = shared.lock(rt);
         wishes.grant().ok()?
@@ -100,7 +114,9 @@ impl WishBook {
     }
 
     /// How many wishes were turned away since this was last asked, because there were as many as may be.
-    pub fn turned_away<R: Wait>(&self, rt: &R) -> u64 {
+    pub fn turned_away<R: Wait>(&self, rt: &R) -> u64
+        ensures closed { self.now.shared ≡ None → result ≡ 0 }
+    {
         match &self.shared {
             Some(shared) => shared.lock(rt).turned_away(),
             None => 0,

@@ -1,4 +1,6 @@
 //! Gates that note what their readers ask for.
+ghost use Rattle.std.specs.Prelude.{◌≡◌};
+
 use crate::book::WishBook;
 use crate::requests::asked_original;
 use hyper_edge::Answers;
@@ -35,7 +37,10 @@ fn named(target: &[u8]) -> Option<&[u8]> {
 }
 
 impl<G: Answers, R: Clock + AllocGlobal + Drop> WishingGate<G, R> {
-    pub fn new(rt: R, gate: G, book: WishBook) -> WishingGate<G, R> {
+    pub fn new(rt: R, gate: G, book: WishBook) -> WishingGate<G, R>
+        ensures gate { result.gate ≡ gate }
+        ensures book { result.book ≡ book }
+    {
         WishingGate { rt, gate, book }
     }
 
