@@ -1,5 +1,5 @@
 -- The least of numbers.
-use Rattle.std.proofs.Common.{◌≡◌, ◌⊎◌, ⊎_elim, inl, inr, ℕ, ◌<◌, ◌≤◌, true, false, List, [], ◌∷◌, All, Contains, IfSome, IsNone, Option, min, refl, sym, subst, ◌∙◌, arith, rules}
+use Rattle.std.proofs.Common.{◌≡◌, ◌⊎◌, ⊎_elim, inl, inr, ℕ, ◌<◌, ◌≤◌, List, [], ◌∷◌, All, Contains, IfSome, IsNone, Option, min, refl, sym, subst, ◌∙◌, arith, rules}
 use Rattle.std.specs.List.{fold, reduce}
 use Rattle.std.proofs.lemmas.List.Elements.{All-nil, All-cons, Contains-append_right}
 use Rattle.std.proofs.lemmas.Bool.{true≢false}

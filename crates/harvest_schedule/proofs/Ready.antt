@@ -1,6 +1,5 @@
 -- When a job may be handed out if nothing else happens.
-use Rattle.std.proofs.Common.{◌≡◌, ℕ, ◌<◌, ◌≤◌, Bool, true, false, nat_lt, Option, Some, None, IfSome, IsSome, if◌then◌else◌, max, option_map, refl, sym, subst, arith, rules}
-use Rattle.std.proofs.lemmas.Bool.Decides.{nat_tests}
+use Rattle.std.proofs.Common.{◌≡◌, ℕ, ◌≤◌, Bool, true, false, nat_lt, Option, Some, None, IfSome, IsSome, if◌then◌else◌, max, option_map, refl, sym, subst, arith, rules}
 use Rattle.std.proofs.lemmas.Bool.{false≢true, ltb-false, ltb-true}
 use Rattle.std.proofs.lemmas.Option.{none-some}
 use Rattle.harvest_schedule.specs.declared.moods.Mood.{Mood}

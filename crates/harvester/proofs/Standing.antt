@@ -1,5 +1,5 @@
 -- Records that stand for what a walk fetched.
-use Rattle.std.proofs.Common.{◌≡◌, ℕ, List, Result, Ok, Err}
+use Rattle.std.proofs.Common.{ℕ, List, Result, Ok, Err}
 use Rattle.std.specs.Prelude.{IfErr, OnOk}
 use Rattle.memento_time.specs.declared.mementos.Memento.{Memento}
 use Rattle.harvester.specs.declared.faults.FetchFault.{FetchFault}

@@ -1,9 +1,8 @@
 -- For how long answers ask to be left alone.
 use Rattle.std.proofs.Common.{◌≡◌, ◌⊎◌, inl, inr, ℕ, ◌≤◌, ◌<◌, List, [], ◌∷◌, ◌++◌, Contains, Option, Some, None, ⊎_elim, refl, sym, ap, subst, ◌∙◌, arith}
-use Rattle.std.specs.Prelude.{max, min}
-use Rattle.std.specs.Prelude.{◌-◌, ◌^◌, ◌==◌, ◌&&◌, Bool, true, false, not, cond, length, take, option_map, slice_index}
+use Rattle.std.specs.Prelude.{min}
+use Rattle.std.specs.Prelude.{◌^◌, ◌==◌, ◌&&◌, Bool, true, false, not, length, take, slice_index}
 use Rattle.std.specs.Char.{digit_value, is_ascii_digit}
-use Rattle.std.specs.Fmt.{decimal}
 use Rattle.std.specs.List.{list_all}
 use Rattle.std.specs.Str.{IsUtf8}
 use Rattle.std.specs.Str.Parse.{AllDigits, IsNumeral, digits_value, without_leading_plus}
@@ -17,7 +16,6 @@ use Rattle.std.proofs.lemmas.Option.{same_Some}
 use Rattle.memento_time.specs.BeforeEpoch.{is_before_epoch}
 use Rattle.memento_time.specs.Blanks.{trim_blanks}
 use Rattle.memento_time.specs.Names.{day_names}
-use Rattle.memento_time.specs.Second.{Asks, Reads}
 use Rattle.memento_time.specs.SecondOf.{asked_of}
 use Rattle.memento_time.proofs.SecondOfLemmas.{Asks-asked_of}
 use Rattle.memento_time.proofs.ListFacts.{no_element, first_element, first_or_later}

@@ -5,7 +5,7 @@ use Rattle.std.specs.Prelude.{T, IsTrue, ◌↔◌}
 use Rattle.std.specs.List.{list_any, filter, AllByRecursion, Contains}
 use Rattle.std.specs.List.Sorted.{IsStrictlySortedBy}
 use Rattle.std.specs.declared.cmp.Ordering.TheVariants.{Less, Equal, Greater}
-use Rattle.std.specs.Ordering.{eq_by_cmp, is_lt, is_eq, ordering_then}
+use Rattle.std.specs.Ordering.{eq_by_cmp, is_lt, ordering_then}
 use Rattle.std.specs.Cmp.{tied_itself}
 use Rattle.std.specs.Cmp.Lexicographic.{nat_list_cmp_total}
 use Rattle.std.specs.FinMap as fmap

@@ -2,14 +2,11 @@
 use Rattle.std.proofs.Common.{◌≡◌, ◌<◌, ◌≤◌, ℕ, ◌+◌, ◌-◌, ◌^◌, ◌&&◌, min, Bool, true, false, cond, List}
 use Rattle.std.proofs.Common.{[], ◌∷◌, ◌++◌, length, take, map, get_or, count_by, refl, sym, ap, ◌∙◌, arith, append_assoc, append-nil}
 use Rattle.std.specs.Prelude.{nat_lt, if◌then◌else◌}
-use Rattle.std.specs.List.{flat_map}
-use Rattle.std.proofs.lemmas.Bool.{cases_Bool, true≢false}
 use Rattle.std.proofs.lemmas.Bool.Decides.{nat_tests}
 use Rattle.std.proofs.lemmas.List.{flat_map_more, length-map, length-take, length-take-le, length_push, map-append, take_all, take_more, take-append-le}
 use Rattle.std.proofs.lemmas.List.Sums.{count_by-le-length, sum_by-append}
 use Rattle.original_list.specs.declared.rows.Listed.{Listed}
 use Rattle.original_list.specs.declared.rows.Row.{Row}
-use Rattle.original_list.specs.declared.rows.Row.TheVariants.{Blank, Named, Bad}
 use Rattle.original_list.specs.Rows.{TakesRow, bad_lines, is_bad, most_told, original_in, originals_of, row_of}
 
 -- what was read is what these rows hold

@@ -11,7 +11,6 @@ use Rattle.std.proofs.lemmas.List.Folds.{list_any-append}
 use base.Stored.{Gv, gnil, gnum, gcons}
 use Rattle.memento_index.specs.declared.merge.Merge.{Merge}
 use Rattle.memento_index.specs.Merges.{adds_of}
-use Rattle.memento_sets.specs.Maps.{join_values}
 use Rattle.memento_sets.proofs.Maps.{get-tabulate}
 use Rattle.harvest_lattice.specs.Lattice.{Key, key_cmp, Kept, Entries, coded_kept, join, join_kept}
 use Rattle.harvest_lattice.specs.Knowledge.{lat}

@@ -5,15 +5,13 @@ use Rattle.std.specs.Coded.{Coded, coded_option}
 use base.Stored.{Gv, gnil, gnum, gcons}
 use Rattle.std.specs.List.{list_any}
 use Rattle.std.specs.Ordering.{eq_by_cmp}
-use Rattle.std.specs.Cmp.{Equal-is}
 use Rattle.std.specs.FinMap as map
 use Rattle.std.proofs.lemmas.Bool.{false≢true, true≢false, cases_Bool, cases_eq, or_cases, or_parts}
 use Rattle.memento_index.specs.declared.merge.Merge.{Merge}
 use Rattle.memento_index.specs.Merges.{adds_of}
-use Rattle.memento_sets.specs.Maps.{join_values}
 use Rattle.harvest_lattice.specs.Lattice.{Key, key_cmp, Kept, join, join_kept, coded_kept}
 use Rattle.harvest_lattice.specs.Knowledge.{lat}
-use Rattle.harvest_lattice.proofs.Entries.{key_cmp_total, key_cmp_exact, get-join, none_joined}
+use Rattle.harvest_lattice.proofs.Entries.{key_cmp_total, get-join, none_joined}
 use Rattle.harvest_lattice.proofs.Knowledge.{same_key}
 use Rattle.replica_exchange.specs.Stamps.{Stamps, StampedState, IsStamped, IsRestamped, IsAbsorbed}
 use Rattle.replica_exchange.proofs.StampLemmas.{absorbed_is_stamped, stamped_at_first}

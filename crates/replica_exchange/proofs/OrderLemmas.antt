@@ -20,7 +20,7 @@ use Rattle.std.proofs.lemmas.Map.Views.{Contains-from_lookup}
 use Rattle.std.proofs.lemmas.List.{append-nil, map-append, take-append-drop, take_at, get_or-drop, get_or-take, get_or-map, map_more, length-map, length-drop, length-take-le}
 use Rattle.std.proofs.lemmas.Grind.{flat_map-append}
 use Rattle.std.proofs.lemmas.List.Elements.{All-nil, All-cons, All-head, All-tail, All-append, All-push, All-map, All-contains, Contains-append_left}
-use Rattle.std.proofs.lemmas.List.Elements.{Contains-append_right, Contains-push, Contains-push_cases, Contains-append_cases}
+use Rattle.std.proofs.lemmas.List.Elements.{Contains-append_right, Contains-append_cases}
 use Rattle.std.proofs.lemmas.List.Sorted.{IsNonDecreasingBy-push, IsNonDecreasingBy-from_default, IsPermutation-map, All-permutation, Contains-permutation}
 use Rattle.harvest_lattice.specs.declared.row.Row.{Row}
 use Rattle.harvest_lattice.specs.Lattice.{Key, key_cmp, Kept, Entries}

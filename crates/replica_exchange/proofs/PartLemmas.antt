@@ -11,10 +11,9 @@ use Rattle.memento_time.specs.Text.{IsArchiveName, IsOriginal, IsClean}
 use Rattle.memento_time.specs.Second.{IsSecond}
 use Rattle.memento_time.specs.Mementos.{IsMemento, memento_cmp}
 use Rattle.memento_time.specs.declared.mementos.Memento.{Memento}
-use Rattle.memento_time.proofs.MementoLemmas.{memento_cmp_total, memento_cmp_exact}
 use Rattle.memento_sets.specs.Sets as set
 use Rattle.memento_sets.specs.MementoSets.{Mementos, mementos_rise, mementos_with}
-use Rattle.memento_sets.proofs.Sets.{items_sorted, from_list-items}
+use Rattle.memento_sets.proofs.Sets.{items_sorted}
 use Rattle.memento_sets.proofs.Ordered.{sorted_marked, items_in_order}
 use Rattle.memento_sets.proofs.Rising.{rise_in_order, is_true}
 use Rattle.harvest_lattice.specs.Lattice.{Key, Kept, least, first_of, whole}

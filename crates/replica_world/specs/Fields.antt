@@ -1,7 +1,7 @@
 -- The lines of a script, the fields of a line, and the blocks and lines that follow it.
 use Rattle.std.specs.Prelude.{ℕ, zero, suc, Bool, ◌&&◌, ◌||◌, List, [], ◌∷◌, length, take, drop, Option, None, Some}
 use Rattle.std.specs.Prelude.{unwrap_or, nat_lt, nat_le, ◌==◌, if◌then◌else◌}
-use Rattle.std.specs.Option.{option_map, option_and_then}
+use Rattle.std.specs.Option.{option_map}
 use Rattle.std.specs.Str.{is_utf8}
 use Rattle.text_fields.specs.Decimals.{number_of}
 use Rattle.text_fields.specs.Parts.{space, line_end, parts_at}

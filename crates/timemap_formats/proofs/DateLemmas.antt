@@ -1,12 +1,10 @@
 -- The datetimes of the forms are made of the bytes of the IMF-fixdate.
-use Rattle.std.proofs.Common.{◌≡◌, ℕ, zero, suc, ◌+◌, ◌/◌, ◌%◌, ◌≤◌, ◌<◌, List, [], ◌∷◌, ◌++◌, codes, get_or, drop, length, refl, sym, ap, ◌∙◌, arith, true, lit≤}
-use Rattle.std.specs.Prelude.{All}
+use Rattle.std.proofs.Common.{◌≡◌, ℕ, zero, suc, ◌+◌, ◌/◌, ◌%◌, ◌≤◌, ◌<◌, List, [], ◌∷◌, ◌++◌, codes, get_or, drop, refl, sym, ap, ◌∙◌, arith, true, lit≤}
 use Rattle.std.specs.List.{list_all}
 use Rattle.std.specs.Int.{IsInRange}
 use Rattle.std.proofs.lemmas.Bool.Decides.{nat_tests}
 use Rattle.std.proofs.lemmas.List.Folds.{list_all-append}
 use Rattle.httpdate.specs.declared.parts.Parts.{Parts}
-use Rattle.httpdate.specs.Calendar.{days_in_month}
 use Rattle.httpdate.specs.Valid.{IsValid}
 use Rattle.httpdate.specs.Text.{day_name, month_name, two_digits, four_digits, imf_fixdate, time_of_day}
 use Rattle.memento_time.specs.Civil.{civil_time}

@@ -1,6 +1,6 @@
 -- The text of a listing in JSON reads back as the value.
-use Rattle.std.proofs.Common.{◌≡◌, ◌⊎◌, ℕ, zero, suc, ◌+◌, ◌*◌, ◌-◌, ◌≤◌, Bool, true, false, List, [], ◌∷◌, ◌++◌}
-use Rattle.std.proofs.Common.{length, map, codes, refl, sym, ap, subst, ◌∙◌, arith, append_assoc, append-nil, inl, inr, Some, None, Option}
+use Rattle.std.proofs.Common.{◌≡◌, ℕ, zero, suc, ◌*◌, ◌≤◌, Bool, true, false, List, [], ◌∷◌, ◌++◌}
+use Rattle.std.proofs.Common.{map, codes, refl, sym, ap, subst, ◌∙◌, arith, append_assoc, append-nil, inl, inr, Some, None, Option}
 use Rattle.std.specs.Prelude.{replicate, if◌then◌else◌}
 use Rattle.std.specs.Option.{option_map, option_and_then}
 use Rattle.json.specs.Token.{Token, begin_object, end_object, begin_array, end_array, key, string, number, boolean, null, bad}
@@ -19,8 +19,8 @@ use Rattle.memento_time.specs.declared.mementos.Memento.{Memento}
 use Rattle.timemap_formats.specs.declared.listing.Row.{Row}
 use Rattle.timemap_formats.specs.declared.listing.Row.TheVariants.{OfMemento, OfPage}
 use Rattle.timemap_formats.specs.declared.listing.Listing.{Listing}
-use Rattle.timemap_formats.specs.Addresses.{timegate_at, itself_at}
-use Rattle.timemap_formats.specs.Json.{memento_json, memento_items, page_items, memento_member, first_of, last_of, is_index, mementos_json, listed_member, last_members, json_of, json_text}
+use Rattle.timemap_formats.specs.Addresses.{itself_at}
+use Rattle.timemap_formats.specs.Json.{memento_items, page_items, memento_member, first_of, last_of, is_index, mementos_json, listed_member, last_members, json_of, json_text}
 use Rattle.timemap_formats.specs.Readback.{mementos_of, all_in, array_in, mementos_in, as_found}
 
 -- ---- the layout has the tokens

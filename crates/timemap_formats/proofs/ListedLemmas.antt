@@ -1,5 +1,5 @@
 -- What the texts of `timemap_writer` list.
-use Rattle.std.proofs.Common.{◌≡◌, ℕ, ◌+◌, ◌-◌, ◌==◌, Bool, true, false, List, [], ◌∷◌, ◌++◌, drop, take, length, codes, refl, sym, ap, ◌∙◌, arith, append_assoc, Some, None, Option}
+use Rattle.std.proofs.Common.{◌≡◌, ℕ, ◌-◌, ◌==◌, Bool, true, false, List, [], ◌∷◌, ◌++◌, drop, take, length, codes, refl, ap, ◌∙◌, arith, append_assoc, Some, None, Option}
 use Rattle.std.specs.Prelude.{All, bytes_eq, nat_eq, if◌then◌else◌}
 use Rattle.std.specs.List.{starts_with}
 use Rattle.std.specs.Option.{option_map, option_and_then}
@@ -7,7 +7,6 @@ use Rattle.std.proofs.Math.Seq.{drop-append_seam, take-append_seam}
 use Rattle.std.proofs.lemmas.List.{length-append}
 use Rattle.std.proofs.lemmas.List.Elements.{All-head, All-tail}
 use Rattle.std.proofs.lemmas.Slice.Eq.{bytes_eq-Decides}
-use Rattle.link_format.specs.Grammar.{Link}
 use Rattle.memento_time.specs.declared.mementos.Memento.{Memento}
 use Rattle.memento_time.specs.Mementos.{IsMemento}
 use Rattle.memento_time.specs.Second.{imf}
@@ -17,7 +16,6 @@ use Rattle.memento_time.proofs.SecondOfLemmas.{second_of-Reads}
 use Rattle.timemap_writer.specs.TimeMap.{memento_relations, memento_link, memento_links, timemap_links}
 use Rattle.timemap_formats.specs.declared.listing.Row.{Row}
 use Rattle.timemap_formats.specs.declared.listing.Row.TheVariants.{OfMemento}
-use Rattle.timemap_formats.specs.declared.listing.Listing.{Listing}
 use Rattle.timemap_formats.specs.Listing.{clean_at, behind, before, second_at, ends_of, memento_row, page_row, row_of, with_row}
 use Rattle.timemap_formats.specs.Listing.{rows_of, front_at, head_by, head_on, place_at, base_at, head_of, with_rows, listing_below, listing_of}
 use Rattle.timemap_formats.specs.Readback.{memento_rows, mementos_of, timemap_listing}

@@ -1,6 +1,6 @@
 -- Lemmas of what a text lists.
-use Rattle.std.proofs.Common.{◌≡◌, ℕ, zero, suc, ◌+◌, ◌-◌, ◌≤◌, ◌<◌, Bool, true, false, ◌&&◌, nat_lt, nat_le, List, []}
-use Rattle.std.proofs.Common.{◌∷◌, ◌++◌, drop, take, length, refl, sym, ap, subst, ◌∙◌, arith, Some, None, Ok, Err, Option, append_assoc}
+use Rattle.std.proofs.Common.{◌≡◌, ℕ, zero, suc, ◌≤◌, ◌<◌, Bool, true, false, ◌&&◌, nat_lt, nat_le, List, []}
+use Rattle.std.proofs.Common.{◌∷◌, ◌++◌, drop, length, refl, sym, ap, subst, ◌∙◌, arith, Some, None, Ok, Err, Option, append_assoc}
 use Rattle.std.specs.Prelude.{if◌then◌else◌, IfOk, Result}
 use Rattle.std.specs.List.{list_all, slice_get}
 use Rattle.std.specs.Option.{option_map}
@@ -8,11 +8,11 @@ use Rattle.std.proofs.lemmas.Bool.{and_parts}
 use Rattle.std.proofs.lemmas.Bool.Decides.{nat_tests}
 use Rattle.std.proofs.lemmas.List.{append-nil}
 use Rattle.std.proofs.lemmas.Option.{same_Some, none-some}
-use Rattle.link_format.specs.Grammar.{Link, Reading}
+use Rattle.link_format.specs.Grammar.{Link}
 use Rattle.link_format.specs.Limits.{IsAnswer}
 use Rattle.link_format.specs.declared.fault.LinkFault.{LinkFault}
 use Rattle.link_format.specs.declared.fault.LinkFault.TheVariants.{NotLinkFormat, TooManyLinks, TooManyParams, TargetTooLong, NoMemory}
-use Rattle.link_format.proofs.Complete.{reading_complete, one_reading}
+use Rattle.link_format.proofs.Complete.{one_reading}
 use Rattle.memento_time.specs.Text.{IsClean, is_clean_byte}
 use Rattle.memento_time.proofs.CleanLemmas.{clean_bytes, are_clean}
 use Rattle.timemap_formats.specs.declared.listing.Row.{Row}

@@ -5,7 +5,6 @@ use Rattle.json.specs.Json.{Json, string, array, object, Items, no_items, item, 
 use Rattle.json.specs.Layout.{pretty}
 use Rattle.json.specs.Tree.{json_tokens}
 use Rattle.memento_time.specs.declared.mementos.Memento.{Memento}
-use Rattle.timemap_formats.specs.declared.listing.Ends.{Ends}
 use Rattle.timemap_formats.specs.declared.listing.PageLink.{PageLink}
 use Rattle.timemap_formats.specs.declared.listing.Row.{Row}
 use Rattle.timemap_formats.specs.declared.listing.Row.TheVariants.{OfMemento, OfPage}

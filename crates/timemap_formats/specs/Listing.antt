@@ -1,5 +1,5 @@
 -- What a text that lists mementos in link-format says: a TimeMap, the index of its pages, or a page.
-use Rattle.std.specs.Prelude.{◌≡◌, ℕ, ◌+◌, ◌-◌, Bool, true, false, ◌&&◌, nat_lt, nat_le, nat_eq, List, [], ◌∷◌, ◌++◌}
+use Rattle.std.specs.Prelude.{◌≡◌, ℕ, ◌-◌, true, false, ◌&&◌, nat_lt, nat_le, nat_eq, List, [], ◌∷◌, ◌++◌}
 use Rattle.std.specs.Prelude.{length, take, drop, codes, bytes_eq, Option, None, Some, Ok, if◌then◌else◌}
 use Rattle.std.specs.List.{starts_with, list_all}
 use Rattle.std.specs.Option.{option_map, option_and_then}
@@ -9,7 +9,6 @@ use Rattle.link_format.specs.Values.{first_value}
 use Rattle.memento_time.specs.Text.{is_clean_byte}
 use Rattle.memento_time.specs.SecondOf.{second_of}
 use Rattle.timemap_formats.specs.declared.listing.Ends.{Ends}
-use Rattle.timemap_formats.specs.declared.listing.PageLink.{PageLink}
 use Rattle.timemap_formats.specs.declared.listing.Row.{Row}
 use Rattle.timemap_formats.specs.declared.listing.Row.TheVariants.{OfMemento, OfPage}
 use Rattle.timemap_formats.specs.declared.listing.Listing.{Listing}

@@ -1,5 +1,5 @@
 -- What readers find in the texts.
-use Rattle.std.specs.Prelude.{◌≡◌, ℕ, Bool, true, false, List, [], ◌∷◌, ◌++◌, length, ◌==◌, codes, Option, None, Some, map}
+use Rattle.std.specs.Prelude.{ℕ, Bool, true, false, List, [], ◌∷◌, length, ◌==◌, codes, Option, None, Some}
 use Rattle.std.specs.Option.{option_map, option_and_then}
 use Rattle.json.specs.Json.{Json, null, boolean, number, string, array, object, Items, no_items, item, document}
 use Rattle.json.specs.Find.{get}

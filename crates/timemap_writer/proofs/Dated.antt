@@ -1,11 +1,11 @@
 -- Which links of a TimeMap and of its pages have a datetime: those to mementos.
-use Rattle.std.proofs.Common.{◌≡◌, ℕ, ◌+◌, ◌-◌, ◌*◌, ◌<◌, ◌==◌, Bool, true, false, not, ◌&&◌, List, [], ◌∷◌, ◌++◌, length, drop, codes, Option, Some, None}
+use Rattle.std.proofs.Common.{◌≡◌, ℕ, ◌-◌, ◌==◌, Bool, true, false, not, ◌&&◌, List, [], ◌∷◌, ◌++◌, length, codes, Option, Some, None}
 use Rattle.std.proofs.Common.{refl, ap, sym, subst, ◌∙◌, arith}
-use Rattle.std.specs.Prelude.{nat_lt, slice_get, bytes_eq, Contains}
-use Rattle.std.specs.List.{flat_map, list_any, filter}
+use Rattle.std.specs.Prelude.{slice_get, bytes_eq, Contains}
+use Rattle.std.specs.List.{flat_map, list_any}
 use Rattle.memento_time.specs.declared.mementos.Memento.{Memento}
 use Rattle.link_format.specs.Grammar.{Link}
-use Rattle.timemap_writer.specs.TimeMap.{datetime_of, period, memento_link, memento_links, timemap_link, timemap_address, head_links, timemap_links}
+use Rattle.timemap_writer.specs.TimeMap.{datetime_of, memento_link, memento_links, timemap_link, timemap_address, head_links, timemap_links}
 use Rattle.timemap_writer.specs.Pages.{stretch, stretch_links, numbers, page_address, page_link, page_links, has_datetime, memento_lines, of_itself}
 use Rattle.timemap_writer.proofs.Stretches.{all_lines, lines_taken, whole_lines}
 

@@ -1,6 +1,6 @@
 -- Elements of lists by their places.
 use Rattle.std.proofs.Common.{◌≡◌, ◌<◌, ℕ, zero, suc, Bool, true, List, [], ◌∷◌, ◌++◌, length, map, take, drop, set, get_or, sym, ap, ◌∙◌, arith}
-use Rattle.std.specs.Prelude.{Some, None, Option, position, slice_get}
+use Rattle.std.specs.Prelude.{Some, position, slice_get}
 use Rattle.std.proofs.lemmas.List.Quantifiers.{position-Some}
 
 module _ {X : Type 0} where

@@ -1,12 +1,12 @@
 -- Lists of wishes of which none is for the same original as another.
-use Rattle.std.proofs.Common.{◌≡◌, ℕ, suc, zero, Bool, true, false, not, ◌&&◌, ◌||◌, List, [], ◌∷◌, ◌++◌, length, cond, refl, sym, ap, subst, ◌∙◌}
+use Rattle.std.proofs.Common.{◌≡◌, ℕ, suc, zero, Bool, true, false, not, ◌&&◌, ◌||◌, List, [], ◌∷◌, ◌++◌, cond, refl, sym, ap, ◌∙◌}
 use Rattle.std.specs.Prelude.{bytes_eq, filter, slice_get, slice_set, Some}
 use Rattle.std.proofs.Math.Bool.{or-false}
 use Rattle.std.proofs.lemmas.Bool.{and_parts, or_parts, true≢false, false_from_ne_true, not-true}
 use Rattle.std.proofs.lemmas.Slice.Eq.{bytes_eq-Decides}
 use Rattle.std.proofs.lemmas.List.Folds.{list_any-append}
 use Rattle.wish_list.specs.declared.queue.Wish.{Wish}
-use Rattle.wish_list.specs.Queue.{are_distinct, with_grant, is_of, isnt_of, stands}
+use Rattle.wish_list.specs.Queue.{are_distinct, with_grant, is_of, stands}
 
 -- two texts that differ do so in either order
 apart : (x y : List ℕ) → bytes_eq y x ≡ false → bytes_eq x y ≡ false

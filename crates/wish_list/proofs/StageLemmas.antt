@@ -1,6 +1,6 @@
 -- How often archives are asked.
-use Rattle.std.proofs.Common.{◌≡◌, ◌⊎◌, ℕ, suc, zero, ◌+◌, Bool, true, false, List, [], ◌∷◌, refl, sym, ap, inl, inr, arith, map}
-use Rattle.std.specs.Prelude.{◌==◌, Option, Some, None, slice_get, slice_set, if◌then◌else◌}
+use Rattle.std.proofs.Common.{◌≡◌, ℕ, suc, zero, ◌+◌, Bool, true, false, List, [], ◌∷◌, refl, sym, ap, inl, inr, arith, map}
+use Rattle.std.specs.Prelude.{◌==◌, slice_get, slice_set, if◌then◌else◌}
 use Rattle.std.proofs.lemmas.Bool.{true≢false, cases_eq, false_from_ne_true}
 use Rattle.std.proofs.lemmas.Bool.Decides.{Decides-eqb}
 use Rattle.wish_list.specs.declared.stages.Stage.{Stage}

@@ -1,5 +1,5 @@
 -- The jobs of granted wishes.
-use Rattle.std.specs.Prelude.{◌≡◌, ℕ, Bool, true, false, List, map, Option, None, Some, MatchOption, is_some, bytes_eq, position, remove, slice_get, slice_set}
+use Rattle.std.specs.Prelude.{◌≡◌, ℕ, Bool, false, List, map, Some, MatchOption, is_some, bytes_eq, position, remove, slice_get, slice_set}
 use Rattle.wish_list.specs.declared.jobs.Granted.{Granted}
 use Rattle.wish_list.specs.declared.jobs.Ended.{Ended}
 use Rattle.wish_list.specs.Stages as stages

@@ -1,5 +1,5 @@
 -- Wishes that wait to be granted, and those that were granted and aren't over.
-use Rattle.std.specs.Prelude.{◌≡◌, ℕ, ◌≤◌, Bool, true, false, not, ◌&&◌, ◌==◌, List, [], ◌∷◌, length, map, position, bytes_eq, slice_get, slice_set, Option, Some, None, MatchOption}
+use Rattle.std.specs.Prelude.{◌≡◌, ℕ, ◌≤◌, Bool, true, false, not, ◌&&◌, ◌==◌, List, [], ◌∷◌, length, position, bytes_eq, slice_get, slice_set, Some, MatchOption}
 use Rattle.std.specs.List.{list_any}
 use Rattle.wish_list.specs.declared.queue.Wish.{Wish}
 

@@ -1,14 +1,10 @@
-use Rattle.std.proofs.Common.{◌≡◌, ℕ, ◌-◌, ◌^◌, ◌<◌, ◌≤◌, List, [], ◌∷◌, Option, Some, cond, refl, sym, ap, ◌∙◌, arith}
-use Rattle.std.specs.Prelude.{min, option_map, unwrap_or}
+use Rattle.std.proofs.Common.{◌≡◌, ℕ, ◌-◌, ◌^◌, ◌<◌, ◌≤◌, List, [], ◌∷◌, Some, ap, arith}
+use Rattle.std.specs.Prelude.{option_map}
 use Rattle.std.specs.Fmt.{decimal}
-use Rattle.std.specs.Str.Parse.{digits_value}
 use Rattle.std.proofs.lemmas.Fmt.{decimal_is_IsNumeral_wide}
-use Rattle.memento_time.specs.Blanks.{trim_blanks}
-use Rattle.memento_time.specs.Second.{IsSecond, imf, Reads}
+use Rattle.memento_time.specs.Second.{Reads}
 use Rattle.memento_time.specs.SecondOf.{asked_of}
-use Rattle.memento_time.proofs.SecondOfLemmas.{asked_of-Asks}
-use Rattle.memento_time.proofs.ReadLemmas.{Reads-imf}
-use Rattle.harvester.specs.Patience.{is_number, patience_named, seconds_named}
+use Rattle.harvester.specs.Patience.{patience_named, seconds_named}
 use Rattle.harvester.proofs.Waits.{no_number, number_tested}
 use Rattle.harvester.proofs.laws.patience_is_read_back.Goals as goal
 

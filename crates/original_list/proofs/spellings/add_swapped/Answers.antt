@@ -2,7 +2,7 @@ use Rattle.std.proofs.Common.{◌≡◌, ◌++◌, ◌∷◌, [], ℕ, Bool, tru
 use Rattle.std.specs.Prelude.{filter, if◌then◌else◌}
 use Rattle.std.proofs.lemmas.Grind.{common_steps}
 use Rattle.std.proofs.lemmas.List.Elements.{filter-append}
-use Rattle.original_list.specs.Spellings.{is_itself, may_swap, swapped_spellings, text_of}
+use Rattle.original_list.specs.Spellings.{is_itself, swapped_spellings, text_of}
 use Rattle.original_list.proofs.spellings.add_swapped.Goals as goal
 
 pub returns : goal.returns

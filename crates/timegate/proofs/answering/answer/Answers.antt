@@ -1,9 +1,7 @@
-use Rattle.std.proofs.Common.{◌≡◌, subst, Result, Ok, Err}
-use Rattle.std.specs.Prelude.{IfOk, OnOk}
+use Rattle.std.proofs.Common.{◌≡◌, subst}
+use Rattle.std.specs.Prelude.{IfOk}
 use Rattle.harvest_lattice.specs.Knowledge.{shown_of}
 use Rattle.harvest_lattice.proofs.Outcomes.{on_ok_always}
-use Rattle.memento_time.specs.declared.faults.NoMemory.{NoMemory}
-use Rattle.timegate.specs.declared.reply.Reply.{Reply}
 use Rattle.timegate.specs.declared.route.Route.{Route}
 use Rattle.timegate.specs.Reply.{reply_of, reply_at}
 use Rattle.timegate.specs.Route.{route_of}

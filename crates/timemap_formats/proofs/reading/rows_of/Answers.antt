@@ -1,4 +1,4 @@
-use Rattle.std.proofs.Common.{sym, ◌∙◌, ◌+◌, refl, arith}
+use Rattle.std.proofs.Common.{sym, ◌∙◌, ◌+◌, arith}
 use Rattle.timemap_formats.proofs.ReadingLemmas.{row_more, no_row, rows_end}
 use Rattle.timemap_formats.proofs.reading.rows_of.Goals as goal
 

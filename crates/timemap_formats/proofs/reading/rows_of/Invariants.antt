@@ -1,4 +1,4 @@
-use Rattle.std.proofs.Common.{◌≡◌, ◌≤◌, ◌++◌, drop, length}
+use Rattle.std.proofs.Common.{◌≡◌, ◌≤◌, ◌++◌, drop}
 use Rattle.std.specs.Option.{option_map}
 use Rattle.timemap_formats.specs.Listing.{rows_of}
 use Rattle.timemap_formats.proofs.reading.rows_of.Given as goal

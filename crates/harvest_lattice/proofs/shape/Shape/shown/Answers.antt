@@ -1,4 +1,4 @@
-use Rattle.std.proofs.Common.{◌≡◌, sym, ap, ◌∙◌}
+use Rattle.std.proofs.Common.{sym, ap, ◌∙◌}
 use Rattle.std.specs.Arc.{arc_value}
 use Rattle.harvest_lattice.specs.Knowledge.{mementos_of}
 use Rattle.harvest_lattice.specs.Shapes.{kept_by}

@@ -1,4 +1,4 @@
-use Rattle.std.proofs.Common.{List, [], ◌∷◌, ◌++◌, Option, ℕ, sym, subst}
+use Rattle.std.proofs.Common.{[], ◌∷◌, ◌++◌, Option, ℕ, sym, subst}
 use Rattle.harvester.specs.Patience.{IsLongestAsked}
 use Rattle.harvester.proofs.Waits.{longest_with}
 use Rattle.harvester.proofs.records.AskedRecord.add.Goals as goal

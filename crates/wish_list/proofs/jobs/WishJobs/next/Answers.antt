@@ -1,4 +1,4 @@
-use Rattle.std.proofs.Common.{◌≡◌, ℕ, List, Option, Some, None, true, sym, ap, subst, ◌∙◌}
+use Rattle.std.proofs.Common.{◌≡◌, ℕ, List, Option, Some, None, sym, ap, subst, ◌∙◌}
 use Rattle.std.specs.Prelude.{IfSome, is_some, position}
 use Rattle.std.proofs.lemmas.Bool.{true≢false}
 use Rattle.wish_list.specs.declared.jobs.Granted.{Granted}

@@ -1,4 +1,4 @@
-use Rattle.std.proofs.Common.{◌≡◌, ◌<◌, ℕ, List, Some, length, true, sym, ap, subst, ◌∙◌, arith, length-set}
+use Rattle.std.proofs.Common.{◌≡◌, List, Some, true, sym, ap, subst, ◌∙◌, arith, length-set}
 use Rattle.std.specs.Prelude.{position, slice_get, slice_set}
 use Rattle.wish_list.specs.declared.queue.Wish.{Wish}
 use Rattle.wish_list.specs.Queue.{with_grant, is_waiting}

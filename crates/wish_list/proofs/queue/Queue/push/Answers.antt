@@ -1,4 +1,4 @@
-use Rattle.std.proofs.Common.{◌≡◌, ℕ, List, length, true, false, sym, ap, subst, arith}
+use Rattle.std.proofs.Common.{◌≡◌, List, length, true, false, sym, ap, subst, arith}
 use Rattle.wish_list.specs.declared.queue.Wish.{Wish}
 use Rattle.wish_list.specs.Queue.{are_distinct, stands}
 use Rattle.wish_list.proofs.QueueLemmas.{append_distinct}
