@@ -79,13 +79,13 @@ fn a_wish_is_granted_and_put_back(rt: HostRuntime) -> Result<()> {
 fn what_was_looked_after_is_fresh(rt: HostRuntime) -> Result<()> {
     let (a, b) = (original(rt.alloc(), A)?, original(rt.alloc(), B)?);
     let mut wishes = no_wishes(&rt)?;
-    wishes.note(&a, false, true, 70)?;
-    wishes.note(&b, false, false, 70)?;
+    wishes.note(&a, false, true, 2_000)?;
+    wishes.note(&b, false, false, 2_000)?;
     let made = [
-        (A, false, 1_069),
-        (A, false, 1_070),
-        (B, false, 69 + RETRY),
-        (B, false, 70 + RETRY),
+        (B, false, 1_999 + RETRY),
+        (B, false, 2_000 + RETRY),
+        (A, false, 2_999),
+        (A, false, 3_000),
     ];
     assert_eq!(rt;
         decide(rt.alloc(), &mut wishes, &made)?.as_slice(),
