@@ -1,5 +1,5 @@
 -- Which entry of settings is no original.
-use Rattle.std.specs.Prelude.{◌≡◌, ℕ, List, Option, Some, codes}
+use Rattle.std.specs.Prelude.{◌≡◌, ℕ, List, Some, codes}
 use Rattle.toml.specs.Data.{Members, get_member}
 use Rattle.toml.specs.Parse.{parse_document}
 use Rattle.original_list.specs.Entries.{bad_entry}

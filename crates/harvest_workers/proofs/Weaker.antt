@@ -1,5 +1,5 @@
 -- An outcome under relations is one under all that allow more.
-use Rattle.std.proofs.Common.{◌≡◌, ◌≢◌, ◌⊎◌, ⊎_elim, inl, inr, ℕ, List, Contains, Option, Result, Ok, Err}
+use Rattle.std.proofs.Common.{⊎_elim, inl, inr, ℕ, List, Option, Result, Ok, Err}
 use Rattle.harvest_lattice.specs.Knowledge.{Harvested}
 use Rattle.harvester.specs.declared.faults.FetchFault.{FetchFault}
 use Rattle.harvester.specs.declared.faults.WalkFault.{WalkFault}
@@ -10,9 +10,8 @@ use Rattle.harvester.specs.declared.jobs.Job.{Job}
 use Rattle.harvester.specs.Answers.{Entry}
 use Rattle.harvester.specs.Closure.{IsComplete, IsLost, IsUnanswered, Lost}
 use Rattle.harvester.specs.Tries.{Came, Good, Failing, Unanswered, HasCome, Try}
-use Rattle.harvester.specs.Walks.{AreGiven, EndsIn, IsOutcome, IsReached}
+use Rattle.harvester.specs.Walks.{EndsIn, IsReached}
 use Rattle.harvest_workers.specs.Allowing.{Allows}
-use Rattle.harvester.specs.Patience.{IsLongestAsked}
 use Rattle.harvester.specs.Unkept.{Comes}
 
 came : (faults failed : List ℕ → FetchFault → Type 0) → ((url : List ℕ) (f : FetchFault) → failed url f → faults url f)

@@ -1,13 +1,9 @@
 -- A TimeGate or a TimeMap isn't found exactly where nothing is shown.
-use Rattle.std.proofs.Common.{◌≡◌, ℕ, ◌↔◌, ◌==◌, Bool, true, false, length, List, [], ◌∷◌, Option, Some, None, refl, ap, sym, subst, ◌∙◌, arith}
+use Rattle.std.proofs.Common.{◌≡◌, ℕ, ◌↔◌, ◌==◌, Bool, true, false, length, List, [], ◌∷◌, Option, Some, None, refl, ap, subst, arith}
 use Rattle.std.specs.Prelude.{MatchOption, if◌then◌else◌}
-use Rattle.std.specs.List.{list_any}
-use Rattle.std.specs.Ordering.{eq_by_cmp}
-use Rattle.std.specs.FinMap.{contains_key-keys}
 use Rattle.std.proofs.lemmas.Bool.{true≢false, false_from_ne_true}
 use Rattle.std.proofs.lemmas.Bool.Decides.{Decides-eqb}
 use Rattle.std.proofs.lemmas.Option.{none-some}
-use Rattle.memento_time.specs.Mementos.{memento_cmp}
 use Rattle.memento_time.specs.declared.mementos.Memento.{Memento}
 use Rattle.memento_sets.specs.Sets as set
 use Rattle.memento_sets.specs.MementoSets.{Mementos}
@@ -22,7 +18,7 @@ use Rattle.timegate.specs.declared.route.Route.TheVariants.{BadMethod, State, De
 use Rattle.timegate.specs.Route.{route_of}
 use Rattle.timegate.specs.Reply.{reply_at, reply_of, redirect, timemap, choice_at}
 use Rattle.timegate.proofs.Replies.{nothing_in}
-use Rattle.wishing_gates.specs.Asked.{IsAbsentWhereNothingIsShown, asked_in, is_page, list_in}
+use Rattle.wishing_gates.specs.Asked.{IsAbsentWhereNothingIsShown, is_page, list_in}
 
 -- a memento can be chosen exactly where one is shown
 chosen : (ms : Mementos) (asked : Option ℕ) → MatchOption (choice_at ms asked) (set.items ms ≡ []) (λ m. set.contains ms m ≡ true)

@@ -1,13 +1,13 @@
 -- What a request wishes for, by the front of its target.
 use Rattle.std.proofs.Common.{◌≡◌, ◌⊎◌, ℕ, Bool, true, false, not, ◌&&◌, ◌||◌, List, [], ◌∷◌, ◌++◌, length, drop, Option, None, Some, refl, sym, ap, ◌∙◌, inl, inr}
-use Rattle.std.specs.Prelude.{bytes_eq, codes, is_some, nat_eq, if◌then◌else◌}
+use Rattle.std.specs.Prelude.{codes, is_some, nat_eq, if◌then◌else◌}
 use Rattle.std.specs.List.{starts_with}
 use Rattle.std.proofs.lemmas.Bool.{cases_Bool, true≢false}
 use Rattle.std.proofs.lemmas.Slice.Eq.{bytes_eq-Decides}
 use Rattle.memento_time.specs.SecondOf.{asked_of}
 use Rattle.timegate.specs.declared.request.Request.{Request}
 use Rattle.timegate.specs.declared.route.Route.{Route}
-use Rattle.timegate.specs.declared.route.Route.TheVariants.{BadMethod, State, Delta, NoRoute, BadOriginal, BadDatetime, TimeGate, TimeMap, Page}
+use Rattle.timegate.specs.declared.route.Route.TheVariants.{BadMethod, State, Delta, NoRoute, TimeMap}
 use Rattle.timegate.specs.Route.{cursor_at, datetime_route, delta_route, deltas, is_delta, is_get, is_head, is_state, is_timegate, is_timemap, is_whole_delta, listing_route}
 use Rattle.timegate.specs.Route.{map_route, number_and_rest, original_at, original_route, page_in, page_part, route_of, slash, timegate_route, timegates, timemaps}
 use Rattle.text_fields.specs.Parts.{parts_at}

@@ -1,9 +1,9 @@
-use Rattle.std.proofs.Common.{◌≡◌, ◌||◌, ℕ, Bool, true, false, List, Option, drop, sym, ap, subst, ◌∙◌, arith}
+use Rattle.std.proofs.Common.{◌≡◌, ℕ, true, false, List, Option, drop, sym, ap, subst, ◌∙◌, arith}
 use Rattle.std.specs.Prelude.{IfOk, nat_eq}
 use Rattle.std.specs.List.{starts_with}
 use Rattle.std.proofs.lemmas.Grind.{common_steps}
-use Rattle.timegate.specs.Route.{is_get, is_head, is_timegate, timegates}
-use Rattle.wishing_gates.specs.Asked.{asked_in, gate_original, is_page, listing_original}
+use Rattle.timegate.specs.Route.{is_timegate, timegates}
+use Rattle.wishing_gates.specs.Asked.{gate_original, is_page, listing_original}
 use Rattle.wishing_gates.proofs.AskedLemmas.{asked-gate, asked-listing, asked-refused}
 use Rattle.wishing_gates.proofs.requests.asked_original.Goals as goal
 
