@@ -6,7 +6,7 @@ use Rattle.harvest_schedule.specs.declared.moods.Limits.{Limits}
 use Rattle.harvest_schedule.specs.declared.moods.Pace.{Pace}
 use Rattle.harvest_schedule.specs.Moods.{SleepsAt}
 use Rattle.harvest_schedule.specs.Standing.{Standing, walks}
-use Rattle.harvest_schedule.specs.Lanes.{fresh, job_by, job_of}
+use Rattle.harvest_schedule.specs.Lanes.{new_standing, job_by, job_of}
 use Rattle.harvest_schedule.specs.Steps.{Act, after_act}
 use Rattle.harvest_schedule.specs.Runs.{AllFair, AllFew, AllRest, HasBegun, IsFair, IsOneRound, Leads, begins, comes, count_of, ends, finishes, hands, passes, settles, times}
 use Rattle.harvest_schedule.proofs.Acts.{Moves, Walks, moves, walks_by}
@@ -173,7 +173,7 @@ outs limits (act ∷ acts) s t leads =
 
 pub all_few : AllFew
 all_few limits originals pace acts s leads =
-    let o : Out acts (fresh originals pace) s = outs limits acts (fresh originals pace) s leads in
+    let o : Out acts (new_standing originals pace) s = outs limits acts (new_standing originals pace) s leads in
     let b = o.balance in
     let f = o.few (omega arith) in
     let same : s.pace.at_once ≡ pace.at_once = ap (λ (p : Pace). p.at_once) o.pace in

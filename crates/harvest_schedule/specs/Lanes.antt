@@ -9,8 +9,8 @@ use Rattle.harvest_schedule.specs.Moods as moods
 use Rattle.harvest_schedule.specs.Standing.{Standing, walks}
 
 -- an archive of which nothing was asked yet
-abbrev pub fresh : ℕ → Pace → Standing
-fresh originals pace = record {
+abbrev pub new_standing : ℕ → Pace → Standing
+new_standing originals pace = record {
   pace = pace;
   originals = originals;
   next = 0;

@@ -7,7 +7,7 @@ use Rattle.harvest_schedule.specs.declared.moods.Mood.TheVariants.{Awake, Aside,
 use Rattle.harvest_schedule.specs.declared.moods.Verdict.TheVariants.{Answered, Failed, Unknown, Busy}
 use Rattle.harvest_schedule.specs.Moods.{SleepsAt, comes_again, later}
 use Rattle.harvest_schedule.specs.Standing.{Standing, walks}
-use Rattle.harvest_schedule.specs.Lanes.{IsOver, IsReady, after_begin, fresh, left_of, time_after}
+use Rattle.harvest_schedule.specs.Lanes.{IsOver, IsReady, after_begin, new_standing, left_of, time_after}
 use Rattle.harvest_schedule.specs.Steps.{Act, Begun, Can, Does, Ended, Handed, Passed, WalkBegun, WalkEnded, after_act}
 
 -- a call that changed something: something happened to an archive, or a new round began for all
@@ -185,7 +185,7 @@ pub record AreFew (acts : List Act) (s : Standing) : Type 0 where
 
 abbrev pub AllFew : Type 0
 AllFew = (limits : Limits) (originals : ℕ) (pace : Pace) (acts : List Act) (s : Standing)
-    → Leads limits acts (fresh originals pace) s → AreFew acts s × (s.pace ≡ pace)
+    → Leads limits acts (new_standing originals pace) s → AreFew acts s × (s.pace ≡ pace)
 
 -- ---- times
 

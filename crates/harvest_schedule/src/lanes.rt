@@ -1,7 +1,7 @@
 //! Lanes: what is left to ask of one archive, what is out, and when it may be asked.
 ghost use Rattle.std.specs.Prelude.{◌≡◌, ◌↔◌, ◌+◌, ◌<◌, ◌==◌, Contains, vec_len, IfOk, IsSome, IsTrue, Some, [], if◌then◌else◌, position};
 ghost use Rattle.std.specs.Vec.{vec_capacity};
-ghost use Rattle.harvest_schedule.specs.Lanes.{IsDormant, IsOver, IsReady, MayWalk, after_advance, after_begin, after_end, fresh, after_handing};
+ghost use Rattle.harvest_schedule.specs.Lanes.{IsDormant, IsOver, IsReady, MayWalk, after_advance, after_begin, after_end, new_standing, after_handing};
 ghost use Rattle.harvest_schedule.specs.Lanes.{job_of, left_of, time_after, walk_begun, walk_ended, walk_from, without};
 ghost use Rattle.harvest_schedule.specs.Standing.{walks};
 ghost use Rattle.harvest_schedule.specs.Steps.{Can, Ended, Handed, Passed, WalkBegun, WalkEnded};
@@ -82,7 +82,7 @@ fn take_out(originals: &mut Vec<usize>, original: usize)
 impl Lane {
     /// The lane of an archive of which nothing was asked yet.
     pub fn new(alloc: Global, pace: Pace, originals: usize) -> Result<Lane, AllocError>
-        ensures { IfOk result (λ lane. lane ≡ fresh originals pace) }
+        ensures { IfOk result (λ lane. lane ≡ new_standing originals pace) }
     {
         let out = Vec::with_capacity(alloc, pace.at_once)?;
         let again = Vec::with_capacity(alloc, pace.at_once)?;

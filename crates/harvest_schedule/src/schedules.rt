@@ -3,7 +3,7 @@ ghost use Rattle.std.specs.Prelude.{◌≡◌, ◌↔◌, ℕ, ◌≤◌, ◌<�
 ghost use Rattle.std.specs.Prelude.{false, length, map, min, option_map, slice_get, true, []};
 ghost use Rattle.std.specs.List.{reduce};
 ghost use Rattle.harvest_schedule.specs.Standing.{Standing};
-ghost use Rattle.harvest_schedule.specs.Lanes.{IsDormant, IsOver, IsReady, after_begin, fresh, left_of};
+ghost use Rattle.harvest_schedule.specs.Lanes.{IsDormant, IsOver, IsReady, after_begin, new_standing, left_of};
 ghost use Rattle.harvest_schedule.specs.Steps.{Answers, Ended, Handed, NoneIsReady, Offers, Passed, SomeIs, TakesTurn};
 ghost use Rattle.harvest_schedule.specs.Steps.{WalkBegun, WalkEnded, times_after};
 
@@ -66,7 +66,7 @@ impl Schedule {
         originals: usize,
     ) -> Result<Schedule, AllocError>
         ensures limits { IfOk result (λ schedule. schedule.limits ≡ limits) }
-        ensures lanes { IfOk result (λ schedule. schedule.lanes.items ≡ map (fresh originals) paces.now) }
+        ensures lanes { IfOk result (λ schedule. schedule.lanes.items ≡ map (new_standing originals) paces.now) }
         ensures turn { IfOk result (λ schedule. schedule.turn ≡ 0) }
     {
         let mut lanes = Vec::new(alloc);
