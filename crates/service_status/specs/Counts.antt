@@ -13,6 +13,10 @@ use Rattle.service_status.specs.declared.counts.WishCounts.{WishCounts}
 abbrev pub one_more : ℕ → ℕ
 one_more n = min (n + 1) (2 ^ 64 - 1)
 
+-- no reply was counted
+abbrev pub no_replies : ReplyCounts
+no_replies = record { ok = 0; found = 0; bad = 0; absent = 0; method = 0; refused = 0; other = 0 }
+
 -- one walk more that ended so
 abbrev pub with_walk : WalkEnd → WalkCounts → WalkCounts
 with_walk walk.Whole c = record c { whole = one_more c.whole }

@@ -1,5 +1,6 @@
 //! Counts of replies that gates add to without a lock.
 ghost use Rattle.std.specs.Prelude.{◌≡◌, IfOk, IsSome, None, is_some};
+ghost use Rattle.service_status.specs.Counts.{no_replies};
 
 use crate::counts::ReplyCounts;
 use memento_time::NoMemory;
@@ -81,7 +82,9 @@ impl ReplyCounter {
     }
 
     /// The counts; none if nothing is counted.
-    pub fn counts(&self) -> ReplyCounts {
+    pub fn counts(&self) -> ReplyCounts
+        ensures closed { self.now.shared ≡ None → result ≡ no_replies }
+    {
         let Some(counters) = &self.shared else {
             return ReplyCounts::NONE;
         };
