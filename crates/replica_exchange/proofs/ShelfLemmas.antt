@@ -22,6 +22,7 @@ use Rattle.harvest_lattice.specs.Lattice.{Key, key_cmp}
 use Rattle.harvest_lattice.proofs.Entries.{key_cmp_total, key_cmp_exact}
 use Rattle.harvest_lattice.proofs.ShelfLemmas.{text_exact, same_text, lookup-find, find_both, tie, apart, none_after, or_none}
 use Rattle.replica_exchange.specs.StampShelves.{Slots, Shelves, slot_of, slot, stamp_in, slot_rows, shelf_rows, all_rows, stamps_in}
+use Rattle.memento_index.proofs.ListLemmas.{none_there}
 
 -- no original is found among greater ones
 pub none_above : (o : List ℕ) (es : List (List ℕ × Option ℕ)) → T (below_all text_cmp o es) → fmap.find text_cmp o es ≡ None
@@ -146,16 +147,12 @@ slot_put es fs o w now view put =
 pub not_some : {A : Type 0} (o : Option A) → o ≡ None → IsSome o → ⊥
 not_some o e h = true≢false (sym h ∙ ap is_some e)
 
-pub nothing : {A : Type 0} (o : Option A) → is_some o ≡ false → o ≡ None
-nothing None h = refl
-nothing (Some a) h = absurd (subst T h tt)
-
 -- an empty slot where there was none holds nothing more
 pub slot_same : (x : Slots) (a : List ℕ) → is_some (fmap.get x a) ≡ false → (o : List ℕ) → stamp_in (fmap.get (fmap.insert x a None) o) ≡ stamp_in (fmap.get x o)
 slot_same x a none o =
     ap stamp_in (fmap.get-insert nat_list_cmp_total x a None o)
     ∙ elim (eq_by_cmp text_cmp o a) as (λ b. eq_by_cmp text_cmp o a ≡ b → stamp_in (cond b (Some None) (fmap.get x o)) ≡ stamp_in (fmap.get x o)) [
-      | true ↦ λ t. sym (ap stamp_in (ap (fmap.get x) (same_text o a t) ∙ nothing (fmap.get x a) none))
+      | true ↦ λ t. sym (ap stamp_in (ap (fmap.get x) (same_text o a t) ∙ none_there (fmap.get x a) none))
       | false ↦ λ _. refl
     ] refl
 
