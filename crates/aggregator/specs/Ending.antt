@@ -3,9 +3,9 @@ use Rattle.std.specs.Prelude.{ℕ, List, ◌++◌, codes}
 use Rattle.std.specs.Fmt.{decimal}
 use Rattle.replica_world.specs.declared.replaying.fault.ReplayFault.{ReplayFault}
 use Rattle.replica_world.specs.declared.replaying.fault.ReplayFault.TheVariants as fault
-use Rattle.aggregator_service.specs.Keys.{name_of}
-use Rattle.aggregator_service.specs.declared.settings.fault.SettingsFault.{SettingsFault}
-use Rattle.aggregator_service.specs.declared.settings.fault.SettingsFault.TheVariants as settings
+use Rattle.service_settings.specs.Keys.{name_of}
+use Rattle.service_settings.specs.declared.fault.SettingsFault.{SettingsFault}
+use Rattle.service_settings.specs.declared.fault.SettingsFault.TheVariants as settings
 use Rattle.aggregator_service.specs.declared.serving.ServeFault.{ServeFault}
 use Rattle.aggregator_service.specs.declared.serving.ServeFault.TheVariants as serve
 use Rattle.aggregator.specs.declared.failure.Failure.{Failure}

@@ -1,8 +1,7 @@
 //! `check FILE`: reads settings, and says what they hold, and which lines of their file of originals hold none.
 use crate::failure::Failure;
-use aggregator_service::{
-    Key, MAX_TEXT, Settings, SettingsFault, bad_original, check_list, read_settings,
-};
+use aggregator_service::check_list;
+use service_settings::{Key, MAX_TEXT, Settings, SettingsFault, bad_original, read_settings};
 use std::alloc::Global;
 use std::io::{self, Read, Write};
 use std::rt::Files;

@@ -6,8 +6,8 @@ use Rattle.harvester.specs.declared.jobs.Job.{Job}
 use Rattle.harvest_schedule.specs.declared.turns.Turn.{Turn}
 use Rattle.hyper_edge.specs.Hosts.{IsListedText}
 use Rattle.timemap_reader.specs.Answer.{IsShort}
-use Rattle.aggregator_service.specs.declared.settings.Settings.{Settings}
-use Rattle.aggregator_service.specs.declared.settings.archives.Archive.{Archive}
+use Rattle.service_settings.specs.declared.settings.Settings.{Settings}
+use Rattle.service_settings.specs.declared.archives.Archive.{Archive}
 
 -- The job is that of the archive at a place in the settings, for some original: its first URL is the archive's text
 -- with the original behind it. Rounds look after originals of their list, and wishes are for any.

@@ -1,12 +1,8 @@
 pub mod Dues
-pub mod Entries
 pub mod Freshness
 pub mod Jobs
 pub mod Keeping
-pub mod Keys
-pub mod Limits
 pub mod Lines
-pub mod Logs
 pub mod Notes
 pub mod Pulls
 pub mod Reasons

@@ -2,8 +2,8 @@
 use Rattle.harvester.specs.declared.faults.FetchFault.TheVariants as fetch
 use Rattle.harvester.specs.declared.faults.WalkFault.{WalkFault}
 use Rattle.harvester.specs.declared.faults.WalkFault.TheVariants as fault
-use Rattle.aggregator_service.specs.declared.lines.Reason.{Reason}
-use Rattle.aggregator_service.specs.declared.lines.Reason.TheVariants as reason
+use Rattle.service_log.specs.declared.lines.Reason.{Reason}
+use Rattle.service_log.specs.declared.lines.Reason.TheVariants as reason
 use Rattle.aggregator_service.specs.declared.reasons.Reasons.{Reasons}
 use Rattle.service_status.specs.Counts.{one_more}
 

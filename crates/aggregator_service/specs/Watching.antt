@@ -8,10 +8,10 @@ use Rattle.service_status.specs.declared.counts.WalkEnd.{WalkEnd}
 use Rattle.service_status.specs.declared.counts.WalkEnd.TheVariants as walk
 use Rattle.service_status.specs.declared.counts.PullEnd.{PullEnd}
 use Rattle.service_status.specs.declared.counts.PullEnd.TheVariants as pull
-use Rattle.aggregator_service.specs.declared.lines.Reason.{Reason}
-use Rattle.aggregator_service.specs.declared.lines.Reason.TheVariants as reason
-use Rattle.aggregator_service.specs.declared.lines.PeerFault.{PeerFault}
-use Rattle.aggregator_service.specs.declared.lines.PeerFault.TheVariants as peer
+use Rattle.service_log.specs.declared.lines.Reason.{Reason}
+use Rattle.service_log.specs.declared.lines.Reason.TheVariants as reason
+use Rattle.service_log.specs.declared.lines.PeerFault.{PeerFault}
+use Rattle.service_log.specs.declared.lines.PeerFault.TheVariants as peer
 use Rattle.aggregator_service.specs.Reasons.{reason_of}
 
 -- how a walk ended that failed

@@ -8,7 +8,7 @@ use Rattle.harvest_schedule.specs.declared.moods.Mood.{Mood}
 use Rattle.harvester.specs.declared.faults.WalkFault.{WalkFault}
 use Rattle.wish_list.specs.declared.stages.Answer.{Answer}
 use Rattle.wish_list.specs.declared.stages.Answer.TheVariants.{Copies, NoCopies, NoHarvest}
-use Rattle.aggregator_service.specs.declared.settings.timing.Timing.{Timing}
+use Rattle.service_settings.specs.declared.timing.Timing.{Timing}
 
 -- what an archive gave that was asked for a wish: a part of nothing is no harvest
 abbrev pub answer_by : List Memento → Bool → Answer

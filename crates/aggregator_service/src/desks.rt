@@ -3,6 +3,7 @@ ghost use Rattle.std.specs.Prelude.{◌≡◌, ◌≤◌};
 
 use crate::wished::is_overdue;
 use memento_time::{NoMemory, Original};
+use service_log::WishCounts;
 use std::alloc::{AllocError, Global};
 use wish_list::{Answer, Ask, Ended, WishJobs};
 
@@ -20,17 +21,6 @@ const TELL: u64 = 60_000;
 
 /// The most milliseconds that a new wish waits before it is looked at.
 const LOOK: u64 = 50;
-
-/// How many wishes are over, and of how many of these something is shown.
-#[derive(Clone, Copy, Debug, PartialEq, Eq)]
-pub(crate) struct WishCounts {
-    pub(crate) found: u64,
-    pub(crate) ended: u64,
-}
-
-impl WishCounts {
-    const NONE: WishCounts = WishCounts { found: 0, ended: 0 };
-}
 
 /// Granted wishes, and how far they are.
 #[derive(Drop)]

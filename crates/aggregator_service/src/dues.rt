@@ -2,7 +2,7 @@
 ghost use Rattle.std.specs.Prelude.{◌≡◌, ◌↔◌, IsTrue};
 ghost use Rattle.aggregator_service.specs.Dues.{IsDue};
 
-use crate::settings::Settings;
+use service_settings::Settings;
 use std::time::{Clock, Instant};
 
 /// Tells how many milliseconds have passed since it was started, by a clock that doesn't go back. Always 0 without a

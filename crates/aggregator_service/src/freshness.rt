@@ -2,8 +2,8 @@
 ghost use Rattle.std.specs.Prelude.{◌≡◌, ◌↔◌, ◌<◌, IsTrue};
 ghost use Rattle.aggregator_service.specs.Freshness.{IsYoung};
 
-use crate::settings::Timing;
 use harvest_lattice::Entry;
+use service_settings::Timing;
 
 /// Whether what was looked at in this second is less than so many seconds old, or as little ahead of the clock.
 fn is_young(seen: u64, now: u64, seconds: Option<u64>) -> bool

@@ -1,9 +1,7 @@
 //! The thread of the rounds at work for wishes: they go before the jobs of a round.
 use crate::clocks::revision_now;
 use crate::freshness::{has_mementos, is_fresh};
-use crate::lines::{Line, Want};
 use crate::making::{Rounds, Standing, is_asleep};
-use crate::settings::Settings;
 use crate::watching::walk_end;
 use crate::wished::{answer_to, is_kept, is_left_alone, room_left, wish_timing, wish_turn};
 use harvest_lattice::Harvest;
@@ -15,6 +13,8 @@ use memento_time::{NoMemory, Original};
 use original_list::spellings_of;
 use original_sets::{Key, OriginalSet};
 use published_index::Merger;
+use service_log::{Line, Want};
+use service_settings::Settings;
 use service_status::WishCounts;
 use std::alloc::Global;
 use std::hash::RandomState;

@@ -2,10 +2,10 @@
 ghost use Rattle.std.specs.Prelude.{◌≡◌, ◌++◌, IfSome, option_copied, slice_get};
 ghost use Rattle.aggregator_service.specs.Jobs.{IsJobOf};
 
-use crate::settings::{Archive, Settings};
 use harvest_schedule::Turn;
 use harvester::Job;
 use memento_time::{Clean, Original};
+use service_settings::{Archive, Settings};
 use std::alloc::Global;
 
 /// The original of a turn, by its place in the list of a round, if it is there.

@@ -1,17 +1,17 @@
 //! The originals that rounds look after: those of the settings, and those of a file, which is read anew for each round.
 ghost use Rattle.std.specs.Prelude.{◌≡◌, [], Contains, OnOk};
 ghost use Rattle.std.specs.Io.KnownBytes.{Appends};
-ghost use Rattle.aggregator_service.specs.Logs.{list_line};
+ghost use Rattle.service_log.specs.Logs.{list_line};
 
-use crate::lines::{Line, ListMatter};
 use crate::making::{Rounds, Standing};
 use crate::ordering::shuffle;
 use crate::serving::ServeFault;
-use crate::settings::Settings;
 use harvest_workers::WalkRules;
 use harvester::SocketRuntime;
 use memento_time::{NoMemory, Original};
 use original_list::{Listed, each_once, read_list};
+use service_log::{Line, ListMatter};
+use service_settings::Settings;
 use std::alloc::{AllocGlobal, Global};
 use std::fs;
 use std::hash::RandomState;

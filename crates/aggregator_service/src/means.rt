@@ -1,13 +1,13 @@
 //! The threads that rounds are made with, and what these share with the gates.
 use crate::pool::Pool;
 use crate::pulls::Pullers;
-use crate::settings::Settings;
 use crate::terms::Terms;
 use crate::watching::Telling;
 use crate::wished::DEFAULT_AGAIN;
 use harvest_workers::WalkRules;
 use harvester::SocketRuntime;
 use hyper_edge::{Patience, Readiness};
+use service_settings::Settings;
 use std::alloc::{AllocError, Global};
 use std::hash::RandomState;
 use std::sync::Wait;

@@ -1,67 +1,16 @@
 //! What a round notes of its walks, for the log.
-ghost use Rattle.std.specs.Prelude.{◌≡◌, ◌<◌, IfErr, IfSome, Some};
-ghost use Rattle.aggregator_service.specs.Notes.{IsFirst, counts_after, counts_words};
+ghost use Rattle.std.specs.Prelude.{◌≡◌, ◌<◌, IfErr, IfSome};
+ghost use Rattle.service_log.specs.Counts.{counts_after};
+ghost use Rattle.aggregator_service.specs.Notes.{IsFirst};
 
-use crate::lines::{Cause, Line, Matter, Want, name_text};
-use crate::logs::Log;
 use crate::reasons::Reasons;
-use crate::settings::Settings;
 use harvest_lattice::Harvest;
 use harvester::WalkFault;
 use memento_time::{ArchiveName, Clean};
+use service_log::{Cause, Counts, Line, Log, Matter, Want, name_text};
+use service_settings::Settings;
 use std::alloc::Global;
-use std::fmt;
 use std::io::Write;
-
-/// How many of an archive's walks ended in which way, in a round.
-#[derive(Clone, Copy, Debug, PartialEq, Eq)]
-pub(crate) struct Counts {
-    walks: u64,
-    /// Walks without a harvest.
-    failed: u64,
-    /// Harvests in part.
-    parts: u64,
-}
-
-impl Counts {
-    const NONE: Counts = Counts {
-        walks: 0,
-        failed: 0,
-        parts: 0,
-    };
-
-    /// The counts with one more walk.
-    fn with(self, walked: &Result<Harvest, WalkFault>) -> Counts
-        ensures { result ≡ counts_after self walked.now }
-    {
-        let walks = self.walks.saturating_add(1);
-        match walked {
-            Ok(harvest) if harvest.is_part() => Counts {
-                walks,
-                failed: self.failed,
-                parts: self.parts.saturating_add(1),
-            },
-            Ok(_) => Counts {
-                walks,
-                failed: self.failed,
-                parts: self.parts,
-            },
-            Err(_) => Counts {
-                walks,
-                failed: self.failed.saturating_add(1),
-                parts: self.parts,
-            },
-        }
-    }
-}
-
-impl fmt::Display for Counts {
-    ghost output = { λ counts. Some (counts_words counts) };
-
-    fn fmt<W: fmt::Write>(&self, f: &mut fmt::Formatter<W>) -> fmt::Result {
-        write!(f, "{} of {} walks failed", self.failed, self.walks)
-    }
-}
 
 /// The first walk of an archive that failed in a round: where it began, and why it failed.
 #[derive(Drop)]

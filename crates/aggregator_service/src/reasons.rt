@@ -2,8 +2,8 @@
 ghost use Rattle.std.specs.Prelude.{◌≡◌};
 ghost use Rattle.aggregator_service.specs.Reasons.{reason_of, with_one_more};
 
-use crate::lines::Reason;
 use harvester::{FetchFault, WalkFault};
+use service_log::Reason;
 
 /// How many walks of an archive failed for each reason, in a round.
 #[derive(Clone, Copy, Debug, PartialEq, Eq)]

@@ -5,12 +5,12 @@ ghost use Rattle.aggregator_service.specs.Jobs.{Covers};
 
 use crate::clocks::revision_now;
 use crate::jobs::job_at;
-use crate::settings::Settings;
 use harvest_schedule::Turn;
 use harvest_workers::{Assignment, RuledFetch, WalkReport, WalkRules, walk_assignment};
 use harvester::SocketRuntime;
 use hyper_edge::{CarefulFetch, Limits, Patience};
 use memento_time::Original;
+use service_settings::Settings;
 use std::alloc::{AllocError, Global};
 use std::marker::PhantomData;
 use std::sync::Arc;

@@ -3,10 +3,8 @@ ghost use Rattle.std.specs.Prelude.{◌≡◌};
 ghost use Rattle.aggregator_service.specs.Watching as spec;
 
 use crate::clocks::revision_now;
-use crate::lines::{PeerFault, Reason};
 use crate::making::{Rounds, Standing};
 use crate::reasons::reason_of;
-use crate::settings::Settings;
 use harvest_lattice::{Entry, Harvest, State};
 use harvest_schedule::Mood;
 use harvest_workers::WalkRules;
@@ -15,6 +13,8 @@ use hyper_edge::PullFault;
 use memento_time::NoMemory;
 use published_index::Merger;
 use replica_exchange::TakeFault;
+use service_log::{PeerFault, Reason};
+use service_settings::Settings;
 use service_status::{
     ArchiveStatus, GateStatus, KnownStatus, PeerStatus, PublishStatus, PullCounts, PullEnd,
     ReplyCounter, ReplyCounts, RoundStatus, Status, StatusBoard, StatusGate, WalkCounts, WalkEnd,

@@ -5,10 +5,10 @@ ghost use Rattle.aggregator_service.specs.Dues.{IsDueAt};
 ghost use Rattle.aggregator_service.specs.Wishes as spec;
 ghost use Rattle.aggregator_service.specs.Wishes.{IsLeftAlone};
 
-use crate::settings::Timing;
 use harvest_lattice::Harvest;
 use harvest_schedule::{Mood, Turn};
 use harvester::WalkFault;
+use service_settings::Timing;
 use wish_list::Answer;
 
 /// For how many seconds what is known isn't asked for again by wishes, where the settings don't say it.

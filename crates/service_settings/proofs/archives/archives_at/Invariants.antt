@@ -1,0 +1,5 @@
+use Rattle.std.proofs.Common.{◌≡◌, length}
+use Rattle.service_settings.proofs.archives.archives_at.Given as goal
+
+abbrev pub invariant-loop-value : goal.invariant-loop-value
+invariant-loop-value l = length l.archives.items ≡ l.value-index

@@ -1,0 +1,44 @@
+//! When archives and peers are asked, and when what came is published.
+ghost use Rattle.std.specs.Prelude.{◌≡◌, ◌↔◌, ◌⊎◌, IfOk, IfSome, IsSome, IsTrue};
+ghost use Rattle.service_settings.specs.Limits.{IsWithin};
+
+use crate::fault::{Key, SettingsFault};
+use crate::values::number_if;
+use toml::Table;
+
+/// When archives and peers are asked, and when what came is published.
+#[derive(Clone, Copy, Debug)]
+pub struct Timing {
+    /// For how many seconds what is known of an archive and original isn't asked for again; `None` if it always is.
+    pub again: Option<u64>,
+    /// The same where the archive has nothing of the original.
+    pub again_none: Option<u64>,
+    /// While a round goes on, what came is published each time that this many seconds have passed; `None` if only at
+    /// its end.
+    pub publish: Option<u64>,
+    /// Peers are pulled before the first round, and each time that this many seconds have passed; `None` if only at a
+    /// round's end.
+    pub pull: Option<u64>,
+}
+
+/// When archives and peers are asked, by the keys from `again` to `pull`.
+pub(crate) fn timing_at(table: &Table) -> Result<Timing, SettingsFault>
+    ensures again { IfOk result (λ timing. IfSome timing.again (IsWithin Key.Again)) }
+    ensures again_none { IfOk result (λ timing. IfSome timing.again_none (IsWithin Key.AgainNone)) }
+    ensures publish { IfOk result (λ timing. IfSome timing.publish (IsWithin Key.Publish)) }
+    ensures pull { IfOk result (λ timing. IfSome timing.pull (IsWithin Key.Pull)) }
+{
+    let again = number_if(table, Key::Again)?;
+    let again_none = match number_if(table, Key::AgainNone)? {
+        Some(seconds) => Some(seconds),
+        None => again,
+    };
+    let publish = number_if(table, Key::Publish)?;
+    let pull = number_if(table, Key::Pull)?;
+    Ok(Timing {
+        again,
+        again_none,
+        publish,
+        pull,
+    })
+}
