@@ -204,9 +204,9 @@ def check_commands(tell):
 
 
 def check_settings(tell):
-    service = TOP / "crates/aggregator_service"
-    names = dict(re.findall(r'Key::(\w+) => "(\w+)"', (service / "src/settings/fault.rt").read_text(encoding="utf-8")))
-    limits = re.findall(r"^limits key\.(\w+) = \((\d+), (\d+)\)", (service / "specs/Limits.antt").read_text(encoding="utf-8"), re.M)
+    settings = TOP / "crates/service_settings"
+    names = dict(re.findall(r'Key::(\w+) => "(\w+)"', (settings / "src/fault.rt").read_text(encoding="utf-8")))
+    limits = re.findall(r"^limits key\.(\w+) = \((\d+), (\d+)\)", (settings / "specs/Limits.antt").read_text(encoding="utf-8"), re.M)
     page = TOP / "docs/SETTINGS.md"
     rows = dict(re.findall(r"^\| `(\w+)` \| ([^|]*) \|", page.read_text(encoding="utf-8"), re.M))
     tell(page, None if names.keys() == {key for key, _, _ in limits} else "the keys of the code aren't those of the definition")

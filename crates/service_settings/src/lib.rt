@@ -5,10 +5,11 @@
 //!
 //! In three groups:
 //!
-//! - the whole: `settings` (all of them, and how they are read), `fault` (the keys, their limits, and why a text gives no
-//!   settings) and `entries` (which entry of the originals is none);
+//! - the whole: `settings` (all of them, and how they are read), `fault` (the keys, their limits, and why a text gives
+//!   no settings) and `entries` (which entry of the originals is none);
 //! - what stands at one key: `values` (numbers, and lists of texts), `archives` and `hosts`;
-//! - the keys that are this service's own, by what they are for: `asking`, `timing`, `wishing`, `storing` and `showing`.
+//! - the keys that are this service's own, by what they are for: `asking`, `timing`, `wishing`, `storing` and
+//!   `showing`.
 //!
 //! What follows from the definitions is in `laws`.
 #![tactic(auto)]
