@@ -5,7 +5,8 @@
 
 All must write the same bytes. COUNTED says what counts of the processor's time: `user`, or `processor` for user and system. A
 run does the job TIMES times, and what is told is of one job: the least, the middle and the most of $TURNS runs (7 if it
-isn't set), since a machine that does other work as well can only make a run slower. The most memory that a run held is told too;
+isn't set), since a machine that does other work as well can only make a run slower. Each turn is on the processor that others
+disturb least (bench/quiet.py). The most memory that a run held is told too;
 less than 15 MB isn't seen, since a run begins as a copy of this script.
 
 With INSTRUCTIONS=1 each program runs once, and what is told are the millions of instructions that it executed outside the
@@ -22,6 +23,8 @@ import statistics
 import subprocess
 import sys
 import tempfile
+
+from quiet import only, quietest
 
 NAMES = "ours", "plain", "expert"
 PERF = ["perf", "stat", "-x,", "-e", "instructions:u", "--"]
@@ -91,10 +94,11 @@ def by_time(programs, source, times, counted, outputs):
     """Of each program the least, middle and most milliseconds, and the megabytes."""
     spent, held = [[] for _ in programs], [0] * len(programs)
     for _ in range(int(os.environ.get("TURNS", "7"))):
-        for k, program in enumerate(programs):
-            user, system, megabytes = run(program, source, outputs[k])
-            spent[k].append((user + system * (counted == "processor")) / times)
-            held[k] = max(held[k], megabytes)
+        with only({quietest()}):
+            for k, program in enumerate(programs):
+                user, system, megabytes = run(program, source, outputs[k])
+                spent[k].append((user + system * (counted == "processor")) / times)
+                held[k] = max(held[k], megabytes)
     return [[min(each), statistics.median(each), max(each), most] for each, most in zip(spent, held)]
 
 
