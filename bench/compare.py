@@ -18,16 +18,16 @@ most milliseconds and the megabytes, or the millions of instructions alone; with
 """
 import filecmp
 import os
+import pathlib
 import re
 import statistics
 import subprocess
 import sys
 import tempfile
 
-from quiet import only, quietest
-
 NAMES = "ours", "plain", "expert"
 PERF = ["perf", "stat", "-x,", "-e", "instructions:u", "--"]
+QUIET = pathlib.Path(__file__).resolve().parent / "quiet.py"
 VALGRIND = ["valgrind", "--tool=cachegrind", "--cache-sim=no", "--cachegrind-out-file=/dev/null"]
 
 
@@ -90,15 +90,22 @@ def agree(outputs):
     return all(filecmp.cmp(outputs[0], other, shallow=False) for other in outputs[1:])
 
 
+def quietest():
+    """The processor that others disturb least."""
+    return int(subprocess.run([QUIET], check=True, capture_output=True, text=True).stdout)
+
+
 def by_time(programs, source, times, counted, outputs):
     """Of each program the least, middle and most milliseconds, and the megabytes."""
     spent, held = [[] for _ in programs], [0] * len(programs)
     for _ in range(int(os.environ.get("TURNS", "7"))):
-        with only({quietest()}):
-            for k, program in enumerate(programs):
-                user, system, megabytes = run(program, source, outputs[k])
-                spent[k].append((user + system * (counted == "processor")) / times)
-                held[k] = max(held[k], megabytes)
+        processors = os.sched_getaffinity(0)
+        os.sched_setaffinity(0, {quietest()})
+        for k, program in enumerate(programs):
+            user, system, megabytes = run(program, source, outputs[k])
+            spent[k].append((user + system * (counted == "processor")) / times)
+            held[k] = max(held[k], megabytes)
+        os.sched_setaffinity(0, processors)
     return [[min(each), statistics.median(each), max(each), most] for each, most in zip(spent, held)]
 
 
