@@ -6,7 +6,7 @@
 All must write the same bytes. COUNTED says what counts of the processor's time: `user`, or `processor` for user and system. A
 run does the job TIMES times, and what is told is of one job: the least, the middle and the most of $TURNS runs (7 if it
 isn't set), since a machine that does other work as well can only make a run slower. Each turn is on the processor that others
-disturb least (bench/quiet.py). The most memory that a run held is told too;
+disturb least, and is repeated, at most three times, if that isn't quiet at its end (bench/quiet.py). The most memory that a run held is told too;
 less than 15 MB isn't seen, since a run begins as a copy of this script.
 
 With INSTRUCTIONS=1 each program runs once, and what is told are the millions of instructions that it executed outside the
@@ -27,7 +27,8 @@ import tempfile
 
 NAMES = "ours", "plain", "expert"
 PERF = ["perf", "stat", "-x,", "-e", "instructions:u", "--"]
-QUIET = pathlib.Path(__file__).resolve().parent / "quiet.py"
+QUIET = [sys.executable, pathlib.Path(__file__).resolve().parent / "quiet.py"]
+TRIES = 4
 VALGRIND = ["valgrind", "--tool=cachegrind", "--cache-sim=no", "--cachegrind-out-file=/dev/null"]
 
 
@@ -90,22 +91,33 @@ def agree(outputs):
     return all(filecmp.cmp(outputs[0], other, shallow=False) for other in outputs[1:])
 
 
-def quietest():
-    """The processor that others disturb least."""
-    return int(subprocess.run([QUIET], check=True, capture_output=True, text=True).stdout)
+def turn(programs, source, outputs):
+    """What each program takes, all on the processor that others disturb least; and whether that is quiet at the end."""
+    processors = os.sched_getaffinity(0)
+    os.sched_setaffinity(0, {int(subprocess.run(QUIET, check=True, capture_output=True, text=True).stdout)})
+    try:
+        took = [run(program, source, output) for program, output in zip(programs, outputs)]
+        return took, subprocess.run([*QUIET, "--is-quiet"]).returncode == 0
+    finally:
+        os.sched_setaffinity(0, processors)
+
+
+def quiet_turn(programs, source, outputs):
+    """The first turn that is quiet at its end, or else the last of some."""
+    for _ in range(TRIES):
+        took, is_quiet = turn(programs, source, outputs)
+        if is_quiet:
+            break
+    return took
 
 
 def by_time(programs, source, times, counted, outputs):
     """Of each program the least, middle and most milliseconds, and the megabytes."""
     spent, held = [[] for _ in programs], [0] * len(programs)
     for _ in range(int(os.environ.get("TURNS", "7"))):
-        processors = os.sched_getaffinity(0)
-        os.sched_setaffinity(0, {quietest()})
-        for k, program in enumerate(programs):
-            user, system, megabytes = run(program, source, outputs[k])
+        for k, (user, system, megabytes) in enumerate(quiet_turn(programs, source, outputs)):
             spent[k].append((user + system * (counted == "processor")) / times)
             held[k] = max(held[k], megabytes)
-        os.sched_setaffinity(0, processors)
     return [[min(each), statistics.median(each), max(each), most] for each, most in zip(spent, held)]
 
 

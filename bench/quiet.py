@@ -1,12 +1,15 @@
 #!/usr/bin/env python3
-"""Says which processor of this machine others disturb least: the number of the one on which a fixed job takes the least time.
+"""Finds the processor of this machine that others disturb least, and says whether it is quiet.
 
-    bench/quiet.py [--all]     with --all: how many milliseconds the job takes on each
+    bench/quiet.py               prints its number: of the one on which a fixed job takes the least time
+    bench/quiet.py --all         prints how many milliseconds the job takes on each
+    bench/quiet.py --least       prints the fewest milliseconds that it takes within two seconds, on any
+    bench/quiet.py --is-quiet    ends with status 1 if here it takes a seventh more than $QUIET_MS milliseconds, or more than that
 
-A virtual machine's processor is often half of a real one. Whoever has the other half slows it down, nearly twofold and for minutes,
-while the next one is left alone. So what runs in one thread is measured where least is lost.
+A virtual machine's processor is often half of a real one. Whoever has the other half slows it down, nearly twofold, for seconds or
+for minutes, while the next one is left alone. So what runs in one thread is measured where least is lost, and again if that
+processor isn't quiet any more when it ends.
 """
-import contextlib
 import os
 import statistics
 import sys
@@ -17,23 +20,25 @@ TRIES = 5
 
 
 def job():
-    """The seconds of a fixed job, of the processor."""
+    """The milliseconds of a fixed job, of the processor."""
     begun = time.thread_time()
     dict.fromkeys(sorted(WORDS))
-    return time.thread_time() - begun
+    return 1000 * (time.thread_time() - begun)
+
+
+def middle():
+    """What the job takes here: the middle of some tries."""
+    return statistics.median(job() for _ in range(TRIES))
 
 
 def times():
-    """What the job takes on each processor that this process may use: the middle of some tries."""
-    may = os.sched_getaffinity(0)
-    try:
-        taken = {}
-        for processor in sorted(may):
-            os.sched_setaffinity(0, {processor})
-            taken[processor] = statistics.median(job() for _ in range(TRIES))
-        return taken
-    finally:
-        os.sched_setaffinity(0, may)
+    """What the job takes on each processor that this process may use."""
+    taken = {}
+    for processor in sorted(os.sched_getaffinity(0)):
+        os.sched_setaffinity(0, {processor})
+        taken[processor] = middle()
+    os.sched_setaffinity(0, taken)
+    return taken
 
 
 def quietest():
@@ -41,22 +46,26 @@ def quietest():
     return min(taken, key=taken.get)
 
 
-@contextlib.contextmanager
-def only(processors):
-    """Keeps this process, and what it starts meanwhile, to these processors."""
-    may = os.sched_getaffinity(0)
-    os.sched_setaffinity(0, processors)
-    try:
-        yield
-    finally:
-        os.sched_setaffinity(0, may)
+def least():
+    """The least that the job takes on any processor within two seconds."""
+    begun, found = time.monotonic(), []
+    while time.monotonic() < begun + 2:
+        found.extend(times().values())
+    return min(found)
 
 
 def main():
-    if sys.argv[1:] == ["--all"]:
-        print(", ".join(f"{processor}: {1000 * taken:.1f} ms" for processor, taken in times().items()))
-    else:
-        print(quietest())
+    match sys.argv[1:]:
+        case []:
+            print(quietest())
+        case ["--all"]:
+            print(", ".join(f"{processor}: {taken:.1f} ms" for processor, taken in times().items()))
+        case ["--least"]:
+            print(f"{least():.2f}")
+        case ["--is-quiet"]:
+            sys.exit(middle() > float(os.environ["QUIET_MS"]) * 8 / 7)
+        case _:
+            sys.exit(__doc__)
 
 
 if __name__ == "__main__":
