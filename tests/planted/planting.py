@@ -1,8 +1,7 @@
 """What `run` and `both` share: lists of what is planted, copies of the repository in which rt runs, where the tests of a crate are
 (in crates of tests, or else in the crate itself), and which planted bugs were tried.
 
-`aggregator_service`, `service_settings` and `service_log` have no tests in Rattle: `tests/rounds`, `tests/settings` and
-`tests/log` try them as they run."""
+`aggregator_service` has no tests in Rattle: `tests/rounds`, `tests/settings` and `tests/log` try it as it runs."""
 import contextlib
 import fcntl
 import hashlib
@@ -21,7 +20,7 @@ TESTS = {
     "text_tests": ("memento_time", "link_format", "text_fields", "url_texts", "timemap_reader", "timemap_writer"),
     "knowledge_tests": ("memento_sets", "harvest_lattice", "memento_index", "replica_exchange", "timegate"),
     "world_tests": ("replica_world",),
-    "service_tests": ("published_index", "harvester", "hyper_edge"),
+    "service_tests": ("published_index", "harvester", "hyper_edge", "service_settings", "service_log"),
     "walk_tests": ("harvester",),
     "snapshot_tests": ("snapshot_sections", "snapshots"),
     "wish_tests": ("wish_list", "original_sets", "original_list", "wishing_gates"),

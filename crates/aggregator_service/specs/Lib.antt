@@ -3,6 +3,7 @@ pub mod Freshness
 pub mod Jobs
 pub mod Keeping
 pub mod Lines
+pub mod Listing
 pub mod Notes
 pub mod Pulls
 pub mod Reasons

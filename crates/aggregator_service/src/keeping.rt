@@ -7,12 +7,13 @@ ghost use Rattle.aggregator_service.specs.Dues.{IsDue};
 ghost use Rattle.aggregator_service.specs.Keeping.{after_publish, with_states, Starts, TakesSome};
 
 use crate::dues::Due;
+use crate::logs::Log;
 use harvest_lattice::State;
 use harvester::SocketRuntime;
 use memento_index::Merge;
 use memento_time::NoMemory;
 use published_index::Merger;
-use service_log::{Line, Log, SnapshotEnd};
+use service_log::{Line, SnapshotEnd};
 use service_settings::Storing;
 use snapshots::{ReadFault, WriteFault, keep_snapshot, set_aside, take_snapshot};
 use std::io::Write;

@@ -14,7 +14,8 @@
 //!   `dues` (what is due when), `freshness` (which jobs needn't be walked), `ordering` and `clocks`;
 //! - beside rounds: `desks`, `granting` and `wished` (what readers wished for) and `keeping` (the file of what is
 //!   known);
-//! - what is told: `notes` and `reasons` (how walks ended, for the log) and `watching` (the status).
+//! - what is told: `logs` (where the log goes), `notes` and `reasons` (how walks ended, for it) and `watching` (the
+//!   status).
 #![tactic(auto)]
 
 mod clocks;
@@ -26,6 +27,7 @@ mod granting;
 mod jobs;
 mod keeping;
 mod listing;
+mod logs;
 mod making;
 mod means;
 mod notes;

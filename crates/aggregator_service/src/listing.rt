@@ -1,7 +1,8 @@
 //! The originals that rounds look after: those of the settings, and those of a file, which is read anew for each round.
-ghost use Rattle.std.specs.Prelude.{◌≡◌, [], Contains, OnOk};
+ghost use Rattle.std.specs.Prelude.{◌≡◌, ℕ, List, [], Contains, OnOk};
 ghost use Rattle.std.specs.Io.KnownBytes.{Appends};
 ghost use Rattle.service_log.specs.Logs.{list_line};
+ghost use Rattle.aggregator_service.specs.Listing.{IsReported, bad_report};
 
 use crate::making::{Rounds, Standing};
 use crate::ordering::shuffle;
@@ -74,7 +75,10 @@ fn say_matter<W: Write>(matter: ListMatter, out: &mut W) -> Result<(), ServeFaul
 }
 
 /// Writes which lines hold no originals.
-fn say_bad<W: Write>(listed: &Listed, out: &mut W) -> Result<(), ServeFault> {
+fn say_bad<W: Write>(listed: &Listed, out: &mut W) -> Result<(), ServeFault>
+    ensures { OnOk result (Appends (W.contents out.old) (W.contents out.new)
+        (bad_report listed.now.bad.items listed.now.bad_count)) }
+{
     for line in &listed.bad {
         say_matter(ListMatter::Bad(*line as u64), out)?;
     }
@@ -85,12 +89,19 @@ fn say_bad<W: Write>(listed: &Listed, out: &mut W) -> Result<(), ServeFault> {
     Ok(())
 }
 
-/// Reads the file of originals, if the settings name one, and writes which of its lines hold none, in the log's words.
+/// Reads the file of originals, if the settings name one, and writes which of its lines hold none, in the log's words:
+/// the first 20 of them by their numbers, and how many more there are. If it can't be read, that is written, and no
+/// error.
+///
+/// `NoMemory` before anything is written. `Device` if a write fails.
 pub fn check_list<R: Files + AllocGlobal, W: Write>(
     rt: &R,
     settings: &Settings,
     out: &mut W,
-) -> Result<(), ServeFault> {
+) -> Result<(), ServeFault>
+    ensures { OnOk result ((bytes : List ℕ) × IsReported settings.now.wishing.originals_file bytes
+        × Appends (W.contents out.old) (W.contents out.new) bytes) }
+{
     let Some(path) = &settings.wishing.originals_file else {
         return Ok(());
     };

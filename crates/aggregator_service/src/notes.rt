@@ -3,11 +3,12 @@ ghost use Rattle.std.specs.Prelude.{◌≡◌, ◌<◌, IfErr, IfSome};
 ghost use Rattle.service_log.specs.Counts.{counts_after};
 ghost use Rattle.aggregator_service.specs.Notes.{IsFirst};
 
+use crate::logs::Log;
 use crate::reasons::Reasons;
 use harvest_lattice::Harvest;
 use harvester::WalkFault;
 use memento_time::{ArchiveName, Clean};
-use service_log::{Cause, Counts, Line, Log, Matter, Want, name_text};
+use service_log::{Cause, Counts, Line, Matter, Want, name_text};
 use service_settings::Settings;
 use std::alloc::Global;
 use std::io::Write;

@@ -3,6 +3,7 @@ ghost use Rattle.std.specs.Prelude.{◌≡◌, OnErr, OnOk, Some};
 ghost use Rattle.aggregator_service.specs.Lines.{round_words};
 ghost use Rattle.aggregator_service.specs.Pulls.{Pulls, PullsNothing};
 
+use crate::logs::Log;
 use harvest_lattice::Harvest;
 use harvester::SocketRuntime;
 use hyper_edge::{Patience, pull_within};
@@ -10,7 +11,7 @@ use memento_index::Merge;
 use memento_time::Clean;
 use published_index::Merger;
 use replica_exchange::Delta;
-use service_log::{Line, Log, PeerFault};
+use service_log::{Line, PeerFault};
 use service_settings::Settings;
 use std::fmt;
 use std::io::Write;
