@@ -14,7 +14,8 @@ kernel: other work on the machine doesn't change them. `perf stat` counts if the
 program whose last word is TIMES those are taken off that a run with 0 there takes: what it does once, as reading its input.
 
 Where $RESULTS names a file, a line for each program is written there: kind, size, program, and then the least, the middle and the
-most milliseconds and the megabytes, or the millions of instructions alone; with tabs between.
+most milliseconds and the megabytes, or the millions of instructions alone; with tabs between. Where $TURNED names a file, a line
+is added to it for each turn: 1 if it was disturbed and counts all the same, otherwise 0.
 """
 import filecmp
 import os
@@ -108,6 +109,9 @@ def quiet_turn(programs, source, outputs):
         took, is_quiet = turn(programs, source, outputs)
         if is_quiet:
             break
+    if "TURNED" in os.environ:
+        with open(os.environ["TURNED"], "a", encoding="utf-8") as turned:
+            turned.write(f"{int(not is_quiet)}\n")
     return took
 
 
