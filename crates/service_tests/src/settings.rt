@@ -19,7 +19,8 @@ fn settings_are_read(rt: HostRuntime) -> Result<(), Fail> {
     let alloc = rt.alloc();
     let text = format!(in alloc; "originals = [\"http://a.example/\"]{REST}")?;
     let settings = read_settings(alloc, text.as_str())?;
-    assert_eq!(rt; settings.gates[1].as_str(), "[::1]:8081");
+    let gate = settings.gates.get(1).ok_or("no second gate")?;
+    assert_eq!(rt; gate.as_str(), "[::1]:8081");
     assert_eq!(rt;
         (
             settings.connections,
@@ -29,15 +30,12 @@ fn settings_are_read(rt: HostRuntime) -> Result<(), Fail> {
         ),
         (5, 2, 60, 4)
     );
-    assert_eq!(rt;
-        settings.originals[0].as_bytes(),
-        b"http://a.example/".as_slice()
-    );
-    assert_eq!(rt; settings.peers[0].as_str(), "http://127.0.0.1:9080");
-    assert_eq!(rt;
-        settings.archives[0].name.as_bytes(),
-        b"arc.example".as_slice()
-    );
+    let original = settings.originals.first().ok_or("no original")?;
+    assert_eq!(rt; original.as_bytes(), b"http://a.example/".as_slice());
+    let peer = settings.peers.first().ok_or("no peer")?;
+    assert_eq!(rt; peer.as_str(), "http://127.0.0.1:9080");
+    let archive = settings.archives.first().ok_or("no archive")?;
+    assert_eq!(rt; archive.name.as_bytes(), b"arc.example".as_slice());
     assert_eq!(rt;
         (settings.patience, settings.together, settings.log),
         (60, 1, false)
