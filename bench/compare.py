@@ -6,8 +6,8 @@
 All must write the same bytes. COUNTED says what counts of the processor's time: `user`, or `processor` for user and system. A
 run does the job TIMES times, and what is told is of one job: the least, the middle and the most of $TURNS runs (7 if it
 isn't set), since a machine that does other work as well can only make a run slower. Each turn is on the processor that others
-disturb least, and is repeated, at most three times, if that isn't quiet at its end (bench/quiet.py). The most memory that a run held is told too;
-less than 15 MB isn't seen, since a run begins as a copy of this script.
+disturb least, and is tried again if that isn't quiet at its end (bench/quiet.py), $TRIES (4) times at most. The most memory that
+a run held is told too; less than 15 MB isn't seen, since a run begins as a copy of this script.
 
 With INSTRUCTIONS=1 each program runs once, and what is told are the millions of instructions that it executed outside the
 kernel: other work on the machine doesn't change them. `perf stat` counts if the processor lets it, else valgrind. Of a
@@ -15,7 +15,7 @@ program whose last word is TIMES those are taken off that a run with 0 there tak
 
 Where $RESULTS names a file, a line for each program is written there: kind, size, program, and then the least, the middle and the
 most milliseconds and the megabytes, or the millions of instructions alone; with tabs between. Where $TURNED names a file, a line
-is added to it for each turn: 1 if it was disturbed and counts all the same, otherwise 0.
+is added to it for each turn.
 """
 import filecmp
 import os
@@ -26,10 +26,12 @@ import subprocess
 import sys
 import tempfile
 
+from quiet import note_turn
+
 NAMES = "ours", "plain", "expert"
 PERF = ["perf", "stat", "-x,", "-e", "instructions:u", "--"]
 QUIET = [sys.executable, pathlib.Path(__file__).resolve().parent / "quiet.py"]
-TRIES = 4
+TRIES = int(os.environ.get("TRIES", "4"))
 VALGRIND = ["valgrind", "--tool=cachegrind", "--cache-sim=no", "--cachegrind-out-file=/dev/null"]
 
 
@@ -109,9 +111,7 @@ def quiet_turn(programs, source, outputs):
         took, is_quiet = turn(programs, source, outputs)
         if is_quiet:
             break
-    if "TURNED" in os.environ:
-        with open(os.environ["TURNED"], "a", encoding="utf-8") as turned:
-            turned.write(f"{int(not is_quiet)}\n")
+    note_turn(not is_quiet)
     return took
 
 

@@ -2,7 +2,7 @@
 """Finds the processor of this machine that others disturb least, and says whether it is quiet.
 
     bench/quiet.py               prints its number: of the one on which a fixed job takes the least time; where $QUIET_MS is set,
-                                 once that is quiet, or three seconds have passed
+                                 once that is quiet, or $PATIENCE (3) seconds have passed
     bench/quiet.py --all         prints how many milliseconds the job takes on each
     bench/quiet.py --least       prints the fewest milliseconds that it takes within two seconds, on any
     bench/quiet.py --is-quiet    ends with status 1 unless this one is quiet: the job takes at most a seventh more than $QUIET_MS milliseconds
@@ -18,7 +18,7 @@ import time
 
 WORDS = [str(7919 * number % 100_003) for number in range(20_000)]
 TRIES = 5
-PATIENCE = 3    # seconds
+PATIENCE = float(os.environ.get("PATIENCE", "3"))    # seconds
 
 
 def job():
@@ -63,6 +63,13 @@ def least():
     while time.monotonic() < begun + 2:
         found.extend(times().values())
     return min(found)
+
+
+def note_turn(is_disturbed):
+    """Adds a line for a turn to the file that $TURNED names: 1 if it was disturbed and counts all the same, otherwise 0."""
+    if "TURNED" in os.environ:
+        with open(os.environ["TURNED"], "a", encoding="utf-8") as turned:
+            turned.write(f"{int(is_disturbed)}\n")
 
 
 def main():
