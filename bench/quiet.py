@@ -11,20 +11,27 @@ A virtual machine's processor is often half of a real one. Whoever has the other
 for minutes, while the next one is left alone. So what runs in one thread is measured where least is lost, and again if that
 processor isn't quiet any more when it ends.
 """
+import functools
 import os
 import statistics
 import sys
 import time
 
-WORDS = [str(7919 * number % 100_003) for number in range(20_000)]
 TRIES = 5
 PATIENCE = float(os.environ.get("PATIENCE", "3"))    # seconds
 
 
+@functools.cache
+def words():
+    """What the fixed job sorts. Whoever only imports this doesn't hold it."""
+    return [str(7919 * number % 100_003) for number in range(20_000)]
+
+
 def job():
     """The milliseconds of a fixed job, of the processor."""
+    given = words()
     begun = time.thread_time()
-    dict.fromkeys(sorted(WORDS))
+    dict.fromkeys(sorted(given))
     return 1000 * (time.thread_time() - begun)
 
 
