@@ -6,6 +6,8 @@
     bench/quiet.py --all         prints how many milliseconds the job takes on each
     bench/quiet.py --least       prints the fewest milliseconds that it takes within two seconds, on any
     bench/quiet.py --is-quiet    ends with status 1 unless this one is quiet: the job takes at most a seventh more than $QUIET_MS milliseconds
+    bench/quiet.py --wait COUNT  waits until so many are quiet, or $PATIENCE seconds have passed
+    bench/quiet.py --are-quiet COUNT    ends with status 1 unless so many are quiet
 
 A virtual machine's processor is often half of a real one. Whoever has the other half slows it down, nearly twofold, for seconds or
 for minutes, while the next one is left alone. So what runs in one thread is measured where least is lost, and again if that
@@ -64,6 +66,17 @@ def quietest():
             return best
 
 
+def are_quiet(count):
+    return sum(map(is_quiet, times().values())) >= count
+
+
+def wait_for(count):
+    """Waits until so many are quiet, but not for ever."""
+    given_up = time.monotonic() + PATIENCE
+    while not are_quiet(count) and time.monotonic() < given_up:
+        pass
+
+
 def least():
     """The least that the job takes on any processor within two seconds."""
     begun, found = time.monotonic(), []
@@ -89,6 +102,10 @@ def main():
             print(f"{least():.2f}")
         case ["--is-quiet"]:
             sys.exit(not is_quiet(middle()))
+        case ["--wait", count]:
+            wait_for(int(count))
+        case ["--are-quiet", count]:
+            sys.exit(not are_quiet(int(count)))
         case _:
             sys.exit(__doc__)
 
