@@ -97,6 +97,13 @@ def note_turn(is_disturbed):
             turned.write(f"{int(is_disturbed)}\n")
 
 
+def note_figure():
+    """Adds a line of `-` there for a figure none of whose turns was quiet."""
+    if "TURNED" in os.environ:
+        with open(os.environ["TURNED"], "a", encoding="utf-8") as turned:
+            turned.write("-\n")
+
+
 def main():
     match sys.argv[1:]:
         case []:
