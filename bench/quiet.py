@@ -90,18 +90,21 @@ def least():
     return min(found)
 
 
-def note_turn(is_disturbed):
-    """Adds a line for a turn to the file that $TURNED names: 1 if it was disturbed and counts all the same, otherwise 0."""
+def note(line):
+    """Adds a line to the file that $TURNED names."""
     if "TURNED" in os.environ:
         with open(os.environ["TURNED"], "a", encoding="utf-8") as turned:
-            turned.write(f"{int(is_disturbed)}\n")
+            turned.write(f"{line}\n")
+
+
+def note_turn(is_disturbed):
+    """Notes of a turn 1 if it was disturbed, otherwise 0."""
+    note(int(is_disturbed))
 
 
 def note_figure():
-    """Adds a line of `-` there for a figure none of whose turns was quiet."""
-    if "TURNED" in os.environ:
-        with open(os.environ["TURNED"], "a", encoding="utf-8") as turned:
-            turned.write("-\n")
+    """Notes that none of a figure's turns was quiet."""
+    note("-")
 
 
 def main():
