@@ -6,8 +6,8 @@ use Rattle.replica_world.specs.declared.replaying.fault.ReplayFault.TheVariants 
 use Rattle.service_settings.specs.Keys.{name_of}
 use Rattle.service_settings.specs.declared.fault.SettingsFault.{SettingsFault}
 use Rattle.service_settings.specs.declared.fault.SettingsFault.TheVariants as settings
-use Rattle.aggregator_service.specs.declared.serving.ServeFault.{ServeFault}
-use Rattle.aggregator_service.specs.declared.serving.ServeFault.TheVariants as serve
+use Rattle.service_threads.specs.declared.faults.ServeFault.{ServeFault}
+use Rattle.service_threads.specs.declared.faults.ServeFault.TheVariants as serve
 use Rattle.aggregator.specs.declared.failure.Failure.{Failure}
 use Rattle.aggregator.specs.declared.failure.Failure.TheVariants.{Usage, BadLine, BadText, BadKey, BadOriginal, NoGate, Device}
 use Rattle.aggregator.specs.declared.failure.Failure.TheVariants.{NoMemory}

@@ -3,7 +3,7 @@ ghost use Rattle.std.specs.Prelude.{◌≡◌, Some};
 ghost use Rattle.std.specs.Process.{exit_status};
 ghost use Rattle.aggregator.specs.Ending.{failure_of, failure_of_serving, failure_of_settings, message_of, status_of};
 
-use aggregator_service::ServeFault;
+use service_threads::ServeFault;
 use replica_world::ReplayFault;
 use service_settings::{Key, SettingsFault};
 use std::process::ExitCode;

@@ -1,11 +1,1 @@
-pub mod Dues
-pub mod Freshness
-pub mod Jobs
-pub mod Keeping
-pub mod Lines
 pub mod Listing
-pub mod Notes
-pub mod Pulls
-pub mod Reasons
-pub mod Watching
-pub mod Wishes

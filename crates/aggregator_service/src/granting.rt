@@ -1,18 +1,19 @@
 //! The thread of the rounds at work for wishes: they go before the jobs of a round.
-use crate::clocks::revision_now;
-use crate::freshness::{has_mementos, is_fresh};
-use crate::making::{Rounds, Standing, is_asleep};
-use crate::watching::walk_end;
-use crate::wished::{answer_to, is_kept, is_left_alone, room_left, wish_timing, wish_turn};
+use crate::making::Rounds;
+use crate::standing::is_asleep;
 use harvest_lattice::Harvest;
 use harvest_schedule::Verdict;
-use harvest_workers::{Opened, WalkRules, verdict_of};
+use harvest_workers::{Errand, Opened, WalkRules, verdict_of};
 use harvester::SocketRuntime;
 use memento_index::Merge;
 use memento_time::{NoMemory, Original};
 use original_list::spellings_of;
 use original_sets::{Key, OriginalSet};
 use published_index::Merger;
+use round_values::{
+    answer_to, has_mementos, is_fresh, is_kept, is_left_alone, revision_now, room_left, walk_end,
+    wish_timing,
+};
 use service_log::{Line, Want};
 use service_settings::Settings;
 use service_status::WishCounts;
@@ -78,32 +79,32 @@ where
     L: Write + Copy,
 {
     /// Grants what readers wish for, and hands out its jobs, as far as there are hands and archives may be asked.
-    pub(crate) fn hand_wishes(&self, standing: &mut Standing, merger: &mut Merger) {
+    pub(crate) fn hand_wishes(&mut self) {
         if !self.means.book.is_open() {
             return;
         }
-        self.grant_wishes(standing, merger);
-        standing.desk.allow_all();
+        self.grant_wishes();
+        self.standing.desk.allow_all();
         let most = self
             .means
             .pool
             .hands()
             .saturating_add(self.settings().archives.len());
         for _ in 0..most {
-            if !self.hand_wish(standing, merger) {
+            if !self.hand_wish() {
                 break;
             }
         }
-        self.skip_archives(standing);
+        self.skip_archives();
     }
 
     /// Grants each wish that waits, as far as there is memory.
-    fn grant_wishes(&self, standing: &mut Standing, merger: &Merger) {
+    fn grant_wishes(&mut self) {
         for _ in 0..MOST_WISHES {
             let Some(original) = self.means.book.grant(self.rt) else {
                 return;
             };
-            if self.take_wish(standing, merger, &original).is_err() {
+            if self.take_wish(&original).is_err() {
                 self.means.book.put_back(self.rt, &original);
                 return;
             }
@@ -116,38 +117,27 @@ where
     }
 
     /// Takes on a granted wish.
-    fn take_wish(
-        &self,
-        standing: &mut Standing,
-        merger: &Merger,
-        original: &Original,
-    ) -> Result<(), NoMemory> {
+    fn take_wish(&mut self, original: &Original) -> Result<(), NoMemory> {
         let settings = self.settings();
         let now = revision_now(self.rt);
-        let spared = spared(self.alloc(), settings, merger, original, now)?;
-        standing.desk.push(original.try_clone()?, &spared)?;
-        let is_spelling = standing.desk.take_spelling(original);
-        if settings.wishing.alike && !is_spelling && !is_shown(settings, merger, original) {
-            self.wish_spellings(standing, merger, original, now);
+        let spared = spared(self.alloc(), settings, &*self.merger, original, now)?;
+        self.standing.desk.push(original.try_clone()?, &spared)?;
+        let is_spelling = self.standing.desk.take_spelling(original);
+        if settings.wishing.alike && !is_spelling && !is_shown(settings, &*self.merger, original) {
+            self.wish_spellings(original, now);
         }
         Ok(())
     }
 
     /// Wishes for the other spellings of an original of which nothing is shown. What is wished for so leads to no
     /// further wishes.
-    fn wish_spellings(
-        &self,
-        standing: &mut Standing,
-        merger: &Merger,
-        original: &Original,
-        now: u64,
-    ) {
+    fn wish_spellings(&mut self, original: &Original, now: u64) {
         let Ok(spellings) = spellings_of(self.alloc(), original) else {
             return;
         };
         for spelling in spellings {
-            if is_shown(self.settings(), merger, &spelling)
-                || !standing.desk.add_spelling(&spelling)
+            if is_shown(self.settings(), &*self.merger, &spelling)
+                || !self.standing.desk.add_spelling(&spelling)
             {
                 continue;
             }
@@ -155,60 +145,57 @@ where
                 continue;
             };
             if self.means.book.note(noted, false, now) != Some(Decision::Added) {
-                let _ = standing.desk.take_spelling(&spelling);
+                let _ = self.standing.desk.take_spelling(&spelling);
             }
         }
     }
 
     /// Hands out a job of a wish, or finds that its archive can't be asked now. Returns whether there may be more.
-    fn hand_wish(&self, standing: &mut Standing, merger: &mut Merger) -> bool {
-        if standing.walks() >= self.means.pool.hands() {
+    fn hand_wish(&mut self) -> bool {
+        if self.standing.walks() >= self.means.pool.hands() {
             return false;
         }
-        let Some((ask, original)) = standing.desk.next() else {
+        let Some((ask, original)) = self.standing.desk.next() else {
             return false;
         };
         let now = self.now();
-        if !standing.schedule.begin_walk(ask.archive, now) {
-            standing.desk.refuse(ask.archive, now);
+        if !self.standing.schedule.begin_walk(ask.archive, now) {
+            self.standing.desk.refuse(ask.archive, now);
             return true;
         }
-        let _ = standing.desk.ask(ask);
-        self.walk_wish(standing, merger, ask, &original)
+        let _ = self.standing.desk.ask(ask);
+        self.walk_wish(ask, &original)
     }
 
     /// Gives a job of a wish to a worker. Without a worker it is walked at once. Returns whether there may be more.
-    fn walk_wish(
-        &self,
-        standing: &mut Standing,
-        merger: &mut Merger,
-        ask: Ask,
-        original: &Original,
-    ) -> bool {
-        let turn = wish_turn(ask.archive);
+    fn walk_wish(&mut self, ask: Ask, original: &Original) -> bool {
+        let errand = Errand::Wish {
+            archive: ask.archive,
+        };
         let revision = revision_now(self.rt);
         let Some(assignment) = self
             .terms
-            .assignment(self.alloc(), turn, original, revision)
+            .assignment(self.alloc(), errand, original, revision)
         else {
             // Memory was refused, or the URL is too long.
             let now = self.now();
-            let _ = standing
+            let _ = self
+                .standing
                 .schedule
                 .end_walk(ask.archive, Verdict::Unknown, now);
-            standing
+            self.standing
                 .desk
                 .answer(original, ask.archive, Answer::NoHarvest);
             return true;
         };
         match self.means.pool.give(self.rt, assignment) {
             Ok(()) => {
-                standing.desk.add_out();
+                self.standing.desk.add_out();
                 true
             }
             Err(assignment) => {
                 let report = self.terms.walk(self.rt, assignment);
-                self.take_wished(standing, merger, report.open());
+                self.take_wished(ask.archive, report.open());
                 false
             }
         }
@@ -216,25 +203,25 @@ where
 
     /// Lets no wish wait for archives that aren't asked before a later time, or that couldn't be asked for one
     /// patience.
-    fn skip_archives(&self, standing: &mut Standing) {
+    fn skip_archives(&mut self) {
         let now = self.now();
         let patience = self.settings().patience.saturating_mul(1_000);
         for archive in 0..self.settings().archives.len() {
-            if !standing.desk.is_refused(archive) {
+            if !self.standing.desk.is_refused(archive) {
                 continue;
             }
-            if is_left_alone(standing.schedule.mood(archive), now)
-                || standing.desk.is_overdue(archive, patience, now)
+            if is_left_alone(self.standing.schedule.mood(archive), now)
+                || self.standing.desk.is_overdue(archive, patience, now)
             {
-                standing.desk.skip(archive);
+                self.standing.desk.skip(archive);
             }
         }
     }
 
     /// Takes in what came of a wish's walk.
-    pub(crate) fn take_wished(&self, standing: &mut Standing, merger: &mut Merger, opened: Opened) {
+    pub(crate) fn take_wished(&mut self, archive: usize, opened: Opened) {
         let Opened {
-            turn,
+            errand: _,
             job,
             begun,
             result: walked,
@@ -242,69 +229,63 @@ where
         } = opened;
         let asked = self.heeded(asked);
         let end = walk_end(&walked, asked.is_some());
-        let was_asleep = is_asleep(standing.schedule.mood(turn.archive));
+        let was_asleep = is_asleep(self.standing.schedule.mood(archive));
         let now = self.now();
         let verdict = verdict_of(&walked, asked, now);
-        let _ = standing.schedule.end_walk(turn.archive, verdict, now);
-        self.tell_walk(standing, turn.archive, end, begun);
-        self.tell_mood(standing, turn.archive, was_asleep);
+        let _ = self.standing.schedule.end_walk(archive, verdict, now);
+        self.tell_walk(archive, end, begun);
+        self.tell_mood(archive, was_asleep);
         let answer = answer_to(&walked);
         let is_taken = match walked {
-            Ok(harvest) => self.take_wished_harvest(standing, merger, harvest, now),
+            Ok(harvest) => self.take_wished_harvest(harvest, now),
             Err(_) => true,
         };
         let answer = if is_taken { answer } else { Answer::NoHarvest };
-        standing.desk.answer(&job.original, turn.archive, answer);
+        self.standing.desk.answer(&job.original, archive, answer);
     }
 
     /// Appends the harvest of a wish's walk, if it is kept. Returns whether there was memory for it.
-    fn take_wished_harvest(
-        &self,
-        standing: &mut Standing,
-        merger: &mut Merger,
-        harvest: Harvest,
-        now: u64,
-    ) -> bool {
-        let is_shown = is_shown(self.settings(), merger, harvest.original());
+    fn take_wished_harvest(&mut self, harvest: Harvest, now: u64) -> bool {
+        let is_shown = is_shown(self.settings(), &*self.merger, harvest.original());
         if !is_kept(&harvest, is_shown) {
             return true;
         }
-        let is_taken = merger.append(&Merge::Harvest(harvest)).is_ok();
+        let is_taken = self.merger.append(&Merge::Harvest(harvest)).is_ok();
         if is_taken {
-            standing.desk.add_pending(now);
+            self.standing.desk.add_pending(now);
         } else {
-            standing.notes.add_unkept();
+            self.standing.notes.add_unkept();
         }
         is_taken
     }
 
     /// Publishes what wishes brought, where that is due, ends wishes that are over, and tells the log of them.
-    pub(crate) fn tend_wishes(&self, standing: &mut Standing, merger: &mut Merger) {
+    pub(crate) fn tend_wishes(&mut self) {
         if !self.means.book.is_open() {
             return;
         }
-        if standing.desk.is_due(self.now()) {
-            self.publish(standing, merger);
+        if self.standing.desk.is_due(self.now()) {
+            self.publish();
         }
-        self.end_wishes(standing, merger);
-        if let Some(counts) = standing.desk.take_counts(self.now()) {
+        self.end_wishes();
+        if let Some(counts) = self.standing.desk.take_counts(self.now()) {
             self.log.tell(self.alloc(), Line::Wishes(counts));
         }
     }
 
     /// Ends the wishes that are over.
-    fn end_wishes(&self, standing: &mut Standing, merger: &Merger) {
+    fn end_wishes(&mut self) {
         let now = revision_now(self.rt);
         for _ in 0..MOST_WISHES {
-            let Some(ended) = standing.desk.take_ended() else {
+            let Some(ended) = self.standing.desk.take_ended() else {
                 return;
             };
             let is_found = ended.outcome.is_found
-                || is_shown(self.settings(), merger, &ended.original);
+                || is_shown(self.settings(), &*self.merger, &ended.original);
             self.means
                 .book
                 .end(self.rt, &ended.original, is_found, ended.outcome, now);
-            standing.desk.count(is_found);
+            self.standing.desk.count(is_found);
             let over = WishCounts {
                 ended: 1,
                 ..WishCounts::NONE
@@ -314,22 +295,22 @@ where
     }
 
     /// Tells the book how many more unknown originals may be wished for, by what is published.
-    pub(crate) fn tell_room(&self, standing: &Standing, merger: &Merger) {
+    pub(crate) fn tell_room(&self) {
         let settings = self.settings();
         if let Some(wanted) = settings.wishing.wanted {
-            let listed = standing.list(settings).len();
-            let entries = merger.published_state().len();
+            let listed = self.standing.list(settings).len();
+            let entries = self.merger.published_state().len();
             let room = room_left(settings.archives.len(), listed, wanted.get(), entries);
             self.means.book.set_room(self.rt, room);
         }
     }
 
     /// Tells the book which originals rounds look after. Where memory is refused, those of before stay.
-    pub(crate) fn tell_listed(&self, standing: &Standing) {
+    pub(crate) fn tell_listed(&self) {
         let (true, Some(keys)) = (self.means.book.is_open(), self.means.keys) else {
             return;
         };
-        if let Ok(listed) = set_of(self.alloc(), standing.list(self.settings()), keys) {
+        if let Ok(listed) = set_of(self.alloc(), self.standing.list(self.settings()), keys) {
             self.means.book.set_listed(self.rt, listed);
         }
     }

@@ -4,15 +4,15 @@ ghost use Rattle.std.specs.Io.KnownBytes.{Appends};
 ghost use Rattle.service_log.specs.Logs.{list_line};
 ghost use Rattle.aggregator_service.specs.Listing.{IsReported, bad_report};
 
-use crate::making::{Rounds, Standing};
-use crate::ordering::shuffle;
-use crate::serving::ServeFault;
+use crate::making::Rounds;
 use harvest_workers::WalkRules;
 use harvester::SocketRuntime;
 use memento_time::{NoMemory, Original};
 use original_list::{Listed, each_once, read_list};
+use round_values::shuffle;
 use service_log::{Line, ListMatter};
 use service_settings::Settings;
+use service_threads::ServeFault;
 use std::alloc::{AllocGlobal, Global};
 use std::fs;
 use std::hash::RandomState;
@@ -124,24 +124,18 @@ where
 {
     /// Reads the file of originals, if the settings name one, for the round with this number. Where it can't be read,
     /// the originals of before stay.
-    pub(crate) fn read_list(&self, standing: &mut Standing, number: u64) {
+    pub(crate) fn read_list(&mut self, number: u64) {
         let (Some(path), Some(keys)) = (&self.settings().wishing.originals_file, self.means.keys)
         else {
             return;
         };
-        if let Err(matter) = self.take_list(standing, path.as_str(), keys, number) {
+        if let Err(matter) = self.take_list(path.as_str(), keys, number) {
             self.tell_list(number, matter);
         }
     }
 
     /// Takes the originals of a file into the list of the rounds.
-    fn take_list(
-        &self,
-        standing: &mut Standing,
-        path: &str,
-        keys: RandomState,
-        number: u64,
-    ) -> Result<(), ListMatter> {
+    fn take_list(&mut self, path: &str, keys: RandomState, number: u64) -> Result<(), ListMatter> {
         let text = read_file(self.rt, path)?;
         let Ok((mut originals, listed)) = list_of(self.alloc(), self.settings(), &text, keys) else {
             return Err(ListMatter::NoMemory);
@@ -149,7 +143,7 @@ where
         if self.settings().timing.again.is_some() {
             shuffle(&mut originals, self.seed);
         }
-        standing.listing.originals = Some(originals);
+        self.standing.listing.originals = Some(originals);
         self.tell_bad(number, &listed);
         Ok(())
     }

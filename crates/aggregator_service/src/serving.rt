@@ -2,27 +2,21 @@
 ghost use Rattle.std.specs.Prelude.{OnOk};
 ghost use Rattle.std.specs.Io.KnownBytes.{Appends};
 ghost use Rattle.std.specs.Arc.{arc_value};
-ghost use Rattle.aggregator_service.specs.Jobs.{Covers};
-ghost use Rattle.aggregator_service.specs.Lines.{round_line};
+ghost use Rattle.service_threads.specs.Jobs.{Covers};
+ghost use Rattle.round_values.specs.Lines.{round_line};
 
-use crate::clocks::incarnation_now;
-use crate::dues::Stopwatch;
-use crate::gates::{Listeners, open_listeners};
-use crate::logs::Log;
-use crate::making::{Rounds, Standing};
-use crate::means::Means;
-use crate::ordering::shuffle;
-use crate::rounds::Round;
-use crate::terms::Terms;
+use crate::making::Rounds;
+use crate::standing::Standing;
 use harvest_workers::WalkRules;
 use harvester::SocketRuntime;
-use hyper_edge::EdgeFault;
-use published_index::{Gate, Merger, OpenFault, open};
+use published_index::{Gate, Merger, open};
+use round_values::{Log, Round, Stopwatch, incarnation_now, shuffle};
 use service_log::Line;
 use service_settings::Settings;
-use std::alloc::{AllocError, AllocFailed, AllocGlobal, Global};
+use service_threads::{Listeners, Means, ServeFault, Terms, open_listeners};
+use std::alloc::{AllocGlobal, Global};
 use std::hash::RandomState;
-use std::io::{self, Write};
+use std::io::Write;
 use std::marker::Brand;
 use std::net::{Net, SocketAddr, TcpListener, TcpStream};
 use std::random::RandomSource;
@@ -30,55 +24,6 @@ use std::rt::Files;
 use std::sync::{Arc, Wait};
 use std::thread::Threads;
 use std::time::Clock;
-
-/// Why serving ended before its last round and connection, or why it never began.
-#[derive(Clone, Copy, Debug, PartialEq, Eq)]
-pub enum ServeFault {
-    /// A gate can't be bound, opened, or given a thread.
-    NoGate,
-    /// Writing the output, or accepting a connection, failed.
-    Device,
-    /// The allocator refused a growth.
-    NoMemory,
-}
-
-// A write that failed, for whatever reason.
-impl From<io::Error> for ServeFault {
-    fn from(_failed: io::Error) -> ServeFault {
-        ServeFault::Device
-    }
-}
-
-impl From<AllocError> for ServeFault {
-    fn from(_refused: AllocError) -> ServeFault {
-        ServeFault::NoMemory
-    }
-}
-
-impl<T: Drop> From<AllocFailed<T>> for ServeFault {
-    fn from(_refused: AllocFailed<T>) -> ServeFault {
-        ServeFault::NoMemory
-    }
-}
-
-impl From<EdgeFault> for ServeFault {
-    fn from(fault: EdgeFault) -> ServeFault {
-        match fault {
-            EdgeFault::Bind => ServeFault::NoGate,
-            EdgeFault::Accept => ServeFault::Device,
-            EdgeFault::NoMemory => ServeFault::NoMemory,
-        }
-    }
-}
-
-impl From<OpenFault> for ServeFault {
-    fn from(fault: OpenFault) -> ServeFault {
-        match fault {
-            OpenFault::NoMemory => ServeFault::NoMemory,
-            OpenFault::NoPlace => ServeFault::NoGate,
-        }
-    }
-}
 
 /// Serves by these settings until the last round and the last connection, and writes what it does to `out`, line by
 /// line. If the settings ask for a log, what went wrong is written to `log`, one line for each call; each gate's thread
@@ -172,17 +117,19 @@ where
     let made = match said {
         Ok(()) => {
             means.start(rt, &terms);
-            let rounds = Rounds {
+            let mut rounds = Rounds {
                 rt,
                 terms: &terms,
                 means: &means,
                 watch,
                 seed: incarnation_now(rt),
                 log,
+                standing,
+                merger,
             };
-            let made = make_all(&rounds, &mut standing, merger, out);
+            let made = make_all(&mut rounds, out);
             // From now on nothing changes.
-            rounds.keep(&mut standing, merger);
+            rounds.keep();
             made
         }
         Err(fault) => Err(fault),
@@ -220,24 +167,19 @@ fn say_ports<W: Write>(
 }
 
 /// Makes the rounds, and writes a line for each.
-fn make_all<R, W, L, P>(
-    rounds: &Rounds<'_, R, P, L>,
-    standing: &mut Standing,
-    merger: &mut Merger,
-    out: &mut W,
-) -> Result<(), ServeFault>
+fn make_all<R, W, L, P>(rounds: &mut Rounds<'_, R, P, L>, out: &mut W) -> Result<(), ServeFault>
 where
     R: SocketRuntime + Files,
     W: Write,
     L: Write + Copy,
     P: WalkRules,
 {
-    rounds.greet(standing, merger);
+    rounds.greet();
     for number in 1..=rounds.terms.settings().rounds {
         if number > 1 {
-            rounds.wait_between(standing, merger);
+            rounds.wait_between();
         }
-        let round = rounds.make(standing, merger, number);
+        let round = rounds.make(number);
         say_round(number, round, out)?;
     }
     Ok(())

@@ -1,2 +1,3 @@
 pub mod Allowing
+pub mod Errands
 pub mod Verdicts

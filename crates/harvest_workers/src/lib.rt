@@ -1,15 +1,17 @@
 //! Jobs that are handed to workers in threads of their own, and what they report.
 //!
-//! `WalkRules` names, for proofs alone, which job each turn of a round has, and what may be fetched. An `Assignment`
-//! has the job of its turn, and a `WalkReport` what may come of that very job. Both are facts of their types, so that
-//! they hold of whatever a channel brings.
+//! `WalkRules` names, for proofs alone, which job each errand has, and what may be fetched. An `Assignment` has the job
+//! of its `Errand`, which is a turn of a round or a wish, and a `WalkReport` what may come of that very job. Both are
+//! facts of their types, so that they hold of whatever a channel brings.
 #![tactic(auto)]
 
+mod errands;
 mod messages;
 mod rules;
 mod verdicts;
 mod walking;
 
+pub use errands::Errand;
 pub use messages::{Assignment, Opened, WalkReport};
 pub use rules::{RuledFetch, WalkRules};
 pub use verdicts::verdict_of;

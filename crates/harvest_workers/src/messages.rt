@@ -3,27 +3,27 @@ ghost use Rattle.std.specs.Prelude.{◌≡◌, ℕ};
 ghost use Rattle.harvester.specs.Answers.{HasFirstUrl};
 ghost use Rattle.harvester.specs.Unkept.{Comes};
 
+use crate::errands::Errand;
 use crate::rules::WalkRules;
 use harvest_lattice::Harvest;
-use harvest_schedule::Turn;
 use harvester::{Job, WalkFault};
 use std::marker::PhantomData;
 
-/// A job that a worker is to walk: the job of its turn.
+/// A job that a worker is to walk: the job of its errand.
 #[derive(Drop)]
 pub struct Assignment<P: WalkRules> {
-    turn: Turn,
+    errand: Errand,
     job: Job,
     of: PhantomData<P>,
 
     ghost first: { HasFirstUrl job },
-    ghost own: { ∥ P.jobs turn job ∥₁ },
+    ghost own: { ∥ P.jobs errand job ∥₁ },
 }
 
-/// What came of the job of a turn: one of the outcomes of that very job.
+/// What came of the job of an errand: one of the outcomes of that very job.
 #[derive(Drop)]
 pub struct WalkReport<P: WalkRules> {
-    turn: Turn,
+    errand: Errand,
     job: Job,
     /// When the walk began, as a second since the start of 1970.
     begun: u64,
@@ -32,14 +32,14 @@ pub struct WalkReport<P: WalkRules> {
     asked: Option<u64>,
     of: PhantomData<P>,
 
-    ghost own: { ∥ P.jobs turn job ∥₁ },
+    ghost own: { ∥ P.jobs errand job ∥₁ },
     ghost comes: { ∥ Comes P.answers P.faults job begun result asked ∥₁ },
 }
 
 /// What is in a report.
 #[derive(Drop)]
 pub struct Opened {
-    pub turn: Turn,
+    pub errand: Errand,
     pub job: Job,
     pub begun: u64,
     pub result: Result<Harvest, WalkFault>,
@@ -47,56 +47,56 @@ pub struct Opened {
 }
 
 impl<P: WalkRules> Assignment<P> {
-    /// The assignment of a turn whose job this is.
-    pub fn new(turn: Turn, job: Job) -> Assignment<P>
+    /// The assignment of an errand whose job this is.
+    pub fn new(errand: Errand, job: Job) -> Assignment<P>
         requires first { HasFirstUrl job }
-        requires own { ∥ P.jobs turn job ∥₁ }
-        ensures turn { result.turn ≡ turn }
+        requires own { ∥ P.jobs errand job ∥₁ }
+        ensures errand { result.errand ≡ errand }
         ensures job { result.job ≡ job }
     {
         Assignment {
-            turn,
+            errand,
             job,
             of: PhantomData,
         }
     }
 
-    /// The turn.
-    pub fn turn(&self) -> Turn
-        ensures { result ≡ self.now.turn }
+    /// The errand.
+    pub fn errand(&self) -> Errand
+        ensures { result ≡ self.now.errand }
     {
-        self.turn
+        self.errand
     }
 
-    /// The turn, and its job.
-    pub(crate) fn open(self) -> (Turn, Job)
-        ensures turn { result.0 ≡ self.turn }
+    /// The errand, and its job.
+    pub(crate) fn open(self) -> (Errand, Job)
+        ensures errand { result.0 ≡ self.errand }
         ensures job { result.1 ≡ self.job }
         ensures first { HasFirstUrl result.1 }
         ensures own { ∥ P.jobs result.0 result.1 ∥₁ }
     {
-        let Assignment { turn, job, of: _ } = self;
-        (turn, job)
+        let Assignment { errand, job, of: _ } = self;
+        (errand, job)
     }
 }
 
 impl<P: WalkRules> WalkReport<P> {
-    /// The report of what came of the job of a turn.
+    /// The report of what came of the job of an errand.
     pub(crate) fn new(opened: Opened) -> WalkReport<P>
-        requires own { ∥ P.jobs opened.turn opened.job ∥₁ }
+        requires own { ∥ P.jobs opened.errand opened.job ∥₁ }
         requires comes { ∥ Comes P.answers P.faults opened.job opened.begun opened.result opened.asked ∥₁ }
-        ensures turn { result.turn ≡ opened.turn }
+        ensures errand { result.errand ≡ opened.errand }
         ensures job { result.job ≡ opened.job }
     {
         let Opened {
-            turn,
+            errand,
             job,
             begun,
             result: walked,
             asked,
         } = opened;
         WalkReport {
-            turn,
+            errand,
             job,
             begun,
             result: walked,
@@ -105,15 +105,15 @@ impl<P: WalkRules> WalkReport<P> {
         }
     }
 
-    /// The turn, its job, and what came of that job.
+    /// The errand, its job, and what came of that job.
     pub fn open(self) -> Opened
-        ensures turn { result.turn ≡ self.turn }
+        ensures errand { result.errand ≡ self.errand }
         ensures job { result.job ≡ self.job }
-        ensures own { ∥ P.jobs result.turn result.job ∥₁ }
+        ensures own { ∥ P.jobs result.errand result.job ∥₁ }
         ensures comes { ∥ Comes P.answers P.faults result.job result.begun result.result result.asked ∥₁ }
     {
         let WalkReport {
-            turn,
+            errand,
             job,
             begun,
             result: walked,
@@ -121,7 +121,7 @@ impl<P: WalkRules> WalkReport<P> {
             of: _,
         } = self;
         Opened {
-            turn,
+            errand,
             job,
             begun,
             result: walked,

@@ -4,16 +4,16 @@ ghost use Rattle.harvest_workers.specs.Allowing.{Allows};
 use harvester::Fetch;
 use std::marker::{Brand, PhantomData};
 
-/// Names what jobs turns have and what may be fetched, for proofs alone.
+/// Names what jobs errands have and what may be fetched, for proofs alone.
 pub trait WalkRules {
     ghost use Rattle.std.specs.Prelude.{ℕ, List};
     ghost use Rattle.harvester.specs.declared.fetches.Answer.{Answer};
     ghost use Rattle.harvester.specs.declared.faults.FetchFault.{FetchFault};
     ghost use Rattle.harvester.specs.declared.jobs.Job.{Job};
-    ghost use Rattle.harvest_schedule.specs.declared.turns.Turn.{Turn};
+    ghost use Rattle.harvest_workers.specs.declared.errands.Errand.{Errand};
 
-    /// Holds for each job that a turn may have.
-    ghost jobs: { Turn → Job → Type 0 };
+    /// Holds for each job that a worker may be sent for.
+    ghost jobs: { Errand → Job → Type 0 };
 
     /// Holds for each answer that may be fetched for a URL.
     ghost answers: { List ℕ → Answer → Type 0 };

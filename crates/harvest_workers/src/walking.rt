@@ -21,16 +21,16 @@ where
     R: Wait + Clock + Net<Listener = TcpListener, Stream = TcpStream> + RandomSource + AllocGlobal,
     F: Fetch,
     P: WalkRules,
-    ensures turn { result.turn ≡ assignment.turn }
+    ensures errand { result.errand ≡ assignment.errand }
     ensures job { result.job ≡ assignment.job }
 {
-    let (turn, job) = assignment.open();
+    let (errand, job) = assignment.open();
     let Walked {
         result: walked,
         asked,
     } = harvest_job(rt, fetch.fetch(), &job, begun);
     WalkReport::new(Opened {
-        turn,
+        errand,
         job,
         begun,
         result: walked,

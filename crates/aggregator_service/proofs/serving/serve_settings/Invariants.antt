@@ -1,12 +1,13 @@
 use Rattle.std.specs.Prelude.{⊤}
 use Rattle.std.specs.Arc.{arc_value}
-use Rattle.aggregator_service.specs.Jobs.{IsJobOf, MayAnswer}
+use Rattle.harvest_workers.specs.Errands.{archive_of}
+use Rattle.service_threads.specs.Jobs.{IsJobOf, MayAnswer}
 use Rattle.aggregator_service.proofs.serving.serve_settings.Given as goal
 
 -- the jobs of these settings, and what may be fetched by them
 abbrev pub ghosts-serve_gates : goal.ghosts-serve_gates
 ghosts-serve_gates g a = record {
-  jobs = λ turn. IsJobOf (arc_value a.settings.now) turn.archive;
+  jobs = λ errand. IsJobOf (arc_value a.settings.now) (archive_of errand);
   answers = MayAnswer (arc_value a.settings.now);
   faults = λ _ _. ⊤;
 }

@@ -1,8 +1,0 @@
-use Rattle.aggregator_service.proofs.KeepingLemmas.{nothing_is_added}
-use Rattle.aggregator_service.proofs.keeping.take_states.Goals as goal
-
-pub returns-in_err-states : goal.returns-in_err-states
-returns-in_err-states g c = nothing_is_added c.args.merger.now
-
-pub returns-in_default : goal.returns-in_default
-returns-in_default g c = nothing_is_added c.args.merger.now

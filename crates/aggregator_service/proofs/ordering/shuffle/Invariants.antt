@@ -1,9 +1,0 @@
-use Rattle.std.proofs.Common.{◌≡◌, length}
-use Rattle.std.specs.Prelude.{IsPermutation}
-use Rattle.aggregator_service.proofs.ordering.shuffle.Given as goal
-
-abbrev pub invariant-loop-place : goal.invariant-loop-place
-invariant-loop-place g l = record {
-  moved : IsPermutation l.initial.values l.values;
-  len : length l.values ≡ length l.initial.values;
-}

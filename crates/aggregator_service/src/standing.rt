@@ -1,0 +1,157 @@
+//! Where the rounds stand.
+ghost use Rattle.std.specs.Prelude.{◌≡◌, IfSome, None};
+
+use crate::listing::Listing;
+use harvest_schedule::{Limits, Mood, Pace, Schedule};
+use memento_time::Original;
+use round_values::{Desk, Dues, Keeping, Notes, Round};
+use service_log::Progress;
+use service_settings::{Archive, Settings};
+use std::alloc::{AllocError, Global};
+
+/// Where the rounds stand.
+#[derive(Drop)]
+pub(crate) struct Standing {
+    /// Lasts over rounds, so that what an archive answered in one counts in the next.
+    pub(crate) schedule: Schedule,
+    pub(crate) dues: Dues,
+    pub(crate) keeping: Keeping,
+    /// For each peer, whether it is being pulled.
+    pub(crate) pulled: Vec<bool>,
+    /// The number of the round, counted from 1.
+    pub(crate) number: u64,
+    pub(crate) round: Round,
+    pub(crate) notes: Notes,
+    /// The revision of a round's jobs, unless each has its own.
+    pub(crate) revision: u64,
+    /// How many jobs of the round are out.
+    pub(crate) out: usize,
+    /// How many jobs of the round were passed over.
+    pub(crate) passed: u64,
+    /// Granted wishes.
+    pub(crate) desk: Desk,
+    pub(crate) listing: Listing,
+    /// When all mementos were counted last, if the status is told of them.
+    pub(crate) counted: Option<u64>,
+    /// When the memory that is held was looked at last, if the status is told of it.
+    pub(crate) measured: Option<u64>,
+}
+
+/// Whether the settings have a key by which more is told than the specified lines.
+pub(crate) fn tells_more(settings: &Settings) -> bool {
+    settings.asking.tolerance.is_some()
+        || settings.timing.again.is_some()
+        || settings.timing.publish.is_some()
+        || settings.timing.pull.is_some()
+}
+
+/// Whether an archive failed too often, and hasn't answered since.
+pub(crate) fn is_asleep(mood: Option<Mood>) -> bool {
+    matches!(mood, Some(Mood::Dormant { .. } | Mood::Probed))
+}
+
+/// How often an archive may be asked. An archive with a time between two requests is walked one at a time.
+fn pace_of(settings: &Settings, archive: &Archive) -> Pace
+    ensures every { IfSome archive.now.every (λ every. result ≡ record { at_once = 1; every = every }) }
+    ensures at_any_time { archive.now.every ≡ None → result.every ≡ 0 }
+    ensures own { archive.now.every ≡ None → IfSome archive.now.at_once (λ most. result.at_once ≡ most) }
+    ensures of_all { archive.now.every ≡ None → archive.now.at_once ≡ None
+        → result.at_once ≡ settings.now.asking.at_once }
+{
+    let at_once = archive.at_once.unwrap_or(settings.asking.at_once);
+    match archive.every {
+        Some(every) => Pace { at_once: 1, every },
+        None => Pace {
+            at_once: at_once as usize,
+            every: 0,
+        },
+    }
+}
+
+/// The schedule of these settings. Its times are milliseconds.
+fn schedule_of(alloc: Global, settings: &Settings) -> Result<Schedule, AllocError> {
+    let mut paces = Vec::with_capacity(alloc, settings.archives.len())?;
+    for archive in &settings.archives {
+        paces.push(pace_of(settings, archive))?;
+    }
+    let limits = Limits {
+        tolerance: settings.asking.tolerance,
+        pause: settings.asking.dormant.saturating_mul(1_000),
+    };
+    Schedule::new(alloc, limits, &paces, settings.originals.len())
+}
+
+/// How many jobs a round has that looks after so many originals.
+fn jobs_in(settings: &Settings, originals: usize) -> u64 {
+    originals.saturating_mul(settings.archives.len()) as u64
+}
+
+/// Of how many archives something is noted for wishes.
+fn windows_of(settings: &Settings) -> usize {
+    match settings.wishing.wanted {
+        Some(_) => settings.archives.len(),
+        None => 0,
+    }
+}
+
+impl Standing {
+    /// Before the first round, at this millisecond.
+    pub(crate) fn new(
+        alloc: Global,
+        settings: &Settings,
+        now: u64,
+    ) -> Result<Standing, AllocError> {
+        let mut pulled = Vec::with_capacity(alloc, settings.peers.len())?;
+        for _ in &settings.peers {
+            pulled.push(false)?;
+        }
+        Ok(Standing {
+            schedule: schedule_of(alloc, settings)?,
+            dues: Dues::new(settings, tells_more(settings), now),
+            keeping: Keeping::new(&settings.storing, now),
+            pulled,
+            number: 1,
+            round: Round::NONE,
+            notes: Notes::new(alloc, settings),
+            revision: 0,
+            out: 0,
+            passed: 0,
+            desk: Desk::new(alloc, windows_of(settings))?,
+            listing: Listing::NONE,
+            counted: None,
+            measured: None,
+        })
+    }
+
+    /// The originals that rounds look after.
+    pub(crate) fn list<'a>(&'a self, settings: &'a Settings) -> &'a [Original] {
+        self.listing.originals(settings)
+    }
+
+    /// How many walks are out.
+    pub(crate) fn walks(&self) -> usize {
+        self.out.saturating_add(self.desk.out())
+    }
+
+    /// Begins the round with this number. What was pulled since the last one counts in it.
+    pub(crate) fn begin(&mut self, alloc: Global, settings: &Settings, number: u64) {
+        let originals = self.list(settings).len();
+        let _ = self.schedule.begin(originals);
+        self.number = number;
+        self.notes = Notes::new(alloc, settings);
+        self.passed = 0;
+    }
+
+    pub(crate) fn jobs(&self, settings: &Settings) -> u64 {
+        jobs_in(settings, self.list(settings).len())
+    }
+
+    pub(crate) fn progress(&self, settings: &Settings) -> Progress {
+        Progress {
+            done: self.round.jobs.saturating_add(self.passed),
+            jobs: self.jobs(settings),
+            failed: self.notes.failed(),
+            passed: self.passed,
+        }
+    }
+}

@@ -1,0 +1,101 @@
+//! What is due while rounds are made: publishes, snapshots, pulls, and lines of the log.
+use crate::making::Rounds;
+use harvest_workers::WalkRules;
+use harvester::SocketRuntime;
+use round_values::Round;
+use service_log::Line;
+use service_settings::Settings;
+use std::io::Write;
+use std::rt::Files;
+
+/// Whether something was learnt in a round, or there is nobody to learn from.
+fn has_learnt(settings: &Settings, round: Round, jobs: u64) -> bool {
+    round.harvests > 0 || round.pulls > 0 || jobs == 0 && settings.peers.is_empty()
+}
+
+impl<R, P, L> Rounds<'_, R, P, L>
+where
+    R: SocketRuntime + Files,
+    P: WalkRules,
+    L: Write + Copy,
+{
+    /// Does what is due: takes in what peers gave, pulls, publishes, and tells the log how far the round is.
+    pub(crate) fn tend(&mut self) {
+        self.tend_peers();
+        self.tend_wishes();
+        self.tend_snapshot();
+        self.tell_progress();
+        self.tell_memory();
+        let now = self.now();
+        if self.standing.dues.progress.is_due(now) {
+            self.standing.dues.progress.done(now);
+            let line = Line::Progress {
+                round: self.standing.number,
+                progress: self.standing.progress(self.settings()),
+            };
+            self.log.tell(self.alloc(), line);
+        }
+    }
+
+    /// Takes in what peers gave, pulls and publishes, where that is due.
+    pub(crate) fn tend_peers(&mut self) {
+        for _ in 0..self.settings().peers.len() {
+            let Some(answer) = self.means.pullers.answered(self.rt) else {
+                break;
+            };
+            self.take_pull(answer);
+        }
+        let now = self.now();
+        if self.standing.dues.pull.is_due(now) {
+            self.standing.dues.pull.done(now);
+            self.ask_peers();
+        }
+        if self.standing.round.pending && self.standing.dues.publish.is_due(now) {
+            self.standing.dues.publish.done(now);
+            self.publish();
+        }
+    }
+
+    /// Publishes what is pending, and keeps it where that is due. The gates are ready once something is shown, or
+    /// nobody can be learnt from.
+    pub(crate) fn publish(&mut self) {
+        let is_appended = self.standing.round.pending || self.standing.desk.has_pending();
+        self.standing
+            .round
+            .publish(self.rt, self.standing.number, self.merger, self.log);
+        let is_published = self.standing.round.published;
+        let jobs = self.standing.jobs(self.settings());
+        if is_published && has_learnt(self.settings(), self.standing.round, jobs) {
+            self.means.readiness.set();
+            self.means.telling.tell_shown(self.rt);
+        }
+        self.tell_publish(is_published);
+        let now = self.now();
+        self.standing.desk.note_publish(is_published, now);
+        self.tell_room();
+        self.standing
+            .keeping
+            .note_publish(is_appended, is_published);
+        self.tend_snapshot();
+    }
+
+    /// Writes a snapshot, where one is due.
+    pub(crate) fn tend_snapshot(&mut self) {
+        if self.standing.keeping.is_due(self.now()) {
+            self.keep();
+        }
+    }
+
+    /// Writes a snapshot, if the settings ask for one and it would have more than the last one.
+    pub(crate) fn keep(&mut self) {
+        let Some(path) = &self.settings().storing.snapshot else {
+            return;
+        };
+        if self.standing.keeping.is_behind() {
+            self.standing
+                .keeping
+                .keep(self.rt, path.as_str(), &*self.merger, self.log);
+            self.standing.keeping.tried(self.now());
+        }
+    }
+}

@@ -1,0 +1,9 @@
+pub mod Dues
+pub mod Ends
+pub mod Freshness
+pub mod Keeping
+pub mod Lines
+pub mod Notes
+pub mod Pulls
+pub mod Reasons
+pub mod Wishes

@@ -1,0 +1,32 @@
+//! The clock, which gives harvests their revisions and tells incarnations apart.
+ghost use Rattle.std.specs.Prelude.{◌≡◌, ◌-◌, ◌^◌, min};
+ghost use Rattle.std.specs.Duration.{as_nanos};
+
+use std::time::{Clock, Duration, SystemTime, UNIX_EPOCH};
+
+/// The revision of harvests that begin now: the clock's seconds since 1970, or 0 before 1970 or without a clock.
+pub fn revision_now(rt: &impl Clock) -> u64 {
+    passed_since_1970(rt).as_secs()
+}
+
+/// The incarnation of a replica that starts now: the clock's nanoseconds since 1970, or 0 before 1970 or without a
+/// clock.
+pub fn incarnation_now(rt: &impl Clock) -> u64 {
+    incarnation_after(passed_since_1970(rt))
+}
+
+/// The time that has passed since 1970; zero before 1970 or without a clock.
+fn passed_since_1970(rt: &impl Clock) -> Duration {
+    let Ok(now) = SystemTime::now(rt) else {
+        return Duration::ZERO;
+    };
+    now.duration_since(UNIX_EPOCH).unwrap_or(Duration::ZERO)
+}
+
+/// The incarnation of a replica that starts this long after the start of 1970: the nanoseconds, as far as 64 bits can
+/// count them, which is into the year 2554.
+fn incarnation_after(passed: Duration) -> u64
+    ensures { result ≡ min (as_nanos passed) (2 ^ 64 - 1) }
+{
+    u64::try_from(passed.as_nanos()).unwrap_or(u64::MAX)
+}

@@ -1,0 +1,233 @@
+//! What the thread of the rounds keeps of granted wishes.
+ghost use Rattle.std.specs.Prelude.{◌≡◌, ◌-◌, ◌≤◌};
+ghost use Rattle.service_status.specs.Counts.{one_more};
+
+use crate::wished::is_overdue;
+use memento_time::{NoMemory, Original};
+use service_log::WishCounts;
+use std::alloc::{AllocError, Global};
+use wish_list::{Answer, Ask, Ended, WishJobs};
+
+/// How many milliseconds what wishes bring waits for more of it before it is published.
+const GATHER: u64 = 20;
+
+/// How many milliseconds pass at least between two publishes of what wishes bring.
+const BETWEEN: u64 = 100;
+
+/// The same after a publish that was refused.
+const AFTER_REFUSAL: u64 = 10_000;
+
+/// How many milliseconds pass at least between two lines of the log about wishes.
+const TELL: u64 = 60_000;
+
+/// The most milliseconds that a new wish waits before it is looked at.
+const LOOK: u64 = 50;
+
+/// Granted wishes, and how far they are.
+#[derive(Drop)]
+pub struct Desk {
+    jobs: WishJobs,
+    /// For each archive, whether it may be asked, as far as was tried.
+    may: Vec<bool>,
+    /// For each archive, since when wishes wait for it, if it couldn't be asked when that was tried last.
+    refused: Vec<Option<u64>>,
+    /// Other spellings of wished originals that are wished for, and not granted yet.
+    spellings: Vec<Original>,
+    /// How many walks are out.
+    out: usize,
+    /// From when on what wishes brought is to be published, if that is to be.
+    due: Option<u64>,
+    /// Before this time nothing of wishes is published by itself.
+    rest: u64,
+    /// What the log wasn't told yet.
+    counts: WishCounts,
+    /// When the log was told last.
+    told: Option<u64>,
+}
+
+impl Desk {
+    /// No wishes, and room for what is noted of so many archives.
+    pub fn new(alloc: Global, archives: usize) -> Result<Desk, AllocError> {
+        let mut may = Vec::with_capacity(alloc, archives)?;
+        let mut refused = Vec::with_capacity(alloc, archives)?;
+        for _ in 0..archives {
+            may.push(false)?;
+            refused.push(None)?;
+        }
+        Ok(Desk {
+            jobs: WishJobs::new(alloc),
+            may,
+            refused,
+            spellings: Vec::new(alloc),
+            out: 0,
+            due: None,
+            rest: 0,
+            counts: WishCounts::NONE,
+            told: None,
+        })
+    }
+
+    /// How many walks are out.
+    pub fn out(&self) -> usize
+        ensures { result ≡ self.now.out }
+    {
+        self.out
+    }
+
+    /// One walk more is out.
+    pub fn add_out(&mut self)
+        ensures { self.new ≡ record self.old { out = one_more self.old.out } }
+    {
+        self.out = self.out.saturating_add(1);
+    }
+
+    /// A walk that was out has ended.
+    pub fn end_out(&mut self)
+        ensures { self.new ≡ record self.old { out = self.old.out - 1 } }
+    {
+        self.out = self.out.saturating_sub(1);
+    }
+
+    /// Adds a granted wish. Each archive is to be asked, except those that are spared.
+    pub fn push(&mut self, original: Original, spared: &[bool]) -> Result<(), NoMemory> {
+        self.jobs.push(original, spared)
+    }
+
+    /// Each archive may be asked, until it is found that one can't be.
+    pub fn allow_all(&mut self) {
+        for may in self.may.iter_mut() {
+            *may = true;
+        }
+    }
+
+    /// The next job of an archive that may be asked, and its original.
+    pub fn next(&self) -> Option<(Ask, Original)> {
+        let ask = self.jobs.next(&self.may)?;
+        let original = self.jobs.original(ask.wish)?.try_clone().ok()?;
+        Some((ask, original))
+    }
+
+    /// The archive can't be asked now.
+    pub fn refuse(&mut self, archive: usize, now: u64) {
+        if let Some(may) = self.may.get_mut(archive) {
+            *may = false;
+        }
+        if let Some(refused) = self.refused.get_mut(archive) {
+            *refused = Some(refused.unwrap_or(now));
+        }
+    }
+
+    /// The archive is asked. Returns whether it was to be.
+    pub fn ask(&mut self, ask: Ask) -> bool {
+        if let Some(refused) = self.refused.get_mut(ask.archive) {
+            *refused = None;
+        }
+        self.jobs.ask(ask)
+    }
+
+    /// The archive answers for an original.
+    pub fn answer(&mut self, original: &Original, archive: usize, answer: Answer) {
+        let _ = self.jobs.answer(original, archive, answer);
+    }
+
+    /// Whether wishes have waited for the archive for so many milliseconds.
+    pub fn is_overdue(&self, archive: usize, most: u64, now: u64) -> bool {
+        match self.refused.get(archive) {
+            Some(since) => is_overdue(*since, most, now),
+            None => false,
+        }
+    }
+
+    /// Whether the archive couldn't be asked when that was tried last.
+    pub fn is_refused(&self, archive: usize) -> bool {
+        matches!(self.may.get(archive), Some(false))
+    }
+
+    /// No wish waits for the archive any longer.
+    pub fn skip(&mut self, archive: usize) {
+        self.jobs.skip(archive);
+        if let Some(refused) = self.refused.get_mut(archive) {
+            *refused = None;
+        }
+    }
+
+    /// Takes out a wish that is over, unless something that wishes brought isn't published.
+    pub fn take_ended(&mut self) -> Option<Ended> {
+        if self.due.is_some() {
+            return None;
+        }
+        self.jobs.take_ended()
+    }
+
+    /// Wishes brought something that is to be published.
+    pub fn add_pending(&mut self, now: u64) {
+        if self.due.is_none() {
+            self.due = Some(now.saturating_add(GATHER).max(self.rest));
+        }
+    }
+
+    /// Whether wishes brought something that isn't published.
+    pub fn has_pending(&self) -> bool {
+        self.due.is_some()
+    }
+
+    /// Whether what wishes brought is to be published now.
+    pub fn is_due(&self, now: u64) -> bool {
+        matches!(self.due, Some(due) if due <= now)
+    }
+
+    /// What was appended is published, or couldn't be.
+    pub fn note_publish(&mut self, is_published: bool, now: u64) {
+        if is_published {
+            self.due = None;
+            self.rest = now.saturating_add(BETWEEN);
+        } else if self.due.is_some() {
+            self.due = Some(now.saturating_add(AFTER_REFUSAL));
+        }
+    }
+
+    /// For how many milliseconds to wait before wishes are looked at again.
+    pub fn wait(&self, now: u64) -> u64
+        ensures { result ≤ 50 }
+    {
+        match self.due {
+            Some(due) => due.saturating_sub(now).max(1).min(LOOK),
+            None => LOOK,
+        }
+    }
+
+    /// Notes that another spelling is wished for. Returns whether there was memory for it.
+    pub fn add_spelling(&mut self, spelling: &Original) -> bool {
+        match spelling.try_clone() {
+            Ok(spelling) => self.spellings.push(spelling).is_ok(),
+            Err(_) => false,
+        }
+    }
+
+    /// Whether a granted original is such a spelling, which is then forgotten.
+    pub fn take_spelling(&mut self, original: &Original) -> bool {
+        let count = self.spellings.len();
+        self.spellings.retain(|spelling| spelling != original);
+        self.spellings.len() < count
+    }
+
+    /// Counts a wish that is over.
+    pub fn count(&mut self, is_found: bool) {
+        self.counts.ended = self.counts.ended.saturating_add(1);
+        if is_found {
+            self.counts.found = self.counts.found.saturating_add(1);
+        }
+    }
+
+    /// What the log is to be told now, if it is to be told of wishes.
+    pub fn take_counts(&mut self, now: u64) -> Option<WishCounts> {
+        let is_early = matches!(self.told, Some(told) if now < told.saturating_add(TELL));
+        if is_early || self.counts.ended == 0 {
+            return None;
+        }
+        let counts = self.counts;
+        self.counts = WishCounts::NONE;
+        self.told = Some(now);
+        Some(counts)
+    }
+}

@@ -1,0 +1,34 @@
+//! Which jobs needn't be walked, since what is known is young enough.
+ghost use Rattle.std.specs.Prelude.{◌≡◌, ◌↔◌, ◌<◌, IsTrue};
+ghost use Rattle.round_values.specs.Freshness.{IsYoung};
+
+use harvest_lattice::Entry;
+use service_settings::Timing;
+
+/// Whether what was looked at in this second is less than so many seconds old, or as little ahead of the clock.
+fn is_young(seen: u64, now: u64, seconds: Option<u64>) -> bool
+    ensures { IsTrue result ↔ IsYoung seen now seconds }
+{
+    match seconds {
+        Some(seconds) => now.saturating_sub(seen) < seconds && seen.saturating_sub(now) < seconds,
+        None => false,
+    }
+}
+
+/// Whether an entry has a memento.
+pub fn has_mementos(entry: &Entry) -> bool {
+    (0..entry.revisions()).any(|k| !entry.mementos(k).is_empty())
+}
+
+/// Whether the whole harvest that is known is too young to be made anew in this second.
+pub fn is_fresh(timing: Timing, entry: &Entry, now: u64) -> bool {
+    let Some(seen) = entry.whole() else {
+        return false;
+    };
+    let seconds = if has_mementos(entry) {
+        timing.again
+    } else {
+        timing.again_none
+    };
+    is_young(seen, now, seconds)
+}

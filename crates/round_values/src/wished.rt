@@ -1,0 +1,81 @@
+//! What a wish's walk says, and when an archive is passed over.
+ghost use Rattle.std.specs.Prelude.{◌≡◌, ◌⊎◌, ◌↔◌, ◌≤◌, IsSomeAnd, IsTrue, [], option_map};
+ghost use Rattle.memento_sets.specs.Sets as set;
+ghost use Rattle.round_values.specs.Dues.{IsDueAt};
+ghost use Rattle.round_values.specs.Wishes as spec;
+ghost use Rattle.round_values.specs.Wishes.{IsLeftAlone};
+
+use harvest_lattice::Harvest;
+use harvest_schedule::Mood;
+use harvester::WalkFault;
+use service_settings::Timing;
+use wish_list::Answer;
+
+/// For how many seconds what is known isn't asked for again by wishes, where the settings don't say it.
+pub const DEFAULT_AGAIN: u64 = 86_400;
+
+/// What an archive gave that was asked for a wish. A part of nothing is no harvest.
+pub fn answer_to(walked: &Result<Harvest, WalkFault>) -> Answer
+    ensures { result ≡ spec.answer_to walked.now }
+{
+    match walked {
+        Ok(harvest) if !harvest.mementos().is_empty() => Answer::Copies,
+        Ok(harvest) if harvest.is_part() => Answer::NoHarvest,
+        Ok(_) => Answer::NoCopies,
+        Err(_) => Answer::NoHarvest,
+    }
+}
+
+/// Whether a wish's harvest is kept: it has mementos, or something of its original is shown. What has none of an
+/// original of which nothing is shown would stay for good, and changes no reply.
+pub fn is_kept(harvest: &Harvest, is_shown: bool) -> bool
+    ensures { IsTrue result ↔ (¬ (set.items harvest.now.mementos ≡ []) ⊎ IsTrue is_shown) }
+{
+    !harvest.mementos().is_empty() || is_shown
+}
+
+/// How old what is known may be so that a wish doesn't ask for it.
+pub fn wish_timing(timing: Timing) -> Timing
+    ensures { result ≡ spec.wish_timing timing }
+{
+    let again = timing.again.unwrap_or(DEFAULT_AGAIN);
+    Timing {
+        again: Some(again),
+        again_none: Some(timing.again_none.unwrap_or(again)),
+        publish: timing.publish,
+        pull: timing.pull,
+    }
+}
+
+/// Whether the archive isn't asked before a later time. It may also be found out just now whether it answers.
+pub fn is_left_alone(mood: Option<Mood>, now: u64) -> bool
+    ensures { IsTrue result ↔ IsLeftAlone now mood }
+{
+    let Some(mood) = mood else {
+        return false;
+    };
+    match mood.asked_from() {
+        Some(until) => now < until,
+        None => false,
+    }
+}
+
+/// Whether so much time has passed since then, if there is a then.
+pub(crate) fn is_overdue(since: Option<u64>, most: u64, now: u64) -> bool
+    ensures { IsTrue result ↔ IsSomeAnd since (λ since. IsDueAt since most now) }
+{
+    match since {
+        Some(since) => since.saturating_add(most) <= now,
+        None => false,
+    }
+}
+
+/// How many more wishes for originals of which nothing is shown may stand in the book: the state may have as many
+/// entries as each archive has for the originals that rounds look after, and for so many wanted ones.
+pub fn room_left(archives: usize, listed: usize, wanted: usize, entries: usize) -> usize
+    ensures { result ≡ spec.room_left archives listed wanted entries }
+{
+    let most = listed.saturating_add(wanted).saturating_mul(archives);
+    let left = most.saturating_sub(entries) / archives.max(1);
+    left.min(wanted)
+}

@@ -1,0 +1,32 @@
+//! What runs beside the rounds of a service, in threads of its own: gates, walks and pulls.
+//!
+//! `Means` holds all that rounds are made with: the `Pool` of those that walk, the `Pullers`, and what both share with
+//! the gates that `open_listeners` opens. The thread of the rounds gives work by a channel and takes the answers from
+//! another, and knows no more of these threads.
+//!
+//! In four groups:
+//!
+//! - what is asked for: `terms` (which jobs the settings ask for, and how these are walked) and `jobs` (of an archive
+//!   for an original);
+//! - threads: `gates` (those that answer), `pool` (those that walk) and `pulls` (those that ask peers);
+//! - what they share: `means`, and in it `telling` (the status);
+//! - `faults` (why serving ends early).
+#![tactic(auto)]
+
+mod faults;
+mod gates;
+mod jobs;
+mod means;
+mod pool;
+mod pulls;
+mod telling;
+mod terms;
+
+pub use faults::ServeFault;
+pub use gates::{Listeners, open_listeners};
+pub use jobs::original_of;
+pub use means::Means;
+pub use pool::{News, Pool};
+pub use pulls::{PullAnswer, PullRequest, Pullers, brings_nothing};
+pub use telling::{Telling, known_in};
+pub use terms::Terms;

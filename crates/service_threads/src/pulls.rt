@@ -1,0 +1,167 @@
+//! Pulls from peers in threads of their own.
+ghost use Rattle.std.specs.Prelude.{◌↔◌, ◌<◌, IsTrue};
+
+use crossbeam_channel::{Receiver, Sender, bounded};
+use harvester::SocketRuntime;
+use hyper_edge::{Patience, PullFault, pull_within};
+use memento_time::Clean;
+use replica_exchange::{Cursor, Delta};
+use std::alloc::{AllocError, Global};
+use std::sync::Wait;
+use std::thread::{self, Threads};
+use std::time::{Clock, Duration};
+
+/// A peer that is to be pulled from, and from where on.
+#[derive(Drop)]
+pub struct PullRequest {
+    /// The peer's number in the settings, counted from 1.
+    pub peer: u64,
+    pub base: Clean,
+    pub cursor: Option<Cursor>,
+}
+
+/// What a peer gave.
+#[derive(Drop)]
+pub struct PullAnswer {
+    pub peer: u64,
+    pub base: Clean,
+    pub cursor: Option<Cursor>,
+    pub answer: Result<Delta, PullFault>,
+}
+
+/// What a thread that pulls is given.
+#[derive(Drop)]
+struct Puller {
+    patience: Patience,
+    requests: Receiver<PullRequest>,
+    answers: Sender<PullAnswer>,
+}
+
+/// The threads that pull, as the thread that makes the rounds sees them.
+#[derive(Drop)]
+pub struct Pullers {
+    requests: Sender<PullRequest>,
+    answers: Receiver<PullAnswer>,
+    /// The other ends, until the threads are started.
+    ends: Option<Ends>,
+    /// How many threads there are.
+    count: usize,
+}
+
+/// The ends of the channels that the threads have copies of.
+#[derive(Drop)]
+struct Ends {
+    requests: Receiver<PullRequest>,
+    answers: Sender<PullAnswer>,
+}
+
+/// Pulls, one peer at a time, until no more requests can come.
+fn make_pulls<R: SocketRuntime>(rt: &R, puller: Puller) {
+    let Puller {
+        patience,
+        requests,
+        answers,
+    } = puller;
+    for _ in rt.forever() {
+        let Ok(request) = requests.recv(rt) else {
+            return;
+        };
+        let PullRequest { peer, base, cursor } = request;
+        let answer = PullAnswer {
+            answer: pull_within(rt, patience, &base, cursor),
+            peer,
+            base,
+            cursor,
+        };
+        if answers.send(rt, answer).is_err() {
+            return;
+        }
+    }
+    unreachable!()
+}
+
+impl Pullers {
+    /// Room for pulls from so many peers at once, of which none is begun.
+    pub(crate) fn new(alloc: Global, peers: usize) -> Result<Pullers, AllocError> {
+        let (requests, requests_out) = bounded(alloc, peers.max(1))?;
+        let (answers_in, answers) = bounded(alloc, peers.max(1))?;
+        let ends = Ends {
+            requests: requests_out,
+            answers: answers_in,
+        };
+        Ok(Pullers {
+            requests,
+            answers,
+            ends: Some(ends),
+            count: 0,
+        })
+    }
+
+    /// Starts a thread for each of so many peers, as far as threads and memory allow. Does nothing if they were started
+    /// before.
+    pub(crate) fn start<R>(&mut self, rt: &R, peers: usize, patience: Patience)
+    where
+        R: SocketRuntime + Threads + Sync + Send + Clone + Drop + 'static,
+    {
+        let Some(ends) = self.ends.take() else {
+            return;
+        };
+        for _ in 0..peers {
+            let Ok(puller) = next_puller(patience, &ends) else {
+                return;
+            };
+            let Ok(own) = rt.clone() else {
+                return;
+            };
+            if thread::spawn(rt, move || make_pulls(&own, puller)).is_err() {
+                return;
+            }
+            self.count = self.count.saturating_add(1);
+        }
+    }
+
+    /// Whether there is a thread that pulls.
+    pub fn are_some(&self) -> bool
+        ensures { IsTrue result ↔ 0 < self.now.count }
+    {
+        self.count > 0
+    }
+
+    /// Has a peer pulled. Returns whether it will be.
+    pub fn ask(&self, rt: &impl Wait, request: PullRequest) -> bool {
+        self.requests.send(rt, request).is_ok()
+    }
+
+    /// What a peer gave, if one has answered.
+    pub fn answered(&self, rt: &impl Wait) -> Option<PullAnswer> {
+        self.answers.try_recv(rt).ok()
+    }
+
+    /// Waits until a peer answers, for so many milliseconds.
+    pub fn wait<R: Wait + Clock>(&self, rt: &R, milliseconds: u64) -> Option<PullAnswer> {
+        self.answers
+            .recv_timeout(rt, Duration::from_millis(milliseconds))
+            .ok()
+    }
+}
+
+/// What one more thread that pulls is given.
+fn next_puller(patience: Patience, ends: &Ends) -> Result<Puller, AllocError> {
+    Ok(Puller {
+        patience,
+        requests: ends.requests.clone()?,
+        answers: ends.answers.clone()?,
+    })
+}
+
+/// Whether a delta has nothing that isn't known where this cursor is held: no entries, and no further merges.
+pub fn brings_nothing(delta: &Delta, held: Option<Cursor>) -> bool {
+    match held {
+        Some(cursor) => {
+            delta.state.is_empty()
+                && delta.incarnation == cursor.incarnation
+                && delta.end == cursor.number
+        }
+        None => false,
+    }
+}
