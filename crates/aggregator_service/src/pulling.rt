@@ -138,8 +138,8 @@ where
         }
     }
 
-    /// Appends the delta that a peer gave, if it gave one that brings something. Returns what came of it, and how the pull
-    /// ended.
+    /// Appends the delta that a peer gave, if it gave one that brings something. Returns what came of it, and how the
+    /// pull ended.
     fn take_answer(
         &mut self,
         peer: u64,

@@ -16,8 +16,8 @@ const COUNT: u64 = 60_000;
 /// How many milliseconds lie at least between two looks at the memory that is held.
 const MEASURE: u64 = 1_000;
 
-/// In which second an archive of this mood is asked again, if it is now this moment and this second; the first second of
-/// 1970 if it isn't dormant, and `None` if one walk finds out whether it is.
+/// In which second an archive of this mood is asked again, if it is now this moment and this second; the first second
+/// of 1970 if it isn't dormant, and `None` if one walk finds out whether it is.
 fn dormant_until(mood: Option<Mood>, now: Millis, second: Second) -> Option<Second> {
     match mood {
         Some(Mood::Dormant { until, .. }) => {

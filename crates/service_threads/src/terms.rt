@@ -50,8 +50,8 @@ impl<P: WalkRules> Terms<P> {
         &*self.settings
     }
 
-    /// The job of an errand's archive for an original, to be handed out, whose revision is this second. `None` if memory is
-    /// refused, or if its URL is too long.
+    /// The job of an errand's archive for an original, to be handed out, whose revision is this second. `None` if
+    /// memory is refused, or if its URL is too long.
     pub fn assignment(
         &self,
         alloc: Global,
