@@ -2,8 +2,8 @@
 use crate::making::{Rounds, TICK};
 use harvest_workers::WalkRules;
 use harvester::SocketRuntime;
-use hyper_edge::{Patience, PullFault};
 use memento_time::Clean;
+use outgoing_requests::{Patience, PullFault};
 use published_index::Merger;
 use replica_exchange::{Cursor, Delta};
 use round_values::pull_end;
