@@ -24,7 +24,7 @@ from dataclasses import dataclass
 
 HERE = pathlib.Path(__file__).resolve().parent
 sys.path.insert(0, str(HERE.parent / "planted"))
-from planting import RT, TOP, alone_in, read_text, replaced, run_rt, write_whole  # noqa: E402 (it stands in another folder)
+from planting import RT, TOP, alone_in, read_text, replaced, run_rt, write_whole
 
 # A line for each edit that was tried and refused: CRATE/X.edit CHECKSUM VERDICT.
 TRIED = HERE / "tried"
@@ -145,7 +145,7 @@ def lines_with_tokens(text, listed):
 
 
 def checksum(*parts):
-    return hashlib.sha256(repr(parts).encode()).hexdigest()[:16]
+    return hashlib.sha256(ascii(parts).encode()).hexdigest()[:16]
 
 
 def sums_of_sources(top, names):
