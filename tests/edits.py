@@ -10,9 +10,13 @@ import pathlib
 import re
 import shutil
 import subprocess
+import sys
 import tempfile
 
 from playing import TOP, holds, lacks, same
+
+sys.path.insert(0, str(TOP / "tests/edits"))
+from editing import counted
 
 RT = os.environ.get("RT", "rt")
 EDIT = "tiny/always_the_first.edit"
@@ -52,6 +56,38 @@ pub fn greater(a: u8, b: u8) -> u8
 }
 """,
     "crates/tiny/edits/always_the_first.edit": "file: src/lib.rt\nold: if a < b\nnew: if b < b\n",
+}
+# Lines, each with whether it counts.
+LINES = {
+    "lines.rt": """
+- //! A head.
+-
+- /// A comment.
++ pub fn one(a: u8) -> u8
++     ensures it { a ≡
+-         -- A comment in a clause.
++         // b }
++ {
+-     // A comment in code.
++     let text = "one
++ // two
++
++ three"; // four
+-     /* five
++ // six */ let more = '"';
+-     // "
++     a
++ }
+""",
+    "lines.antt": """
+- -- A head.
++ module
+-
+- {- one
++ -- two -} three : ℕ
++ three = 3 -- four
+-   -- five
+""",
 }
 SECOND = "    ensures second { b ≤ result }\n"
 
@@ -99,6 +135,16 @@ class Repository:
         return re.findall(r"^(\S+) [0-9a-f]{16} (\w+)$", (self.folder / "tests/edits/tried").read_text(), re.M)
 
 
+def try_lines(folder):
+    """Which lines count: those that hold something that the check reads."""
+    for name, marked in LINES.items():
+        lines = marked.strip("\n").split("\n")
+        path = pathlib.Path(folder, name)
+        path.write_text("\n".join(line[2:] for line in lines), encoding="utf-8")
+        wanted = "\n".join(line[2:] for line in lines if line.startswith("+"))
+        same(f"the lines of {name} that count", counted([str(path)])[0].decode(), wanted)
+
+
 def try_record(small):
     """What the record counts for, once the edit was refused."""
     small.ends("a refused edit is recorded as it stands", 0, "1 passed, 0 failed", "--check")
@@ -134,6 +180,7 @@ def main():
     if shutil.which(RT) is None:
         lacks("needs rt, the toolchain's command")
     with tempfile.TemporaryDirectory(prefix="small-") as folder:
+        try_lines(folder)
         small = Repository(folder)
         said = small.ends("an edit that wasn't tried fails the check", 1, "0 passed, 1 failed", "--check")
         holds("and the check says what tries it", "tests/edits/run tiny" in said)
