@@ -9,6 +9,7 @@
 # installed are asked; on Debian: apt-get install ghc libghc-http-link-header-dev python3-requests
 set -euo pipefail
 . "$(dirname "$0")/saying.sh"
+take aggregator
 here=$top/tests/interop
 
 # body NAME: the body of the last reply to the script on standard input

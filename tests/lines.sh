@@ -4,6 +4,7 @@
 #     ./run --build && tests/lines.sh
 set -euo pipefail
 . "$(dirname "$0")/saying.sh"
+take aggregator
 
 # bad NUMBER: the script on standard input writes nothing, and its line of this number is bad.
 bad() {

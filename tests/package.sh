@@ -8,6 +8,7 @@
 # Nothing of this machine is changed.
 set -euo pipefail
 . "$(dirname "$0")/saying.sh"
+take aggregator
 
 needs dpkg:dpkg dpkg-deb:dpkg lintian:lintian systemd-analyze:systemd systemd-sysusers:systemd man:man-db groff:groff-base
 [ "$(id -u)" = 0 ] || lack "root, for a root folder"

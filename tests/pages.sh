@@ -7,6 +7,7 @@
 # `taken M F D` says how many mementos and further TimeMaps the page names, and how many links were left out.
 set -euo pipefail
 . "$(dirname "$0")/saying.sh"
+take aggregator
 
 count=0
 for page in "$top"/tests/pages/*.link; do

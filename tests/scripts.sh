@@ -6,6 +6,7 @@
 #     ./run --build && tests/scripts.sh
 set -euo pipefail
 . "$(dirname "$0")/saying.sh"
+take aggregator
 usage='usage: aggregator [replay | serve FILE | check FILE]'
 
 # ends STATUS MESSAGE EXPECTED WORDS..: runs the program with these words on standard input, and compares how it ended.
