@@ -1,7 +1,7 @@
 #!/usr/bin/env bash
 # Whether readers of links that nobody here wrote find in our TimeMaps, indexes and pages the links that we mean:
 #
-#     ./run --build && tests/interop.sh
+#     ./run --unproved && tests/interop.sh
 #
 # The TimeMap is the last reply to examples/two.replay, the index and its second page are those of the list of 1,001 mementos
 # of tests/scripts/paged.py; what is to be found in them stands in two.links, index.links and page.links. The readers are

@@ -3,7 +3,7 @@
 # without a warning; and what is there once it is installed in a root folder of this test's own, installed again,
 # removed and purged.
 #
-#     ./run --build && tests/package.sh
+#     ./run --unproved && tests/package.sh
 #
 # Nothing of this machine is changed.
 set -euo pipefail
