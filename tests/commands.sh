@@ -123,6 +123,8 @@ try_sources() {
     install -m 755 "$program" "$proved"
     runs 0 ./run --program aggregator
     same "a proved program goes before it" "$said" "$clone/$proved"
+    runs 0 ./run --program aggregator unproved
+    same "unless the unproved one is asked for" "$said" "$clone/$unproved"
     runs 0 ./run check deploy/settings.toml
     same "and nothing is said of it" "$complaint" ""
     sleep 0.1

@@ -23,9 +23,9 @@ VARIABLES = {
 }
 
 
-def fresh(crate):
-    """The fresh program of this crate; None if there is none, and what to type then."""
-    ran = subprocess.run([TOP / "run", "--program", crate], stdin=subprocess.DEVNULL, capture_output=True, text=True)
+def fresh(crate, *kind):
+    """The fresh program of this crate, proved or not, or of this kind; None if there is none, and what to type then."""
+    ran = subprocess.run([TOP / "run", "--program", crate, *kind], stdin=subprocess.DEVNULL, capture_output=True, text=True)
     return ran.stdout.strip() or None, ran.stderr.strip()
 
 
