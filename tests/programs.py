@@ -35,6 +35,8 @@ def program(crate):
     if named := os.environ.get(VARIABLES[crate]):
         return named
     path, said = fresh(crate)
+    if path and path.endswith("/unproved"):
+        print(f"{crate}: {path}, without a proof", file=sys.stderr)
     return path or sys.exit(said)
 
 
