@@ -2,7 +2,7 @@
 """Harvesters apart from readers' replicas, which have no archives and pull from the harvesters each second: what readers
 behind nginx see of a harvest, of a harvester's long round, and while one of either kind is restarted or down.
 
-    ./run --build && tests/apart.py          needs nginx (nginx-light)
+    ./run --unproved && tests/apart.py          needs nginx (nginx-light)
 """
 import contextlib
 import threading

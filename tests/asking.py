@@ -2,7 +2,7 @@
 """How archives are asked where the settings say so: dormant ones, ones that ask to be left alone, one at a time, and no faster
 than they allow. Whatever they say, each job of the round is walked in it, unless its archive is dormant at the end.
 
-    ./run --build && tests/asking.py
+    ./run --unproved && tests/asking.py
 """
 import contextlib
 import email.utils

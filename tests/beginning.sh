@@ -2,7 +2,7 @@
 # A new person's way: the lines of docs/OPERATING.md, from the package to the first redirect, in a machine of its own,
 # where a stand-in in a network namespace of its own is web.archive.org by https.
 #
-#     ./run --build && tests/beginning.sh
+#     ./run --unproved && tests/beginning.sh
 set -euo pipefail
 . "$(dirname "$0")/saying.sh"
 lacks=()

@@ -2,7 +2,7 @@
 """A running service under clocks that are wrong: before 1970, at the end of the year 9999, standing still, and set back while
 it runs.
 
-    ./run --build && tests/clocks.py
+    ./run --unproved && tests/clocks.py
 
 Needs a C compiler, for the other clock. Of an archive and original the whole harvest of the greatest revision counts, and a
 revision is the clock's second at the round's start.

@@ -2,7 +2,7 @@
 """How `serve` ends, and what it says, if the machine refuses something: an address, a thread, memory, its standard output, a
 connection.
 
-    ./run --build && tests/endings.py
+    ./run --unproved && tests/endings.py
 
 Not forced is that a reader's place can't be had, for which no cause is promised.
 """

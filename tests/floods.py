@@ -2,7 +2,7 @@
 """Many connections and slow ones, to gates by themselves and to nginx in front of two gates by the limits of deploy/nginx.conf:
 whoever comes next is served, and a peer's pull doesn't wait for readers.
 
-    ./run --build && tests/floods.py
+    ./run --unproved && tests/floods.py
 
 A gate by itself serves one connection after the other, or with the key `together` so many at once; what waits in front of it
 is answered in turn. In front, nginx keeps connections to gates that serve as many as deploy/settings.toml has them serve. It lets

@@ -3,10 +3,9 @@
 installed, and lists the same mementos in the same order; and a service with the key `formats` answers in these forms what it
 answers in link-format. Where there is a C compiler, each request for memory is refused in turn, and no other text is written.
 
-    ./run --build aggregator format_probe && tests/formats.py
+    ./run --unproved aggregator format_probe && tests/formats.py
 
-The programs are those in crates/*/out, or what $FORMATS (format_probe) and $PROGRAM (aggregator) name. Prints a line for each
-thing that holds, and ends with status 1 at the first that doesn't.
+Prints a line for each thing that holds, and ends with status 1 at the first that doesn't.
 """
 import contextlib
 import datetime
@@ -21,8 +20,9 @@ import tempfile
 
 import playing
 from playing import ORIGINAL, PATIENCE, TOP, Played, Service, compiled, holds, link, reply, same
+from programs import program
 
-FORMATS = os.environ.get("FORMATS", str(TOP / "crates/format_probe/out/format_probe"))
+FORMATS = program("format_probe")
 BASE = "http://agg.example"
 PER_PAGE = 1000
 TYPES = {"link": "application/link-format", "json": "application/json", "cdxj": "application/cdxj+ors"}
@@ -252,8 +252,6 @@ def try_service():
 
 
 def main():
-    if "FORMATS" not in os.environ:
-        subprocess.run([TOP / "run", "--build", "format_probe"], check=True)
     try_timemap()
     try_pages()
     try_others()

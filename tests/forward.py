@@ -3,7 +3,7 @@
 another name, an archive that says nothing, how many connections an archive is asked by, which paths are led on, and that
 nothing that the forward says itself takes away what is known.
 
-    ./run --build && tests/forward.py
+    ./run --unproved && tests/forward.py
 """
 import concurrent.futures
 import contextlib

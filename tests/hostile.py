@@ -1,7 +1,7 @@
 #!/usr/bin/env python3
 """Hostile and odd requests against a running `serve`, over bare sockets; after each the next connection is served.
 
-    ./run --build && tests/hostile.py
+    ./run --unproved && tests/hostile.py
 
 Once the gate serves one connection after the other, and once four together. What is told of a reply is its status and, where it
 matters, a header.

@@ -2,7 +2,7 @@
 """Archives whose pages name addresses of this machine: with the key `hosts` nothing is asked but what it names, and no name leads
 to this machine.
 
-    ./run --build && tests/hosts.py
+    ./run --unproved && tests/hosts.py
 """
 import contextlib
 

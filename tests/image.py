@@ -2,7 +2,7 @@
 """The image that deploy/image builds: the same bytes each time, nothing in it but what is needed, and a service that runs in it
 as a user without rights, on a root that it can't write to.
 
-    ./run --build && tests/image.py
+    ./run --unproved && tests/image.py
 
 It is run by `runc`, with the network of this machine; if there is no runc, in the image's own root folder.
 """

@@ -1,7 +1,7 @@
 #!/usr/bin/env bash
 # Whether readers of links that nobody here wrote find in our TimeMaps, indexes and pages the links that we mean:
 #
-#     ./run --build && tests/interop.sh
+#     ./run --unproved && tests/interop.sh
 #
 # The TimeMap is the last reply to examples/two.replay, the index and its second page are those of the list of 1,001 mementos
 # of tests/scripts/paged.py; what is to be found in them stands in two.links, index.links and page.links. The readers are
@@ -9,6 +9,7 @@
 # installed are asked; on Debian: apt-get install ghc libghc-http-link-header-dev python3-requests
 set -euo pipefail
 . "$(dirname "$0")/saying.sh"
+take aggregator
 here=$top/tests/interop
 
 # body NAME: the body of the last reply to the script on standard input

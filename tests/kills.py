@@ -2,7 +2,7 @@
 """A replica that is killed in each phase of a round, as by a machine that fails, and started again: what its peers pull from it
 next is taken, and after two quiet rounds all replicas answer with the same bytes.
 
-    ./run --build && tests/kills.py       each phase once, without a snapshot and with one
+    ./run --unproved && tests/kills.py       each phase once, without a snapshot and with one
     tests/kills.py long                   each phase ten times
 
 Of three replicas the first is killed. It pulls from the second, the second from both others, and the third from the second: so

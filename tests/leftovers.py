@@ -2,7 +2,7 @@
 """What replicas keep of a clock that was ahead, and of an original and an archive that left the settings: all of it if they are
 restarted one after the other, and nothing if all are stopped at once. And what a reader gets when a replica is told to end.
 
-    ./run --build && tests/leftovers.py
+    ./run --unproved && tests/leftovers.py
 """
 import contextlib
 import pathlib

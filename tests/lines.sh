@@ -1,9 +1,10 @@
 #!/usr/bin/env bash
 # Where a script's lines end, and which are bad: each limit from both sides, with what is written worked out by hand.
 #
-#     ./run --build && tests/lines.sh
+#     ./run --unproved && tests/lines.sh
 set -euo pipefail
 . "$(dirname "$0")/saying.sh"
+take aggregator
 
 # bad NUMBER: the script on standard input writes nothing, and its line of this number is bad.
 bad() {

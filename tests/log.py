@@ -2,7 +2,7 @@
 """What a service tells its log of archives, peers, gates and an output that fail, and of memory that is refused for a harvest or
 a publish, and that without the key it tells nothing.
 
-    ./run --build && tests/log.py
+    ./run --unproved && tests/log.py
 """
 import contextlib
 import http.client

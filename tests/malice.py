@@ -2,7 +2,7 @@
 """Archives and peers that mean harm to a running service: bodies without an end, or cut at each of their bytes, heads without
 an end, answers byte by byte, and peers that say what isn't so.
 
-    ./run --build && tests/malice.py
+    ./run --unproved && tests/malice.py
     tests/malice.py long        also with a delta without an end, one of the most bytes that it may have, and one of one more
 """
 import contextlib

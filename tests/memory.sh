@@ -5,7 +5,7 @@
 # `service_refusal_probe`), with a table of how often each was refused. `calls` finds all of those in the sources, and `others`
 # says of the ones without a row where they are refused:
 #
-#     ./run --build aggregator refusal_probe service_refusal_probe gate_probe && tests/memory.sh
+#     ./run --unproved aggregator refusal_probe service_refusal_probe gate_probe && tests/memory.sh
 #
 # A replay must end with status 3 and `no memory`, and must have written a beginning of the script's output: never another
 # answer in place of the fault. What was only to give memory back (a buffer that is cut to its text) may be refused: then the
@@ -13,13 +13,8 @@
 # must print the same in every case.
 set -euo pipefail
 . "$(dirname "$0")/saying.sh"
-refusals=${REFUSALS:-$top/crates/refusal_probe/out/refusal_probe}
-services=${SERVICES:-$top/crates/service_refusal_probe/out/service_refusal_probe}
-probe=${PROBE:-$top/crates/gate_probe/out/gate_probe}
 needs "cc:gcc libc6-dev"
-[ -n "${REFUSALS:-}" ] || "$top/run" --build refusal_probe
-[ -n "${SERVICES:-}" ] || "$top/run" --build service_refusal_probe
-[ -n "${PROBE:-}" ] || "$top/run" --build gate_probe
+take aggregator refusal_probe service_refusal_probe gate_probe
 cc -O2 -shared -fPIC -o "$work/refuse.so" "$top/tests/memory/refuse.c" -ldl
 
 # How many requests for memory a command makes where none is refused.
@@ -148,11 +143,11 @@ grep -qx "list: line 2 is no original" "$work/settings" || { echo "a bad line is
 check_ending "check, with originals in a file" /dev/null "$work/settings" "$PROGRAM" check "$work/listed.toml"
 check_naming
 check_serving
-check_calls "$top/crates/refusal_probe/stdout" "$refusals"
-check_calls "$top/tests/memory/gates.expected" "$probe" refusals
+check_calls "$top/crates/refusal_probe/stdout" "$REFUSALS"
+check_calls "$top/tests/memory/gates.expected" "$PROBE" refusals
 echo 'each client got its reply, or a refusal and the next its reply' >"$work/replies.expected"
-check_calls "$work/replies.expected" "$probe" replies
-refuse_calls "$refusals" calls
-refuse_calls "$services"
+check_calls "$work/replies.expected" "$PROBE" replies
+refuse_calls "$REFUSALS" calls
+refuse_calls "$SERVICES"
 count_calls
 echo "$total requests for memory were refused in turn, and none changed an answer"

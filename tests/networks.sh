@@ -4,7 +4,7 @@
 # by addresses and by names, and who was asked is looked up where it was asked. The settings have no `hosts`, so that
 # the unit alone forbids.
 #
-#     ./run --build && tests/networks.sh
+#     ./run --unproved && tests/networks.sh
 set -euo pipefail
 . "$(dirname "$0")/saying.sh"
 in_machine "$top/tests/networks/inside.py"

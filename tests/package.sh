@@ -3,11 +3,12 @@
 # without a warning; and what is there once it is installed in a root folder of this test's own, installed again,
 # removed and purged.
 #
-#     ./run --build && tests/package.sh
+#     ./run --unproved && tests/package.sh
 #
 # Nothing of this machine is changed.
 set -euo pipefail
 . "$(dirname "$0")/saying.sh"
+take aggregator
 
 needs dpkg:dpkg dpkg-deb:dpkg lintian:lintian systemd-analyze:systemd systemd-sysusers:systemd man:man-db groff:groff-base
 [ "$(id -u)" = 0 ] || lack "root, for a root folder"

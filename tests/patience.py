@@ -1,7 +1,7 @@
 #!/usr/bin/env python3
 """Archives and peers that keep a running service waiting: each round ends within bounds, and takes what the others bring.
 
-    ./run --build && tests/patience.py
+    ./run --unproved && tests/patience.py
 """
 import contextlib
 import itertools

@@ -2,7 +2,7 @@
 """Two running programs that pull from each other: after a round each they answer alike, and a pull that follows on a cursor
 brings no entries if nothing has changed.
 
-    ./run --build && tests/peers.py
+    ./run --unproved && tests/peers.py
 
 Each pulls through a relay of this script, which notes what was asked and how the answer begins.
 """

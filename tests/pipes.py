@@ -2,7 +2,7 @@
 """Talks to `replay` through pipes: each answer comes before the next question is asked, whatever the pieces in which a
 question comes; and a long script is held in the memory of its longest command, and of what its replicas know.
 
-    ./run --build && tests/pipes.py
+    ./run --unproved && tests/pipes.py
 """
 import os
 import pathlib

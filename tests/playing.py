@@ -1,8 +1,8 @@
 """What the tests share: archives and peers that a script plays, services that it starts, and ways to ask, wait and say.
 
-Everything listens on 127.0.0.1, at ports that were free, and ends with the script. The program is
-crates/aggregator/out/aggregator, or what $PROGRAM names. A test prints a line for each thing that holds, and ends with status 1
-at the first that doesn't.
+Everything listens on 127.0.0.1, at ports that were free, and ends with the script. The program is what $PROGRAM names, or
+else the one that `programs` finds. A test prints a line for each thing that holds, and ends with status 1 at the first that
+doesn't.
 """
 import contextlib
 import http.client
@@ -19,12 +19,13 @@ import tempfile
 import threading
 import time
 
+from programs import program
+
 if sys.version_info < (3, 11):
     sys.exit(f"{pathlib.Path(sys.argv[0]).name}: needs Python 3.11 or later")
 
 TOP = pathlib.Path(__file__).resolve().parent.parent
 sys.path.append(str(TOP / "deploy"))    # whose modules can be tried call by call
-PROGRAM = os.environ.get("PROGRAM", str(TOP / "crates/aggregator/out/aggregator"))
 ORIGINAL, MEMENTO = "http://a.example/", "http://m.example/1"
 BASE = "/timemap/link/"    # what stands before an original in the address of its TimeMap, on the archives here
 PATIENCE = 60    # seconds for what should come at once
@@ -34,6 +35,15 @@ ENVIRONMENT = {**os.environ, "ASAN_OPTIONS": "allocator_may_return_null=1:quaran
 LACKS = 77    # the status of a test that needs what this machine hasn't
 # Debian's packages, if they have another name than the command.
 PACKAGES = {"nginx": "nginx-light", "cc": "gcc libc6-dev", "chromedriver": "chromium-driver"}
+
+
+
+def __getattr__(name):
+    """PROGRAM is looked for when a test first names it, so that what needs no program asks for none."""
+    if name == "PROGRAM":
+        return program("aggregator")
+    raise AttributeError(f"playing has no {name}")
+
 
 # ---- saying ----
 
@@ -348,7 +358,7 @@ class Service:
         (folder / "settings.toml").write_text(settings_text(
             gates=[f"127.0.0.1:{port}" for port in ports], archives=archives, originals=originals, peers=peers, base=base,
             connections=connections, rounds=rounds, pause=pause, workers=workers, patience=patience, hosts=hosts, **(keys or {})))
-        self.words = [*words, PROGRAM, "serve", str(folder / "settings.toml")]
+        self.words = [*words, program("aggregator"), "serve", str(folder / "settings.toml")]
         self.more, self.ports = {"env": ENVIRONMENT, "stdout": subprocess.PIPE, "text": True, **more}, list(ports)
         self.process = None
         stack.callback(self.kill)

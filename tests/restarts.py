@@ -3,7 +3,7 @@
 led to a copy, and how many replies are cut; that what nobody has is 404 all the while; that none is cut if nginx first
 lets a replica be; and what they would see if gates didn't say that they know nothing yet (`ready`).
 
-    ./run --build && tests/restarts.py          some three minutes; needs nginx (nginx-light)
+    ./run --unproved && tests/restarts.py          some three minutes; needs nginx (nginx-light)
 
 A restart is a SIGTERM, as systemd sends it, and a start.
 """

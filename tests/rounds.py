@@ -2,7 +2,7 @@
 """A running service among archives and peers that this script plays: what it asks them, which of their answers it takes, and
 when readers see what came.
 
-    ./run --build && tests/rounds.py
+    ./run --unproved && tests/rounds.py
 """
 import contextlib
 import re

@@ -1,8 +1,7 @@
-# What the tests in bash share: the repository ($top), the program ($PROGRAM), a folder that goes with the test ($work), and ways to say
+# What the tests in bash share: the repository ($top), a folder that goes with the test ($work), and ways to find programs and to say
 # what holds. Below its head a test has `set -euo pipefail` and `. "$(dirname "$0")/saying.sh"`.
 # shellcheck shell=bash
 top=$(cd "$(dirname "${BASH_SOURCE[0]}")/.." && pwd)
-export PROGRAM=${PROGRAM:-$top/crates/aggregator/out/aggregator}
 PATH=$PATH:/usr/sbin:/sbin
 work=$(mktemp -d -p /var/tmp)    # which a machine of tests/machine has too
 trap 'rm -r "$work"' EXIT
@@ -34,9 +33,19 @@ needs() {
     [ ${#lacks[@]} = 0 ] || lack "apt-get install ${lacks[*]}"
 }
 
+# take NAME..: finds these programs of crates/, and sets the variables that name them: $PROGRAM to aggregator's, and so on.
+take() {
+    local name named
+    for name in "$@"; do
+        named=$(python3 "$top/tests/programs.py" "$name") || exit 1
+        declare -gx "$named"
+    done
+}
+
 # in_machine FILE WORDS..: runs a part of this test in a machine of its own, with the Debian package's file before the words.
 in_machine() {
     local package
+    take aggregator
     package=$("$top/deploy/package" "$work")
     "$top/tests/machine" "$1" "$package" "${@:2}"
 }

@@ -3,9 +3,10 @@
 # out by hand; and long ones, which tests/scripts/paged.py and tests/scripts/cut.py make. Then gives the program each kind of
 # words and each kind of fault: what it writes, its line on standard error, its status.
 #
-#     ./run --build && tests/scripts.sh
+#     ./run --unproved && tests/scripts.sh
 set -euo pipefail
 . "$(dirname "$0")/saying.sh"
+take aggregator
 usage='usage: aggregator [replay | serve FILE | check FILE]'
 
 # ends STATUS MESSAGE EXPECTED WORDS..: runs the program with these words on standard input, and compares how it ended.

@@ -2,7 +2,7 @@
 """The running service, as an operator has it, on this machine alone: an https archive, the forward, `serve`, nginx, and the readers'
 page in a browser.
 
-    ./run --build && tests/service.py    needs nginx (nginx-light), openssl, chromium and chromedriver (chromium-driver) of Debian
+    ./run --unproved && tests/service.py    needs nginx (nginx-light), openssl, chromium and chromedriver (chromium-driver) of Debian
     tests/service.py --pictures          also takes the pictures of the readers' page that stand in docs/pictures
 """
 import concurrent.futures

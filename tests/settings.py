@@ -1,7 +1,7 @@
 #!/usr/bin/env python3
 """What settings may hold: each key missing, each from both sides of its limits, and which key the program names then.
 
-    ./run --build && tests/settings.py
+    ./run --unproved && tests/settings.py
 
 That what is read is what is served by is shown by tests/rounds.
 """

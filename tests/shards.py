@@ -2,7 +2,7 @@
 """A collection in three shards of two replicas each, behind nginx (deploy/shards): who answers for which original, in which
 spellings, and what readers see of a replica or a shard that is down.
 
-    ./run --build && tests/shards.py
+    ./run --unproved && tests/shards.py
 """
 import argparse
 import collections

@@ -2,7 +2,7 @@
 """What replicas tell each other while their rounds go on: what came is shown at once, what a peer knows isn't asked for again,
 and what was looked at later wins.
 
-    ./run --build && tests/sharing.py
+    ./run --unproved && tests/sharing.py
 """
 import contextlib
 import email.utils

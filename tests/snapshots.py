@@ -5,7 +5,7 @@ that are full and folders that can't be written to; two replicas of which one co
 compiler, the program is killed before each call that writes the file and gives it its place, and in each write; and each of these
 calls fails once.
 
-    ./run --build && tests/snapshots.py
+    ./run --unproved && tests/snapshots.py
 """
 import contextlib
 import os

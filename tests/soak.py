@@ -2,7 +2,7 @@
 """Two replicas that pull from each other, over archives whose pages change, lose pages, and answer 404, 500, garbage and half
 bodies; one of them with two gates behind nginx. All replies are kept and read afterwards.
 
-    ./run --build && tests/soak.py        half a minute
+    ./run --unproved && tests/soak.py        half a minute
     tests/soak.py long                    ten minutes
 
 - Each reply is the one that some state of that replica allows which a round published, and what one gate answers goes through

@@ -2,7 +2,7 @@
 """What the address of the key `status` tells: metrics in Prometheus' text format that are what archives, peers, gates and readers
 did, and health; and that without the key nothing more listens.
 
-    ./run --build && tests/status.py
+    ./run --unproved && tests/status.py
 """
 import collections
 import contextlib

@@ -3,7 +3,7 @@
 # again; memory beyond LimitDATA is refused, and the program goes on; and neither the forward's nginx nor the readers' keeps the
 # other from starting, whatever names archives have.
 #
-#     ./run --build && tests/units.sh
+#     ./run --unproved && tests/units.sh
 set -euo pipefail
 . "$(dirname "$0")/saying.sh"
 needs nginx:nginx-light openssl:openssl curl:curl

@@ -1,7 +1,7 @@
 #!/usr/bin/env python3
 """Whether URLs are read and written as the URL Standard's own tests say: those of urltestdata.json, as Debian packages it.
 
-    ./run --build && tests/urls.py          apt-get install librust-url-dev
+    ./run --unproved && tests/urls.py          apt-get install librust-url-dev
 
 By scripts, since a script can say a URL wherever an archive or a reader can. A case without a base is an original, and so is a case
 whose text begins with `http://` or `https://`, since an archived address stands on a page as it is. A case with an http or https

@@ -3,7 +3,7 @@
 # installed: one that was stopped by a signal, one whose standard output is full, one of whose gates has ended; and whether
 # it leaves alone one that is well, or that an operator stopped.
 #
-#     ./run --build && tests/watch.sh
+#     ./run --unproved && tests/watch.sh
 set -euo pipefail
 . "$(dirname "$0")/saying.sh"
 in_machine "$top/tests/watch/inside.sh"

@@ -2,7 +2,7 @@
 """A flood of made-up addresses, each of which is a wish: what the service holds, how many of them archives are asked for, and what
 becomes of other readers' wishes meanwhile.
 
-    ./run --build && tests/wish_flood.py     50,000 addresses of 2,000 bytes
+    ./run --unproved && tests/wish_flood.py     50,000 addresses of 2,000 bytes
     tests/wish_flood.py 1000000 32           so many, of so many bytes: two minutes
 
 - Straight at the gates, as fast as they answer: the archive is asked for as many as `wishes` allows in a minute, and the service

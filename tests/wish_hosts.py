@@ -3,7 +3,7 @@
 behind an archive's own. Readers ask for addresses of this machine and of private networks, in many spellings, for ports, and for
 paths that lead upwards.
 
-    ./run --build && tests/wish_hosts.py
+    ./run --unproved && tests/wish_hosts.py
 
 A library that is preloaded notes each connection that the program begins, and each name that it looks up (connects.c). Beside
 that, sockets listen where the addresses would lead to.

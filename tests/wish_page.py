@@ -2,7 +2,7 @@
 """A person asks the readers' page for an address that nobody knows: Chromium, nginx by deploy/nginx.conf, a service that takes
 wishes, and archives that are played. The page says that archives are being asked, and shows copies as they come.
 
-    ./run --build && tests/wish_page.py
+    ./run --unproved && tests/wish_page.py
 """
 import contextlib
 import subprocess

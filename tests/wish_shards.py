@@ -2,7 +2,7 @@
 """Wishes in a collection in three shards of two replicas each (deploy/shards), behind the readers' nginx: what nobody knows is
 harvested by the shard that its hash names, and by no other.
 
-    ./run --build && tests/wish_shards.py
+    ./run --unproved && tests/wish_shards.py
 """
 import contextlib
 import pathlib

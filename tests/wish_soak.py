@@ -2,7 +2,7 @@
 """Random wishes beside kills: readers ask three replicas that pull from each other for originals that nobody knows, over archives
 that fail now and then, while one replica after the other is killed and started again.
 
-    ./run --build && tests/wish_soak.py       half a minute
+    ./run --unproved && tests/wish_soak.py       half a minute
     tests/wish_soak.py 600                    so many seconds
 
 - A memento that is shown stood on a page that an archive had sent whole, and a replica that shows an original goes on showing it

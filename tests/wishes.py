@@ -2,7 +2,7 @@
 """What readers ask for is harvested next: an unknown original becomes a 302 while a round goes on and an archive says nothing,
 within the bounds of the settings and with nothing of it in the log; and originals come from a file.
 
-    ./run --build && tests/wishes.py
+    ./run --unproved && tests/wishes.py
 """
 import contextlib
 import http.client
