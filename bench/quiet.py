@@ -15,10 +15,15 @@ processor isn't quiet any more when it ends.
 """
 import functools
 import os
+import pathlib
 import statistics
 import sys
 import time
 
+sys.path.insert(0, str(pathlib.Path(__file__).resolve().parent.parent / "tools"))
+from command import number_of, refuse, words_of
+
+OPTIONS = "--all", "--least", "--is-quiet", "--wait", "--are-quiet"
 TRIES = 5
 PATIENCE = float(os.environ.get("PATIENCE", "3"))    # seconds
 
@@ -108,7 +113,7 @@ def note_figure():
 
 
 def main():
-    match sys.argv[1:]:
+    match words_of(__doc__, most=1, options=OPTIONS):
         case []:
             print(quietest())
         case ["--all"]:
@@ -118,11 +123,11 @@ def main():
         case ["--is-quiet"]:
             sys.exit(not is_quiet(middle()))
         case ["--wait", count]:
-            wait_for(int(count))
+            wait_for(number_of(count))
         case ["--are-quiet", count]:
-            sys.exit(not are_quiet(int(count)))
+            sys.exit(not are_quiet(number_of(count)))
         case _:
-            sys.exit(__doc__)
+            refuse("these words don't go together")
 
 
 if __name__ == "__main__":

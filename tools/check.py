@@ -35,6 +35,7 @@ import shutil
 import subprocess
 import sys
 
+import command
 import statements
 import visibility
 
@@ -435,7 +436,7 @@ def check_scripts(tell):
 
 
 def main():
-    if "--mend" in sys.argv:
+    if "--mend" in command.words_of(__doc__, options=["--mend"]):
         mend_columns()
         subprocess.run([TOP / "docs/counts"], check=True)
         subprocess.run([TOP / "tools/contracts.py"], check=True)
