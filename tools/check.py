@@ -1,4 +1,3 @@
-#!/usr/bin/env python3
 """Checks that the documents say what stands in the repository.
 
     docs/check             says what is wrong, and ends with status 1 if anything is

@@ -1,4 +1,3 @@
-#!/usr/bin/env python3
 """Writes what can be counted or copied: the tables of lines and of planted bugs in docs/TRUST.md, in docs/BELIEF.md the definitions
 that the headline's two clauses stand on, as tools/statements.py finds them, and in docs/ARCHITECTURE.md what each crate stands on, as
 crates.txt has it.
