@@ -10,8 +10,8 @@
 - Each crate of crates.txt has a row in the tables of docs/ARCHITECTURE.md and is named in docs/PROVED.md, and each name in code
   marks below its heading there stands in that crate.
 - The tables are as docs/counts counts them, the lists of contracts as tools/contracts.py has them from the sources, the pictures as
-  tools/pictures.py draws them, the figures of speed as tools/plot.py has them from bench/results.tsv, and the policy of the
-  readers' page as web/policy writes it.
+  tools/pictures.py draws them, the figures of speed as tools/plot.py has them from bench/results.tsv, the policy of the readers' page
+  as web/policy writes it, and the licences of what is in the program as tools/licences.py has them from the toolchain's kit.
 - A claim of the README says the premises of the contracts that it cites, in the words that docs/premises.txt has for each, and none
   is waived there; its headline says those of `replicas_agree.learnt`.
 - How many definitions a contract stands on is as tools/statements.py counts them.
@@ -429,7 +429,7 @@ def check_visibility(tell):
 def check_scripts(tell):
     dry = (["tests/planted/run", "--dry"], ["tests/planted/both", "--dry"])
     for words in (["docs/counts", "--check"], ["tools/contracts.py", "--check"], ["tools/pictures.py", "--check"], ["tools/plot.py", "--check"],
-                  ["web/policy", "--check"], *dry):
+                  ["web/policy", "--check"], ["tools/licences.py", "--check"], *dry):
         ran = subprocess.run([TOP / words[0], *words[1:]], capture_output=True, text=True)
         tell(TOP / words[0], ((ran.stderr or ran.stdout).strip() or "failed") if ran.returncode else None)
 
@@ -442,6 +442,7 @@ def main():
         subprocess.run([TOP / "tools/pictures.py"], check=True)
         subprocess.run([TOP / "tools/plot.py"], check=True)
         subprocess.run([TOP / "web/policy"], check=True)
+        subprocess.run([TOP / "tools/licences.py"], check=False)    # which can't without a kit, and says so
         for page in documents():
             mend_links(page)
     wrong = []
