@@ -16,6 +16,8 @@
   is waived there; its headline says those of `replicas_agree.learnt`.
 - How many definitions a contract stands on is as tools/statements.py counts them.
 - The commands of scripts, and what they write, stand in examples/README.md as in the comment of `replay`.
+- The README.md of docs/, bench/, deploy/ and tests/planted/ names each file of its folder. That of crates/ names each crate once,
+  below all that it uses or in their group.
 - Each key of the settings has a row in docs/SETTINGS.md, with the limits that its definition has.
 - What a crate doesn't lend to others is pub(crate) or private, and the head of each lib.rt of many modules says what each is for
   (tools/visibility.py).
@@ -35,6 +37,7 @@ import subprocess
 import sys
 
 import command
+import counts
 import statements
 import visibility
 
@@ -189,6 +192,29 @@ def check_tables(tell):
         for name in re.findall(r"`([\w:.]+)`", re.split(r"^- \[", section, maxsplit=1, flags=re.M)[0]):
             lacking = [word for word in re.findall(r"[^\W\d]\w*", name) if word not in words and word not in crates()]
             tell(page, f"{crate} has no {name}" if lacking else None)
+
+
+def check_indexes(tell):
+    for folder in ("docs", "bench", "deploy", "tests/planted"):
+        page = TOP / folder / "README.md"
+        text = page.read_text(encoding="utf-8")
+        for path in sorted((TOP / folder).iterdir()):
+            is_listed = path.is_file() and path != page and path.suffix not in (".bugs", ".both")
+            if is_listed and f"`{path.name}`" not in text and f"]({path.name})" not in text:
+                tell(page, f"{path.name} isn't named")
+
+
+def check_groups(tell):
+    page = TOP / "crates/README.md"
+    groups = [re.findall(r"`(\w+)`", line.split("|")[2]) for line in lines_of(page) if line.startswith("| ") and "`" in line]
+    rank = {crate: k for k, group in enumerate(groups) for crate in group}
+    tell(page, "a crate is named twice" if len(rank) < sum(map(len, groups)) else None)
+    uses = counts.used()
+    for crate in {*uses, *rank}:
+        tell(page, f"{crate} isn't named" if crate not in rank else f"there is no crate {crate}" if crate not in uses else None)
+        for below in uses.get(crate, ()):
+            if rank.get(below, 0) > rank.get(crate, len(groups)):
+                tell(page, f"{crate} stands above {below}, which it uses")
 
 
 def commands(path, mark):
@@ -455,6 +481,8 @@ def main():
     check_tables(tell)
     check_counts(tell)
     check_claims(tell)
+    check_indexes(tell)
+    check_groups(tell)
     check_commands(tell)
     check_settings(tell)
     check_columns(tell)
