@@ -38,15 +38,27 @@ BEFORE_VERSION = {"idna": "of version"}
 # Where a notice stands within a crate's source.
 WITHIN = {"core": "src/dec2flt/mod.rt"}
 
+MAKERS = "the makers of the Rattle toolchain"
+
 # What the program has of others besides: the files of the kit, whose they are, and the licence.
 OBJECTS = (
     ("toolchain/lib/Scrt1.o toolchain/lib/crti.o toolchain/lib/crtn.o toolchain/lib/libc_nonshared.a",
      "Free Software Foundation, Inc., and others (the GNU C Library)", "LGPL-2.1-or-later",
-     "With it comes the permission to link these files into any program, and to pass that on."),
+     "With it comes the permission to link these files into any program, and to\npass that on."),
     ("toolchain/lib/crtbeginS.o toolchain/lib/crtendS.o toolchain/lib/libgcc.a", "Free Software Foundation, Inc. (GCC)",
      "GPL-3.0-or-later WITH GCC-exception-3.1", "The exception allows what is linked with these files to have any licence."),
-    ("c/libos_c.a c/liblibc_c.a", "the makers of the Rattle toolchain", "unstated", ""),
+    ("c/libos_c.a c/liblibc_c.a", MAKERS, "unstated", ""),
 )
+
+# The licences whose texts stand elsewhere, and where.
+TEXTS_ELSEWHERE = {
+    "Apache-2.0": "On Debian systems the text of this license is in\n/usr/share/common-licenses/Apache-2.0. In an image it stands beside\n"
+                  "this file, in LICENSE.",
+    "LGPL-2.1-or-later": "On Debian systems the text of this license is in\n/usr/share/common-licenses/LGPL-2.1.",
+    "GPL-3.0-or-later WITH GCC-exception-3.1": "On Debian systems the text of this license is in\n/usr/share/common-licenses/GPL-3. The "
+                                               "exception is the GCC Runtime Library\nException, version 3.1.",
+    "unstated": "The kit of the toolchain has no licence for these.",
+}
 
 
 @dataclasses.dataclass
@@ -134,6 +146,8 @@ def after_of(folder, name):
 def crate_of(kit, name):
     folder = kit / "rattle" / name
     files = sorted(folder.glob("LICENSE*"))
+    if name in WITHIN and not words_from((folder / WITHIN[name]).read_text(encoding="utf-8"), PERMISSION):
+        sys.exit(f"{folder / WITHIN[name]} has no notice, or another than MIT's")
     after = after_of(folder, name) if (folder / WITHIN.get(name, "README.md")).exists() and (files or name in WITHIN) else ""
     return Crate(name, after + (", in a part" if name in WITHIN else ""), licence_of(files), copyrights_of(files))
 
@@ -182,34 +196,32 @@ def debian_name(licence):
     return re.sub(r"\((.*)\) AND ", r"\1, and ", licence).replace(" OR ", " or ").replace(" AND ", " and ").replace(" WITH ", " with ")
 
 
+def crate_paragraphs(crates):
+    """A paragraph for all crates of one licence and of the same people."""
+    def group_of(crate):
+        return not crate.licence, crate.licence, crate.copyrights
+
+    for (is_without, licence, copyrights), group in itertools.groupby(sorted(crates, key=group_of), group_of):
+        group = list(group)
+        after = {crate.name: crate.after.replace("`", "") for crate in group}
+        whose = copyrights or [MAKERS if is_without else f"the authors of {', '.join(after.values())}, whose licences name nobody"]
+        comment = "; ".join(f"{name} is after {after[name]}, whose license is MIT and names nobody" for name in after if name in WITHIN)
+        yield paragraph(Files="\n".join(f"rattle/{name}/*" for name in after), Copyright="\n".join(whose),
+                        License=debian_name(licence) or "unstated", Comment=comment)
+
+
 def copyright_text(kit, crates):
     """Debian's machine-readable copyright of the program and of what is in it."""
     name = (kit / "KIT-ID").read_text().split()[0]
-    parts = [
-        f"Format: https://www.debian.org/doc/packaging-manuals/copyright-format/1.0/\nUpstream-Name: Maplewrench\n"
-        f"Comment: The program aggregator has in it the crates below rattle/ and the objects\n"
-        f" below c/ and toolchain/ of the Rattle toolchain ({name}). Written by\n tools/licences.py of the repository.\n",
-        paragraph(Files="*", Copyright="2026 the authors of Maplewrench", License="Apache-2.0")]
-    for (licence, copyrights), group in itertools.groupby(sorted(crates, key=lambda it: (not it.licence, it.licence, it.copyrights)),
-                                                          lambda it: (it.licence, it.copyrights)):
-        group = list(group)
-        whose = copyrights or ["the makers of the Rattle toolchain" if not licence else
-                               f"the authors of {', '.join(it.after.replace('`', '') for it in group)}, whose licences name nobody"]
-        within = [it for it in group if it.name in WITHIN]
-        comment = "; ".join(f"{it.name} is after {it.after.replace('`', '')}, whose license is MIT and names nobody" for it in within)
-        parts.append(paragraph(Files="\n".join(f"rattle/{it.name}/*" for it in group), Copyright="\n".join(whose),
-                               License=debian_name(licence) or "unstated", Comment=comment))
-    parts += [paragraph(Files=files.replace(" ", "\n"), Copyright=whose, License=debian_name(licence), Comment=textwrap.fill(comment, 77))
-              for files, whose, licence, comment in OBJECTS]
-    apart = {"MIT": text_of(kit, crates, "MIT"), "Unicode-3.0": text_of(kit, crates, "Unicode-3.0"),
-             "Apache-2.0": "On Debian systems the text of this license is in\n/usr/share/common-licenses/Apache-2.0. In an image it stands beside this\n"
-                           "file, in LICENSE.",
-             "LGPL-2.1-or-later": "On Debian systems the text of this license is in\n/usr/share/common-licenses/LGPL-2.1.",
-             "GPL-3.0-or-later with GCC-exception-3.1": "On Debian systems the text of this license is in\n/usr/share/common-licenses/GPL-3. "
-                                                        "The exception is the GCC Runtime Library\nException, version 3.1.",
-             "unstated": "The kit of the toolchain has no licence for these."}
-    parts += [paragraph(License=f"{licence}\n{text}") for licence, text in apart.items()]
-    return "\n".join(parts)
+    head = paragraph(Format="https://www.debian.org/doc/packaging-manuals/copyright-format/1.0/", **{"Upstream-Name": "Maplewrench"},
+                     Comment="The program aggregator has in it the crates below rattle/ and the objects\n"
+                             f"below c/ and toolchain/ of the Rattle toolchain ({name}). Written by\ntools/licences.py of the repository.")
+    ours = paragraph(Files="*", Copyright="2026 the authors of Maplewrench", License="Apache-2.0")
+    objects = (paragraph(Files=files.replace(" ", "\n"), Copyright=whose, License=debian_name(licence), Comment=comment)
+               for files, whose, licence, comment in OBJECTS)
+    texts = {**{kind: text_of(kit, crates, kind) for kind in ("MIT", "Unicode-3.0")}, **TEXTS_ELSEWHERE}
+    licences = (paragraph(License=f"{debian_name(licence)}\n{text}") for licence, text in texts.items())
+    return "\n".join([head, ours, *crate_paragraphs(crates), *objects, *licences])
 
 
 def missing(crates):
