@@ -38,7 +38,7 @@ def build(folder):
 def try_notices(root):
     """The notices of what is in the image, and the files of those that aren't the program's."""
     ours = root / "usr/share/doc/maplewrench/copyright"
-    holds("it has the notices of what is in the program", ours.read_bytes() == (TOP / "deploy/copyright").read_bytes())
+    holds("it has the notices of what is in the program", ours.exists() and ours.read_bytes() == (TOP / "deploy/copyright").read_bytes())
     others = [it for it in root.glob("usr/share/doc/*/copyright") if it != ours]
     named = {root / name[1:] for it in others for name in re.findall(r"/usr/share/common-licenses/[A-Za-z]+(?:-\d+(?:\.\d+)*)?", it.read_text())}
     holds(f"and those of {', '.join(it.parent.name for it in others)}", bool(others) and bool(named))
