@@ -120,6 +120,8 @@ def main():
             print(", ".join(f"{processor}: {taken:.1f} ms" for processor, taken in times().items()))
         case ["--least"]:
             print(f"{least():.2f}")
+        case ["--is-quiet"] | ["--wait" | "--are-quiet", _] if "QUIET_MS" not in os.environ:
+            refuse("$QUIET_MS isn't set, to what --least prints")
         case ["--is-quiet"]:
             sys.exit(not is_quiet(middle()))
         case ["--wait", count]:
