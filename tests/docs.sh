@@ -1,7 +1,7 @@
 #!/usr/bin/env bash
 # Whether the documents say what stands in the repository (docs/check), and whether docs/check notices what it is for: on a copy, a
 # contract gets a premise that the README's claim leaves out, a claim or the headline leaves one out, a clause moves, a contract gets
-# another name, a planted text changes, a line is too wide, an item is public for nobody.
+# another name, a planted text or an edit's changes, edits stand elsewhere, a line is too wide, an item is public for nobody.
 set -euo pipefail
 . "$(dirname "$0")/saying.sh"
 "$top/docs/check"
@@ -53,6 +53,9 @@ notices 'a quoted line is another' crates/harvest_lattice/specs/Knowledge.antt \
     'other.revision ≤ h.revision' 'other.revision < h.revision' 'has no line'
 notices 'a planted text stands no longer' crates/timemap_reader/src/role.rt \
     '!lists(&rel, b"self")' '!lists(&rel, b"SELF")' 'stands there 0 times'
+notices 'the text of an edit stands no longer' crates/text_fields/edits/zero_in_front.edit \
+    'rest.is_empty()' 'rest.is_full()' 'text_fields/zero_in_front.edit: .*stands there 0 times'
+notices 'an edit changes nothing' crates/text_fields/edits/lines_end_at_cr.edit "'\\r'" "'\\n'" 'lines_end_at_cr.edit: it changes nothing'
 notices 'a sentence is too long' docs/DEFINITIONS.md 'The notation: `ℕ` is a number, ' \
     "The notation is this$(printf ', and %s' {1..20}): \`ℕ\` is a number, " 'at line .* has .* words'
 notices 'a command of scripts has another form' examples/README.md '| `sendfrom I N` |' '| `sendfrom N I` |' \
@@ -72,4 +75,10 @@ notices 'a paragraph is too wide' README.md 'Six claims, each with the contract 
 notices 'a line of a proof is too wide' crates/timegate/proofs/Replies.antt 'use ' "-- $(printf 'x%.0s' {1..200})
 use " 'is over 200 columns'
 notices 'a picture is shown nowhere' docs/OPERATING.md '![The readers' '[The readers' 'no document shows it'
+mv "$work/crates/text_fields/edits" "$work/crates/text_fields/must-fail"
+said=$("$work/docs/check" 2>&1) && { echo "docs/check doesn't notice that edits stand elsewhere"; exit 1; }
+for fault in 'move it to crates/text_fields/edits/' 'crates/text_fields: 0 edits are too few'; do
+    grep -q "$fault" <<<"$said" || { echo "docs/check doesn't say '$fault': $said"; exit 1; }
+    noticed=$((noticed + 1))
+done
 echo "the documents say what stands there, and docs/check notices $noticed of $noticed faults that were planted"

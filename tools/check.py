@@ -21,7 +21,9 @@
 - Each key of the settings has a row in docs/SETTINGS.md, with the limits that its definition has.
 - What a crate doesn't lend to others is pub(crate) or private, and the head of each lib.rt of many modules says what each is for
   (tools/visibility.py).
-- Each text that tests/planted would plant a bug in stands in the sources, once.
+- Each text that tests/planted would plant a bug in stands in the sources, once, and so does each that an edit changes. No edit
+  stands in must-fail/, where `rt ci` would prove its crate once more. A library of the product with four public functions or more
+  has four edits or more.
 - Prose is within 120 columns, in documents and in comments of code, definitions and proofs: but for tables, code, headings and
   the targets of links. `--mend` fills the paragraphs anew that aren't. Lines of proofs are within 200.
 - No sentence of a document has over 40 words; a name in code marks is one. Lists of contracts and CHANGELOG.md are left out.
@@ -45,6 +47,9 @@ if sys.version_info < (3, 11):
     sys.exit(f"docs/check needs Python 3.11 or later, and this is {sys.version.split()[0]}")
 
 TOP = pathlib.Path(__file__).resolve().parent.parent
+sys.path.insert(0, str(TOP / "tests/edits"))
+import editing
+
 LINK = re.compile(r'(?<!!)\[[^\]]*\]\(\s*([^)\s"#]*)(?:#([^)\s"]+))?(?:\s+"([^"]*)")?\s*\)')
 PICTURE = re.compile(r'!\[[^\]]*\]\(([^)\s]+)\)|srcset="([^"]+)"|src="([^"]+)"')
 FENCE = re.compile(r"^```(\S*)[ ]*(\S*)\n(.*?)^```$", re.M | re.S)
@@ -107,7 +112,7 @@ def headings(path):
 def documents():
     listed = subprocess.run(["git", "ls-files", "--cached", "--others", "--exclude-standard", "*.md"], cwd=TOP, capture_output=True, text=True)
     names = listed.stdout.split() if listed.returncode == 0 else [str(path.relative_to(TOP)) for path in TOP.rglob("*.md")]
-    return [TOP / name for name in names if "/must-fail/" not in name and (TOP / name).exists()]
+    return [TOP / name for name in names if not re.match(r"crates/\w+/edits/", name) and (TOP / name).exists()]
 
 
 def check_link(page, target, anchor, title):
@@ -452,8 +457,21 @@ def check_visibility(tell):
         tell(path, what)
 
 
+# A library of the product with so many public functions has so many edits.
+LEAST_EDITS = 4
+
+
+def check_edits(tell):
+    for crate in editing.with_those_below(editing.read_crates(), "aggregator"):
+        sources = TOP / "crates" / crate / "src"
+        calls = sum(item.kind == "fn" for path in sources.rglob("*.rt") for item in visibility.items_of(path))
+        edits = len(editing.edits_of(crate))
+        if (sources / "lib.rt").exists() and edits < LEAST_EDITS <= calls:
+            tell(sources.parent, f"{edits} edits are too few for its {calls} public functions: {LEAST_EDITS} at least")
+
+
 def check_scripts(tell):
-    dry = (["tests/planted/run", "--dry"], ["tests/planted/both", "--dry"])
+    dry = (["tests/planted/run", "--dry"], ["tests/planted/both", "--dry"], ["tests/edits/run", "--dry"])
     for words in (["docs/counts", "--check"], ["tools/contracts.py", "--check"], ["tools/pictures.py", "--check"], ["tools/plot.py", "--check"],
                   ["web/policy", "--check"], ["tools/licences.py", "--check"], *dry):
         ran = subprocess.run([TOP / words[0], *words[1:]], capture_output=True, text=True)
@@ -490,6 +508,7 @@ def main():
     check_comments(tell)
     check_version(tell)
     check_visibility(tell)
+    check_edits(tell)
     check_scripts(tell)
     if wrong:
         sys.exit("\n".join(wrong))

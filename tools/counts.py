@@ -45,7 +45,7 @@ def lines_of(crate, folder, ending):
 def table_of_lines():
     rows = []
     for crate in crates():
-        edits = len(list((TOP / "crates" / crate / "must-fail").glob("*.edit")))
+        edits = len(list((TOP / "crates" / crate / "edits").glob("*.edit")))
         counts = [lines_of(crate, "src", "rt"), lines_of(crate, "specs", "antt"), lines_of(crate, "proofs", "antt"), edits]
         rows.append(f"| `{crate}` | " + " | ".join(map(str, counts)) + " |\n")
     return LINES + "".join(rows)

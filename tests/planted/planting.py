@@ -21,7 +21,7 @@ TESTS = {
     "text_tests": ("memento_time", "link_format", "text_fields", "url_texts", "timemap_reader", "timemap_writer"),
     "knowledge_tests": ("memento_sets", "harvest_lattice", "memento_index", "replica_exchange", "timegate"),
     "world_tests": ("replica_world",),
-    "service_tests": ("published_index", "harvester", "hyper_edge", "service_settings", "service_log"),
+    "service_tests": ("published_index", "harvester", "outgoing_requests", "hyper_edge", "service_settings", "service_log"),
     "walk_tests": ("harvester",),
     "snapshot_tests": ("snapshot_sections", "snapshots"),
     "wish_tests": ("wish_list", "original_sets", "original_list", "wishing_gates"),
@@ -124,12 +124,17 @@ def judge_by_tests(crate, run):
 # ---- copies ----
 
 
-def copy_repository(room):
+def copy_crates(room):
     """Copies what rt reads. The work of checks stays behind: rt begins with what those of the same text kept on this machine,
     which takes no room on the disk."""
     for part in ("crates.txt", "HANDLES"):
         shutil.copy(f"{TOP}/{part}", room)
     shutil.copytree(f"{TOP}/crates", f"{room}/crates", ignore=shutil.ignore_patterns("out"))
+
+
+def copy_repository(room):
+    """Copies the crates, without the tests that would take too long there."""
+    copy_crates(room)
     leave_out_slow_tests(f"{room}/crates")
 
 
@@ -181,27 +186,31 @@ def keep_tried(list_name, sums):
     found = subprocess.run(["git", "rev-parse", "--short=7", "HEAD"], cwd=HERE, capture_output=True, text=True)
     if found.returncode != 0:
         return
-    with alone_in_tried():
+    with alone_in(HERE):
         rows, standing = tried(), checksums(list_name).values()
         rows.update({(list_name, checksum): found.stdout.strip() for checksum in sums})
         write_tried({key: commit for key, commit in rows.items() if key[0] != list_name or key[1] in standing})
 
 
 @contextlib.contextmanager
-def alone_in_tried():
-    """Waits until no other run changes what was tried, so that runs of other lists lose no line of each other's."""
-    folder = os.open(HERE, os.O_RDONLY)
+def alone_in(folder):
+    """Waits until no other run changes what was tried in this folder, so that no run loses a line of another's."""
+    opened = os.open(folder, os.O_RDONLY)
     try:
-        fcntl.flock(folder, fcntl.LOCK_EX)
+        fcntl.flock(opened, fcntl.LOCK_EX)
         yield
     finally:
-        os.close(folder)
+        os.close(opened)
+
+
+def write_whole(path, text):
+    """Puts a whole new file in the old one's place, so that no reader sees half of it."""
+    new = path.with_name(f"{path.name}.new")
+    new.write_text(text, encoding="utf-8")
+    os.replace(new, path)
 
 
 def write_tried(rows):
-    """Puts a whole new file in the old one's place, so that no reader sees half of it."""
     head = "# Planted bugs that were tried, and refused by what their blocks name: the commit, the list, the checksum of the block (planting.py).\n"
     lines = sorted(f"{commit} {name} {checksum}\n" for (name, checksum), commit in rows.items())
-    new = TRIED.with_name(f"{TRIED.name}.new")
-    new.write_text(head + "".join(lines), encoding="utf-8")
-    os.replace(new, TRIED)
+    write_whole(TRIED, head + "".join(lines))

@@ -1,9 +1,8 @@
 //! The thread of the rounds at work for wishes: they go before the jobs of a round.
 use crate::making::Rounds;
-use crate::standing::is_asleep;
 use harvest_lattice::Harvest;
 use harvest_schedule::Verdict;
-use harvest_workers::{Errand, Opened, WalkRules, verdict_of};
+use harvest_workers::{Errand, Opened, WalkRules};
 use harvester::SocketRuntime;
 use memento_index::Merge;
 use memento_time::{NoMemory, Original};
@@ -11,8 +10,8 @@ use original_list::spellings_of;
 use original_sets::{Key, OriginalSet};
 use published_index::Merger;
 use round_values::{
-    answer_to, has_mementos, is_fresh, is_kept, is_left_alone, revision_now, room_left, walk_end,
-    wish_timing,
+    Millis, Second, answer_to, has_mementos, is_fresh, is_kept, is_left_alone, room_left,
+    second_now, wish_timing,
 };
 use service_log::{Line, Want};
 use service_settings::Settings;
@@ -42,13 +41,13 @@ fn spared(
     settings: &Settings,
     merger: &Merger,
     original: &Original,
-    now: u64,
+    second: Second,
 ) -> Result<Vec<bool>, NoMemory> {
     let timing = wish_timing(settings.timing);
     let mut spared = Vec::with_capacity(alloc, settings.archives.len())?;
     for archive in &settings.archives {
         let is_spared = match merger.published_entry(archive.name, original) {
-            Some(entry) => is_fresh(timing, entry, now),
+            Some(entry) => is_fresh(timing, entry, second),
             None => false,
         };
         spared.push(is_spared)?;
@@ -119,19 +118,19 @@ where
     /// Takes on a granted wish.
     fn take_wish(&mut self, original: &Original) -> Result<(), NoMemory> {
         let settings = self.settings();
-        let now = revision_now(self.rt);
-        let spared = spared(self.alloc(), settings, &*self.merger, original, now)?;
+        let second = second_now(self.rt);
+        let spared = spared(self.alloc(), settings, &*self.merger, original, second)?;
         self.standing.desk.push(original.try_clone()?, &spared)?;
         let is_spelling = self.standing.desk.take_spelling(original);
         if settings.wishing.alike && !is_spelling && !is_shown(settings, &*self.merger, original) {
-            self.wish_spellings(original, now);
+            self.wish_spellings(original, second);
         }
         Ok(())
     }
 
     /// Wishes for the other spellings of an original of which nothing is shown. What is wished for so leads to no
     /// further wishes.
-    fn wish_spellings(&mut self, original: &Original, now: u64) {
+    fn wish_spellings(&mut self, original: &Original, second: Second) {
         let Ok(spellings) = spellings_of(self.alloc(), original) else {
             return;
         };
@@ -144,7 +143,7 @@ where
             let Ok(noted) = spelling.try_clone() else {
                 continue;
             };
-            if self.means.book.note(noted, false, now) != Some(Decision::Added) {
+            if self.means.book.note(noted, false, second.0) != Some(Decision::Added) {
                 let _ = self.standing.desk.take_spelling(&spelling);
             }
         }
@@ -159,7 +158,7 @@ where
             return false;
         };
         let now = self.now();
-        if !self.standing.schedule.begin_walk(ask.archive, now) {
+        if !self.standing.schedule.begin_walk(ask.archive, now.0) {
             self.standing.desk.refuse(ask.archive, now);
             return true;
         }
@@ -172,13 +171,13 @@ where
         let errand = Errand::Wish {
             archive: ask.archive,
         };
-        let revision = revision_now(self.rt);
+        let revision = second_now(self.rt);
         let Some(assignment) = self
             .terms
             .assignment(self.alloc(), errand, original, revision)
         else {
             // Memory was refused, or the URL is too long.
-            let now = self.now();
+            let now = self.now().0;
             let _ = self
                 .standing
                 .schedule
@@ -220,24 +219,17 @@ where
 
     /// Takes in what came of a wish's walk.
     pub(crate) fn take_wished(&mut self, archive: usize, opened: Opened) {
+        let _ = self.note_walk(&opened);
         let Opened {
             errand: _,
             job,
-            begun,
+            begun: _,
             result: walked,
-            asked,
+            asked: _,
         } = opened;
-        let asked = self.heeded(asked);
-        let end = walk_end(&walked, asked.is_some());
-        let was_asleep = is_asleep(self.standing.schedule.mood(archive));
-        let now = self.now();
-        let verdict = verdict_of(&walked, asked, now);
-        let _ = self.standing.schedule.end_walk(archive, verdict, now);
-        self.tell_walk(archive, end, begun);
-        self.tell_mood(archive, was_asleep);
         let answer = answer_to(&walked);
         let is_taken = match walked {
-            Ok(harvest) => self.take_wished_harvest(harvest, now),
+            Ok(harvest) => self.take_wished_harvest(harvest, self.now()),
             Err(_) => true,
         };
         let answer = if is_taken { answer } else { Answer::NoHarvest };
@@ -245,7 +237,7 @@ where
     }
 
     /// Appends the harvest of a wish's walk, if it is kept. Returns whether there was memory for it.
-    fn take_wished_harvest(&mut self, harvest: Harvest, now: u64) -> bool {
+    fn take_wished_harvest(&mut self, harvest: Harvest, now: Millis) -> bool {
         let is_shown = is_shown(self.settings(), &*self.merger, harvest.original());
         if !is_kept(&harvest, is_shown) {
             return true;
@@ -264,27 +256,27 @@ where
         if !self.means.book.is_open() {
             return;
         }
-        if self.standing.desk.is_due(self.now()) {
+        let now = self.now();
+        if self.standing.desk.is_due(now) {
             self.publish();
         }
         self.end_wishes();
-        if let Some(counts) = self.standing.desk.take_counts(self.now()) {
+        let now = self.now();
+        if let Some(counts) = self.standing.desk.take_counts(now) {
             self.log.tell(self.alloc(), Line::Wishes(counts));
         }
     }
 
     /// Ends the wishes that are over.
     fn end_wishes(&mut self) {
-        let now = revision_now(self.rt);
+        let second = second_now(self.rt);
         for _ in 0..MOST_WISHES {
             let Some(ended) = self.standing.desk.take_ended() else {
                 return;
             };
             let is_found = ended.outcome.is_found
                 || is_shown(self.settings(), &*self.merger, &ended.original);
-            self.means
-                .book
-                .end(self.rt, &ended.original, is_found, ended.outcome, now);
+            self.means.book.end(self.rt, &ended.original, is_found, ended.outcome, second.0);
             self.standing.desk.count(is_found);
             let over = WishCounts {
                 ended: 1,

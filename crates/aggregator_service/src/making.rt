@@ -7,7 +7,7 @@ use harvest_schedule::{Turn, Verdict};
 use harvest_workers::{Assignment, Errand, WalkRules};
 use harvester::SocketRuntime;
 use published_index::Merger;
-use round_values::{Log, Round, Stopwatch, is_fresh, revision_now};
+use round_values::{Log, Millis, Round, Second, Stopwatch, is_fresh, second_now};
 use service_settings::Settings;
 use service_threads::{Means, Terms, original_of};
 use std::alloc::{AllocGlobal, Global};
@@ -61,12 +61,12 @@ fn pause_of(settings: &Settings) -> u64
     settings.pause.saturating_mul(1_000)
 }
 
-/// For how many milliseconds to wait: until this time, and no longer than a tick.
-fn wait_until(time: Option<u64>, now: u64) -> u64
+/// For how many milliseconds to wait: until this moment, and no longer than a tick.
+fn wait_until(time: Option<Millis>, now: Millis) -> u64
     ensures { (1 ≤ result) × (result ≤ 250) }
 {
     match time {
-        Some(time) => time.saturating_sub(now).max(1).min(TICK),
+        Some(time) => time.since(now).max(1).min(TICK),
         None => TICK,
     }
 }
@@ -85,8 +85,8 @@ where
         self.rt.alloc()
     }
 
-    /// The millisecond since the rounds began.
-    pub(crate) fn now(&self) -> u64 {
+    /// The present moment.
+    pub(crate) fn now(&self) -> Millis {
         self.watch.now(self.rt)
     }
 
@@ -95,8 +95,9 @@ where
     pub(crate) fn make(&mut self, number: u64) -> Round {
         let settings = self.settings();
         self.read_list(number);
-        self.standing.begin(self.alloc(), settings, number);
-        self.standing.revision = revision_now(self.rt);
+        let alloc = self.alloc();
+        self.standing.begin(alloc, settings, number);
+        self.standing.revision = second_now(self.rt);
         self.tell_listed();
         self.tell_room();
         self.tell_progress();
@@ -120,12 +121,14 @@ where
 
     /// Walks each archive for each original, as far as the schedule allows, and takes in what comes.
     fn harvest(&mut self) {
-        self.standing.dues.progress.done(self.now());
+        let begun = self.now();
+        self.standing.dues.progress.done(begun);
         for _ in self.rt.forever() {
             self.take_waiting();
             self.hand_wishes();
             let handed = self.hand_out();
-            if self.standing.out == 0 && self.standing.schedule.is_over(self.now()) {
+            let now = self.now().0;
+            if self.standing.out == 0 && self.standing.schedule.is_over(now) {
                 break;
             }
             if handed == Handed::Enough {
@@ -142,7 +145,8 @@ where
     /// For how many milliseconds to wait for what comes.
     fn wait_time(&self) -> u64 {
         let now = self.now();
-        let wait = wait_until(self.standing.schedule.next_time(now), now);
+        let next = self.standing.schedule.next_time(now.0).map(Millis);
+        let wait = wait_until(next, now);
         if self.means.book.is_open() {
             wait.min(self.standing.desk.wait(now))
         } else {
@@ -156,7 +160,7 @@ where
             if self.standing.walks() >= self.means.pool.hands() {
                 return Handed::Enough;
             }
-            let now = self.now();
+            let now = self.now().0;
             let Some(turn) = self.standing.schedule.offer(now) else {
                 return Handed::Enough;
             };
@@ -186,23 +190,23 @@ where
             return false;
         };
         match self.merger.published_entry(archive.name, original) {
-            Some(entry) => is_fresh(settings.timing, entry, revision_now(self.rt)),
+            Some(entry) => is_fresh(settings.timing, entry, second_now(self.rt)),
             None => false,
         }
     }
 
     /// The revision of a job that is handed out now: where what is known isn't asked for again, that of this second,
     /// so that of two replicas the one that looked later wins.
-    fn revision(&self) -> u64 {
+    fn revision(&self) -> Second {
         if self.settings().timing.again.is_some() {
-            revision_now(self.rt)
+            second_now(self.rt)
         } else {
             self.standing.revision
         }
     }
 
     /// The job of a turn of the round, to be handed out.
-    fn assignment_of(&self, turn: Turn, revision: u64) -> Option<Assignment<P>> {
+    fn assignment_of(&self, turn: Turn, revision: Second) -> Option<Assignment<P>> {
         let original = original_of(self.standing.list(self.settings()), turn)?;
         self.terms
             .assignment(self.alloc(), Errand::Round(turn), original, revision)
@@ -213,10 +217,8 @@ where
         let revision = self.revision();
         let Some(assignment) = self.assignment_of(turn, revision) else {
             // Memory was refused, or the URL is too long.
-            let _ = self
-                .standing
-                .schedule
-                .done(turn, Verdict::Unknown, self.now());
+            let now = self.now().0;
+            let _ = self.standing.schedule.done(turn, Verdict::Unknown, now);
             self.standing.round.add_job();
             self.standing.notes.add_unwalked();
             return;
@@ -238,7 +240,8 @@ where
         let begun = self.now();
         self.take_waiting();
         self.hand_wishes();
-        let wait = self.standing.desk.wait(self.now()).min(most);
+        let now = self.now();
+        let wait = self.standing.desk.wait(now).min(most);
         let heard = self.take_news(wait);
         if heard == Heard::Gone {
             let _ = thread::sleep(self.rt, Duration::from_millis(wait));
@@ -247,8 +250,9 @@ where
         self.tend_wishes();
         self.tend_snapshot();
         self.tell_memory();
+        // Without a clock no time passes by the watch, and the pause would not end.
         let waited = if heard == Heard::Report { 0 } else { wait };
-        self.now().saturating_sub(begun).max(waited)
+        self.now().since(begun).max(waited)
     }
 
     /// Waits as long as the settings say between two rounds. Where peers are pulled and snapshots written, that goes on

@@ -2,8 +2,8 @@
 use crate::making::{Rounds, TICK};
 use harvest_workers::WalkRules;
 use harvester::SocketRuntime;
-use hyper_edge::Patience;
 use memento_time::Clean;
+use outgoing_requests::{Patience, PullFault};
 use published_index::Merger;
 use replica_exchange::{Cursor, Delta};
 use round_values::pull_end;
@@ -27,12 +27,10 @@ where
         if settings.timing.pull.is_none() || !self.means.pullers.are_some() {
             return;
         }
-        let end = self
-            .now()
-            .saturating_add(settings.patience.saturating_mul(1_000));
+        let end = self.now().after(settings.patience.saturating_mul(1_000));
         self.ask_peers();
         for _ in 0..settings.peers.len() {
-            let left = end.saturating_sub(self.now());
+            let left = end.since(self.now());
             let Some(answer) = self.wait_answer(left) else {
                 break;
             };
@@ -126,20 +124,7 @@ where
                 *is_pulled = false;
             }
         }
-        let is_passed = match &answer {
-            Ok(delta) => self.is_passed(delta, cursor),
-            Err(_) => false,
-        };
-        let taken = match answer {
-            Ok(delta) if self.is_passed(&delta, cursor) => Ok(()),
-            Ok(delta) => self.standing.round.take_delta(self.merger, peer, &delta),
-            Err(fault) => Err(PeerFault::Pull(fault)),
-        };
-        let end = if is_passed {
-            PullEnd::NoNews
-        } else {
-            pull_end(&taken)
-        };
+        let (taken, end) = self.take_answer(peer, cursor, answer);
         self.tell_pull(peer, end);
         if let Err(fault) = taken {
             if self.standing.notes.tells_peer(peer) {
@@ -151,6 +136,23 @@ where
                 self.log.tell(self.alloc(), line);
             }
         }
+    }
+
+    /// Appends the delta that a peer gave, if it gave one that brings something. Returns what came of it, and how the
+    /// pull ended.
+    fn take_answer(
+        &mut self,
+        peer: u64,
+        held: Option<Cursor>,
+        answer: Result<Delta, PullFault>,
+    ) -> (Result<(), PeerFault>, PullEnd) {
+        let taken = match answer {
+            Ok(delta) if self.is_passed(&delta, held) => return (Ok(()), PullEnd::NoNews),
+            Ok(delta) => self.standing.round.take_delta(self.merger, peer, &delta),
+            Err(fault) => Err(PeerFault::Pull(fault)),
+        };
+        let end = pull_end(&taken);
+        (taken, end)
     }
 
     /// Whether a delta isn't appended. One that a round pulls at its end is, whatever it brings.

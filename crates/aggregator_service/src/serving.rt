@@ -10,7 +10,7 @@ use crate::standing::Standing;
 use harvest_workers::WalkRules;
 use harvester::SocketRuntime;
 use published_index::{Gate, Merger, open};
-use round_values::{Log, Round, Stopwatch, incarnation_now, shuffle};
+use round_values::{Log, Millis, Round, Stopwatch, incarnation_now, shuffle};
 use service_log::Line;
 use service_settings::Settings;
 use service_threads::{Listeners, Means, ServeFault, Terms, open_listeners};
@@ -104,7 +104,7 @@ where
     let terms: Terms<P> = Terms::new(Arc::try_clone(settings)?);
     let keys = secret_keys(rt, terms.settings())?;
     let mut means = Means::new(rt.alloc(), terms.settings(), keys)?;
-    let mut standing = Standing::new(rt.alloc(), terms.settings(), 0)?;
+    let mut standing = Standing::new(rt.alloc(), terms.settings(), Millis(0))?;
     if let Some(path) = &terms.settings().storing.snapshot {
         if standing.keeping.take_in(rt, path.as_str(), merger, log) {
             means.readiness.set();

@@ -4,7 +4,7 @@ ghost use Rattle.std.specs.Prelude.{◌≡◌, IfSome, None};
 use crate::listing::Listing;
 use harvest_schedule::{Limits, Mood, Pace, Schedule};
 use memento_time::Original;
-use round_values::{Desk, Dues, Keeping, Notes, Round};
+use round_values::{Desk, Dues, Keeping, Millis, Notes, Round, Second};
 use service_log::Progress;
 use service_settings::{Archive, Settings};
 use std::alloc::{AllocError, Global};
@@ -23,7 +23,7 @@ pub(crate) struct Standing {
     pub(crate) round: Round,
     pub(crate) notes: Notes,
     /// The revision of a round's jobs, unless each has its own.
-    pub(crate) revision: u64,
+    pub(crate) revision: Second,
     /// How many jobs of the round are out.
     pub(crate) out: usize,
     /// How many jobs of the round were passed over.
@@ -32,9 +32,9 @@ pub(crate) struct Standing {
     pub(crate) desk: Desk,
     pub(crate) listing: Listing,
     /// When all mementos were counted last, if the status is told of them.
-    pub(crate) counted: Option<u64>,
+    pub(crate) counted: Option<Millis>,
     /// When the memory that is held was looked at last, if the status is told of it.
-    pub(crate) measured: Option<u64>,
+    pub(crate) measured: Option<Millis>,
 }
 
 /// Whether the settings have a key by which more is told than the specified lines.
@@ -95,11 +95,11 @@ fn windows_of(settings: &Settings) -> usize {
 }
 
 impl Standing {
-    /// Before the first round, at this millisecond.
+    /// Before the first round, at this moment.
     pub(crate) fn new(
         alloc: Global,
         settings: &Settings,
-        now: u64,
+        now: Millis,
     ) -> Result<Standing, AllocError> {
         let mut pulled = Vec::with_capacity(alloc, settings.peers.len())?;
         for _ in &settings.peers {
@@ -113,7 +113,7 @@ impl Standing {
             number: 1,
             round: Round::NONE,
             notes: Notes::new(alloc, settings),
-            revision: 0,
+            revision: Second(0),
             out: 0,
             passed: 0,
             desk: Desk::new(alloc, windows_of(settings))?,
@@ -136,6 +136,7 @@ impl Standing {
     /// Begins the round with this number. What was pulled since the last one counts in it.
     pub(crate) fn begin(&mut self, alloc: Global, settings: &Settings, number: u64) {
         let originals = self.list(settings).len();
+        // It is refused only while a job is out, and a round ends when none is, or when no worker is left to end it.
         let _ = self.schedule.begin(originals);
         self.number = number;
         self.notes = Notes::new(alloc, settings);

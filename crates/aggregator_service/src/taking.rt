@@ -6,7 +6,7 @@ use harvest_schedule::Turn;
 use harvest_workers::{Errand, Opened, WalkReport, WalkRules, verdict_of};
 use harvester::{SocketRuntime, WalkFault};
 use published_index::Merger;
-use round_values::{has_mementos, walk_end};
+use round_values::{Second, has_mementos, walk_end};
 use service_log::{Dormancy, Line, Matter, name_text};
 use service_settings::Archive;
 use service_threads::News;
@@ -76,29 +76,38 @@ where
         }
     }
 
+    /// Tells the schedule, the status and the log how a walk ended. Returns for how many seconds its archive is left
+    /// alone, if it asked for that.
+    pub(crate) fn note_walk(&mut self, opened: &Opened) -> Option<u64> {
+        let archive = opened.errand.archive();
+        let asked = self.heeded(opened.asked);
+        let was_asleep = is_asleep(self.standing.schedule.mood(archive));
+        let now = self.now().0;
+        let verdict = verdict_of(&opened.result, asked, now);
+        // Both refuse only a walk that isn't out, and this one was.
+        let _ = match opened.errand {
+            Errand::Round(turn) => self.standing.schedule.done(turn, verdict, now),
+            Errand::Wish { archive } => self.standing.schedule.end_walk(archive, verdict, now),
+        };
+        let end = walk_end(&opened.result, asked.is_some());
+        self.tell_walk(archive, end, Second(opened.begun));
+        self.tell_mood(archive, was_asleep);
+        asked
+    }
+
     /// Takes in what came of a job of the round.
     pub(crate) fn take_opened(&mut self, turn: Turn, opened: Opened) {
+        if self.note_walk(&opened).is_none() {
+            self.standing.round.add_job();
+        }
         let Opened {
             errand: _,
             job,
-            begun,
+            begun: _,
             result: walked,
-            asked,
+            asked: _,
         } = opened;
-        let asked = self.heeded(asked);
-        let end = walk_end(&walked, asked.is_some());
-        let was_asleep = is_asleep(self.standing.schedule.mood(turn.archive));
-        let now = self.now();
-        let _ = self
-            .standing
-            .schedule
-            .done(turn, verdict_of(&walked, asked, now), now);
-        if asked.is_none() {
-            self.standing.round.add_job();
-        }
         self.standing.notes.add(turn.archive, &job.first, &walked);
-        self.tell_walk(turn.archive, end, begun);
-        self.tell_mood(turn.archive, was_asleep);
         self.take_walked(turn, walked);
     }
 

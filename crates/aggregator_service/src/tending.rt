@@ -29,9 +29,10 @@ where
         let now = self.now();
         if self.standing.dues.progress.is_due(now) {
             self.standing.dues.progress.done(now);
+            let settings = self.settings();
             let line = Line::Progress {
                 round: self.standing.number,
-                progress: self.standing.progress(self.settings()),
+                progress: self.standing.progress(settings),
             };
             self.log.tell(self.alloc(), line);
         }
@@ -64,8 +65,9 @@ where
             .round
             .publish(self.rt, self.standing.number, self.merger, self.log);
         let is_published = self.standing.round.published;
-        let jobs = self.standing.jobs(self.settings());
-        if is_published && has_learnt(self.settings(), self.standing.round, jobs) {
+        let settings = self.settings();
+        let jobs = self.standing.jobs(settings);
+        if is_published && has_learnt(settings, self.standing.round, jobs) {
             self.means.readiness.set();
             self.means.telling.tell_shown(self.rt);
         }
@@ -81,7 +83,8 @@ where
 
     /// Writes a snapshot, where one is due.
     pub(crate) fn tend_snapshot(&mut self) {
-        if self.standing.keeping.is_due(self.now()) {
+        let now = self.now();
+        if self.standing.keeping.is_due(now) {
             self.keep();
         }
     }
@@ -95,7 +98,8 @@ where
             self.standing
                 .keeping
                 .keep(self.rt, path.as_str(), &*self.merger, self.log);
-            self.standing.keeping.tried(self.now());
+            let now = self.now();
+            self.standing.keeping.tried(now);
         }
     }
 }

@@ -4,7 +4,7 @@ use harvest_schedule::Mood;
 use harvest_workers::WalkRules;
 use harvester::SocketRuntime;
 use published_index::Merger;
-use round_values::revision_now;
+use round_values::{Millis, Second, second_now};
 use service_status::{PullEnd, RoundStatus, WalkEnd, resident_bytes};
 use service_threads::known_in;
 use std::io::Write;
@@ -16,16 +16,16 @@ const COUNT: u64 = 60_000;
 /// How many milliseconds lie at least between two looks at the memory that is held.
 const MEASURE: u64 = 1_000;
 
-/// In which second an archive of this mood is asked again, if that is in this millisecond and this second; 0 if it
-/// isn't dormant, and `None` if one walk finds out whether it is.
-fn dormant_until(mood: Option<Mood>, now: u64, second: u64) -> Option<u64> {
+/// In which second an archive of this mood is asked again, if it is now this moment and this second; the first second
+/// of 1970 if it isn't dormant, and `None` if one walk finds out whether it is.
+fn dormant_until(mood: Option<Mood>, now: Millis, second: Second) -> Option<Second> {
     match mood {
         Some(Mood::Dormant { until, .. }) => {
-            let left = until.saturating_sub(now).div_ceil(1_000);
-            Some(second.saturating_add(left))
+            let left = Millis(until).since(now).div_ceil(1_000);
+            Some(Second(second.0.saturating_add(left)))
         }
         Some(Mood::Probed) => None,
-        _ => Some(0),
+        _ => Some(Second(0)),
     }
 }
 
@@ -36,15 +36,15 @@ where
     L: Write + Copy,
 {
     /// Tells the status of a walk of the archive at this place, which began in this second.
-    pub(crate) fn tell_walk(&self, place: usize, end: WalkEnd, begun: u64) {
+    pub(crate) fn tell_walk(&self, place: usize, end: WalkEnd, begun: Second) {
         let board = self.means.telling.board();
         if !board.is_open() {
             return;
         }
-        let second = revision_now(self.rt);
-        board.add_walk(self.rt, place, end, second.saturating_sub(begun));
+        let second = second_now(self.rt);
+        board.add_walk(self.rt, place, end, second.since(begun));
         if let Some(until) = dormant_until(self.standing.schedule.mood(place), self.now(), second) {
-            board.set_dormant(self.rt, place, until);
+            board.set_dormant(self.rt, place, until.0);
         }
     }
 
@@ -52,7 +52,7 @@ where
     pub(crate) fn tell_pull(&self, number: u64, end: PullEnd) {
         let board = self.means.telling.board();
         if board.is_open() {
-            board.add_pull(self.rt, number, end, revision_now(self.rt));
+            board.add_pull(self.rt, number, end, second_now(self.rt).0);
         }
     }
 
@@ -79,7 +79,7 @@ where
         }
         let now = self.now();
         let is_due = match self.standing.measured {
-            Some(last) => last.saturating_add(MEASURE) <= now,
+            Some(last) => last.after(MEASURE).0 <= now.0,
             None => true,
         };
         if is_due {
@@ -95,12 +95,12 @@ where
             return;
         }
         if is_published {
-            board.add_publish(self.rt, revision_now(self.rt));
+            board.add_publish(self.rt, second_now(self.rt).0);
         } else {
             board.add_refused(self.rt);
         }
         let is_due = match self.standing.counted {
-            Some(last) => last.saturating_add(COUNT) <= self.now(),
+            Some(last) => last.after(COUNT).0 <= self.now().0,
             None => true,
         };
         if is_due {
@@ -112,7 +112,8 @@ where
     fn count_known(&mut self) {
         let known = known_in(self.merger.published_state());
         self.means.telling.board().set_known(self.rt, known);
-        self.standing.counted = Some(self.now());
+        let now = self.now();
+        self.standing.counted = Some(now);
     }
 
     /// Tells the status that a round is over, and how much is known.

@@ -18,7 +18,7 @@ use Rattle.harvest_lattice.specs.Knowledge.{mementos_of, union_all}
 use Rattle.harvest_lattice.specs.Parts.{AllStay}
 use Rattle.harvest_lattice.proofs.Entries.{unite, union_semilattice, union_taken, both_held, same_mementos}
 use Rattle.harvest_lattice.proofs.Entries.{contains-union, least_below, whole_below, nb-max, held-join_kept}
-use Rattle.harvest_lattice.proofs.Knowledge.{has_at, in_entry, out_entry}
+use Rattle.harvest_lattice.proofs.KnowledgeShown.{has_at, in_entry, out_entry}
 
 -- ---- revisions one after the other
 

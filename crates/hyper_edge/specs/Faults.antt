@@ -1,14 +1,11 @@
 -- The words of faults.
-use Rattle.std.specs.Prelude.{ℕ, List, ◌++◌, codes}
-use Rattle.std.specs.Fmt.{decimal}
+use Rattle.std.specs.Prelude.{ℕ, List, codes}
 use Rattle.hyper_edge.specs.declared.faults.FormFault.{FormFault}
 use Rattle.hyper_edge.specs.declared.faults.FormFault.TheVariants as form
 use Rattle.hyper_edge.specs.declared.faults.RespondFault.{RespondFault}
 use Rattle.hyper_edge.specs.declared.faults.RespondFault.TheVariants as respond
 use Rattle.hyper_edge.specs.declared.faults.EdgeFault.{EdgeFault}
 use Rattle.hyper_edge.specs.declared.faults.EdgeFault.TheVariants as edge
-use Rattle.hyper_edge.specs.declared.faults.PullFault.{PullFault}
-use Rattle.hyper_edge.specs.declared.faults.PullFault.TheVariants as pull
 
 -- why a reply has no form
 abbrev pub form_words : FormFault → List ℕ
@@ -26,10 +23,3 @@ abbrev pub edge_words : EdgeFault → List ℕ
 edge_words edge.Bind = codes "an address that can't be bound"
 edge_words edge.Accept = codes "no further connection"
 edge_words edge.NoMemory = codes "no memory"
-
--- why a peer's delta isn't pulled
-abbrev pub pull_words : PullFault → List ℕ
-pull_words pull.Failed = codes "no answer"
-pull_words (pull.Status status) = codes "status " ++ decimal status
-pull_words pull.BadState = codes "not the text of a delta"
-pull_words pull.NoMemory = codes "no memory"

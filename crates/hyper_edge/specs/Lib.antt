@@ -2,11 +2,4 @@ pub mod Faults
 pub mod Requests
 pub mod Responses
 pub mod Gates
-pub mod Targets
-pub mod Agents
-pub mod Limits
-pub mod Exchanges
-pub mod Pulls
-pub mod Addresses
-pub mod Hosts
 pub mod Crowds

@@ -1,11 +1,10 @@
-//! Why a call at the edge gives no result.
+//! Why a gate isn't served, and why a reply isn't given.
 ghost use Rattle.std.specs.Prelude.{◌≡◌, ◌⊎◌, Some};
-ghost use Rattle.hyper_edge.specs.Faults.{edge_words, form_words, pull_words, respond_words};
+ghost use Rattle.hyper_edge.specs.Faults.{edge_words, form_words, respond_words};
 
-use harvester::FetchFault;
 use http_header::{HeaderMapError, HeaderNameError, HeaderValueError};
 use memento_time::NoMemory;
-use std::alloc::{AllocError, AllocFailed};
+use std::alloc::AllocError;
 use std::error::Error;
 use std::{fmt, io};
 
@@ -36,19 +35,6 @@ pub enum EdgeFault {
     Bind,
     /// No further connection can be accepted.
     Accept,
-    /// The allocator refused a growth.
-    NoMemory,
-}
-
-/// Why a peer's delta isn't pulled.
-#[derive(Clone, Copy, Debug, PartialEq, Eq)]
-pub enum PullFault {
-    /// No answer came.
-    Failed,
-    /// The peer answered with a status other than 200.
-    Status(u16),
-    /// The body isn't a delta's text, or is longer than 268,435,456 bytes.
-    BadState,
     /// The allocator refused a growth.
     NoMemory,
 }
@@ -88,26 +74,11 @@ impl fmt::Display for EdgeFault {
     }
 }
 
-impl fmt::Display for PullFault {
-    ghost output = { λ fault. Some (pull_words fault) };
-
-    fn fmt<W: fmt::Write>(&self, f: &mut fmt::Formatter<W>) -> fmt::Result {
-        match self {
-            PullFault::Failed => f.write_str("no answer"),
-            PullFault::Status(status) => write!(f, "status {status}"),
-            PullFault::BadState => f.write_str("not the text of a delta"),
-            PullFault::NoMemory => f.write_str("no memory"),
-        }
-    }
-}
-
 impl Error for FormFault {}
 
 impl Error for RespondFault {}
 
 impl Error for EdgeFault {}
-
-impl Error for PullFault {}
 
 impl From<AllocError> for FormFault {
     fn from(_refused: AllocError) -> FormFault {
@@ -195,26 +166,5 @@ impl EdgeFault {
             io::ErrorKind::OutOfMemory => EdgeFault::NoMemory,
             _ => EdgeFault::Accept,
         }
-    }
-}
-
-impl From<FetchFault> for PullFault {
-    ghost use Rattle.std.specs.Prelude.{◌≢◌};
-    ghost use Rattle.hyper_edge.specs.declared.faults.PullFault.TheVariants.{Status};
-
-    ghost from_gives = { λ _ fault. fault ≢ Status 200 };
-
-    fn from(fault: FetchFault) -> PullFault {
-        match fault {
-            FetchFault::Failed => PullFault::Failed,
-            FetchFault::TooLong => PullFault::BadState,
-            FetchFault::NoMemory => PullFault::NoMemory,
-        }
-    }
-}
-
-impl<T: Drop> From<AllocFailed<T>> for PullFault {
-    fn from(_refused: AllocFailed<T>) -> PullFault {
-        PullFault::NoMemory
     }
 }

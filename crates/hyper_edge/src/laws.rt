@@ -1,5 +1,4 @@
-//! Worked examples, and laws that hold for all gates. No program calls these functions: each is a statement with its
-//! proof.
+//! What holds for all gates. No program calls this function: it is a statement with its proof.
 ghost use Rattle.std.specs.Prelude.{◌≡◌, ℕ, List};
 ghost use Rattle.harvest_lattice.specs.Knowledge.{Harvested};
 ghost use Rattle.memento_index.specs.declared.merge.Merge.{Merge};
@@ -8,19 +7,7 @@ ghost use Rattle.timegate.specs.declared.request.Request.{Request};
 ghost use Rattle.timegate.specs.declared.reply.Reply.{Reply};
 ghost use Rattle.timegate.specs.Reply.{reply, reply_of};
 ghost use Rattle.timegate.specs.Route.{IsOfTaken};
-ghost use Rattle.hyper_edge.specs.Addresses.{AreAddresses};
 ghost use Rattle.hyper_edge.specs.Gates.{IsSomeReply};
-ghost use Rattle.hyper_edge.specs.Targets.{AreTargets};
-
-/// The targets that the requests for some URLs name.
-pub fn targets_by_example()
-    ensures { AreTargets }
-{}
-
-/// Which addresses a listed host leads to, on both sides of each border.
-pub fn addresses_by_example()
-    ensures { AreAddresses }
-{}
 
 /// If a request asks for no delta, whatever a gate may answer is the reply of a replica that has taken some harvests.
 /// Conversely, a gate may answer whatever a replica answers to a request.

@@ -22,7 +22,8 @@ use Rattle.memento_sets.specs.MementoSets.{Mementos}
 use Rattle.memento_sets.proofs.Sets.{two_parts, less_from}
 use Rattle.harvest_lattice.specs.Lattice.{Key, key_cmp, Kept, Entries, held}
 use Rattle.harvest_lattice.specs.Knowledge.{mementos_of, shown_of}
-use Rattle.harvest_lattice.proofs.Knowledge.{has_at, in_entry, out_entry, contains-shown_of, same_key, original_itself}
+use Rattle.harvest_lattice.proofs.Knowledge.{same_key}
+use Rattle.harvest_lattice.proofs.KnowledgeShown.{has_at, in_entry, out_entry, contains-shown_of, original_itself}
 use Rattle.harvest_lattice.proofs.ShelfLemmas.{same_text}
 use Rattle.harvest_lattice.proofs.Walked.{value_at}
 use Rattle.harvest_lattice.proofs.ShownLemmas.{row_shows}

@@ -8,7 +8,7 @@ use Rattle.std.specs.FinMap.Entries.{below_all}
 use Rattle.memento_sets.specs.Maps.{join_values}
 use Rattle.memento_sets.proofs.Sets.{two_parts, both_parts}
 use Rattle.harvest_lattice.specs.Lattice.{Key, key_cmp, Kept, Entries, join_kept, join, join_at}
-use Rattle.harvest_lattice.proofs.Entries.{key_cmp_total, key_cmp_exact, get-join}
+use Rattle.harvest_lattice.proofs.EntryOrder.{key_cmp_total, key_cmp_exact, get-join}
 use Rattle.harvest_lattice.proofs.Knowledge.{same_key}
 
 -- a state with these entries put over its own

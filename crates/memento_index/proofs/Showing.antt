@@ -16,8 +16,9 @@ use Rattle.memento_sets.proofs.Sets.{two_parts, both_parts, less_from, contains-
 use Rattle.harvest_lattice.specs.Lattice.{Key, key_cmp, Kept, Entries, join}
 use Rattle.harvest_lattice.specs.Knowledge.{mementos_of, shown_of}
 use Rattle.harvest_lattice.specs.Parts.{kept_in}
-use Rattle.harvest_lattice.proofs.Entries.{key_cmp_total, key_cmp_exact}
-use Rattle.harvest_lattice.proofs.Knowledge.{contains-shown_of, below_none}
+use Rattle.harvest_lattice.proofs.EntryOrder.{key_cmp_total, key_cmp_exact}
+use Rattle.harvest_lattice.proofs.Knowledge.{below_none}
+use Rattle.harvest_lattice.proofs.KnowledgeShown.{contains-shown_of}
 use Rattle.harvest_lattice.proofs.Parts.{entries_in}
 use Rattle.harvest_lattice.proofs.ShownLemmas.{shown_of_one}
 use Rattle.memento_index.proofs.Puts.{put_all, or_else, joined_with, get-put_all, put_joined, joined_sorted}

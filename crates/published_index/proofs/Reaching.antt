@@ -13,8 +13,9 @@ use Rattle.memento_index.specs.declared.merge.Merge.TheVariants.{State}
 use Rattle.memento_index.specs.Merges.{adds_of}
 use Rattle.harvest_lattice.specs.Lattice.{Entries, AtMost, join}
 use Rattle.harvest_lattice.specs.Knowledge.{lat}
-use Rattle.harvest_lattice.proofs.Entries.{at_most_left, at_most_right, at_most_trans}
-use Rattle.harvest_lattice.proofs.Knowledge.{at_most_nil, lat-adds}
+use Rattle.harvest_lattice.proofs.EntryOrder.{at_most_left, at_most_right, at_most_trans}
+use Rattle.harvest_lattice.proofs.Knowledge.{lat-adds}
+use Rattle.harvest_lattice.proofs.KnowledgeShown.{at_most_nil}
 use Rattle.replica_exchange.specs.declared.cursor.Cursor.{Cursor}
 use Rattle.replica_exchange.specs.declared.delta.Delta.{Delta}
 use Rattle.replica_exchange.specs.Stamps.{StampedState, IsStamped, state_after, entries_above}

@@ -14,7 +14,7 @@ use Rattle.memento_index.specs.Merges.{adds_of}
 use Rattle.memento_sets.proofs.Maps.{get-tabulate}
 use Rattle.harvest_lattice.specs.Lattice.{Key, key_cmp, Kept, Entries, coded_kept, join, join_kept}
 use Rattle.harvest_lattice.specs.Knowledge.{lat}
-use Rattle.harvest_lattice.proofs.Entries.{key_cmp_total, key_cmp_exact, get-join, none_joined}
+use Rattle.harvest_lattice.proofs.EntryOrder.{key_cmp_total, key_cmp_exact, get-join, none_joined}
 use Rattle.replica_exchange.specs.Stamps.{StampedState, IsStamped, IsRestamped, IsAbsorbed}
 use Rattle.replica_exchange.proofs.StampLemmas.{absorbed_is_stamped}
 use Rattle.published_index.specs.Stamping.{same_code, is_same_entry, stamp_with, stamps_with, stamped_with}

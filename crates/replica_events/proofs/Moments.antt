@@ -9,8 +9,9 @@ use Rattle.std.proofs.lemmas.Option.{none-some, same_Some}
 use Rattle.memento_index.specs.declared.merge.Merge.TheVariants as merge
 use Rattle.harvest_lattice.specs.Lattice.{Entries, AtMost}
 use Rattle.harvest_lattice.specs.Knowledge.{Harvested, lat, adds}
-use Rattle.harvest_lattice.proofs.Entries.{at_most_left, at_most_right, at_most_trans}
-use Rattle.harvest_lattice.proofs.Knowledge.{lat-append, at_most_nil}
+use Rattle.harvest_lattice.proofs.EntryOrder.{at_most_left, at_most_right, at_most_trans}
+use Rattle.harvest_lattice.proofs.Knowledge.{lat-append}
+use Rattle.harvest_lattice.proofs.KnowledgeShown.{at_most_nil}
 use Rattle.replica_exchange.specs.declared.cursor.Cursor.{Cursor}
 use Rattle.replica_exchange.specs.Stamps.{state_after, StampedState, IsStamped}
 use Rattle.replica_exchange.specs.CursorRule.{delta_from, fits, end_of, cursor_after, taken_from}

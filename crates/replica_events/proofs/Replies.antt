@@ -7,7 +7,7 @@ use Rattle.memento_sets.specs.Sets as set
 use Rattle.memento_sets.specs.MementoSets.{Mementos}
 use Rattle.harvest_lattice.specs.Lattice.{Entries}
 use Rattle.harvest_lattice.specs.Knowledge.{lat, shown, shown_of}
-use Rattle.harvest_lattice.proofs.Knowledge.{lat_same, shown-lat}
+use Rattle.harvest_lattice.proofs.KnowledgeShown.{lat_same, shown-lat}
 use Rattle.timemap_writer.specs.Pages.{pages, page_text, listing_text}
 use Rattle.timegate.specs.declared.reply.Reply.{Reply}
 use Rattle.timegate.specs.declared.request.Request.{Request}

@@ -14,7 +14,7 @@ use Rattle.memento_index.specs.declared.merge.Merge.TheVariants as merge
 use Rattle.harvest_lattice.specs.Lattice.{Entries, AtMost, join}
 use Rattle.harvest_lattice.specs.Knowledge.{Harvested, lat, adds}
 use Rattle.memento_index.specs.Merges.{adds_of}
-use Rattle.harvest_lattice.proofs.Entries.{at_most_left, at_most_right, at_most_refl, at_most_trans}
+use Rattle.harvest_lattice.proofs.EntryOrder.{at_most_left, at_most_right, at_most_refl, at_most_trans}
 use Rattle.harvest_lattice.proofs.Knowledge.{lat-append, lat-adds}
 use Rattle.replica_exchange.specs.declared.cursor.Cursor.{Cursor}
 use Rattle.replica_exchange.specs.Stamps.{state_after, StampedState, IsStamped}

@@ -11,7 +11,7 @@ use Rattle.memento_index.specs.declared.merge.Merge.{Merge}
 use Rattle.memento_index.specs.Merges.{adds_of}
 use Rattle.harvest_lattice.specs.Lattice.{Key, key_cmp, Kept, join, join_kept, coded_kept}
 use Rattle.harvest_lattice.specs.Knowledge.{lat}
-use Rattle.harvest_lattice.proofs.Entries.{key_cmp_total, get-join, none_joined}
+use Rattle.harvest_lattice.proofs.EntryOrder.{key_cmp_total, get-join, none_joined}
 use Rattle.harvest_lattice.proofs.Knowledge.{same_key}
 use Rattle.replica_exchange.specs.Stamps.{Stamps, StampedState, IsStamped, IsRestamped, IsAbsorbed}
 use Rattle.replica_exchange.proofs.StampLemmas.{absorbed_is_stamped, stamped_at_first}

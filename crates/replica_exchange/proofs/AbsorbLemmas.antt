@@ -13,7 +13,7 @@ use Rattle.harvest_lattice.specs.Lattice.{Key, key_cmp, Kept, Entries, KeptAtMos
 use Rattle.harvest_lattice.specs.Knowledge.{lat}
 use Rattle.harvest_lattice.specs.News.{IsNews}
 use Rattle.harvest_lattice.specs.Rows.{row_key, row_entry}
-use Rattle.harvest_lattice.proofs.Entries.{entry_semilattice, at_most_from_join, get-join, joined_with_none}
+use Rattle.harvest_lattice.proofs.EntryOrder.{entry_semilattice, at_most_from_join, get-join, joined_with_none}
 use Rattle.memento_index.specs.declared.merge.Merge.{Merge}
 use Rattle.memento_index.specs.Merges.{adds_of}
 use Rattle.replica_exchange.specs.Stamps.{Stamps, StampedState, IsRestamped, IsAbsorbed}

@@ -2,6 +2,7 @@ pub mod SpellingLemmas
 pub mod Sequences
 pub mod FormatLemmas
 pub mod PartLemmas
+pub mod EntryLemmas
 pub mod StateLemmas
 pub mod WritingLemmas
 pub mod StampLemmas

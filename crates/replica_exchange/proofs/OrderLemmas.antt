@@ -25,7 +25,7 @@ use Rattle.std.proofs.lemmas.List.Sorted.{IsNonDecreasingBy-push, IsNonDecreasin
 use Rattle.harvest_lattice.specs.declared.row.Row.{Row}
 use Rattle.harvest_lattice.specs.Lattice.{Key, key_cmp, Kept, Entries}
 use Rattle.harvest_lattice.specs.Rows.{row_entry, keys_rise, map_with}
-use Rattle.harvest_lattice.proofs.Entries.{key_cmp_total, key_cmp_exact}
+use Rattle.harvest_lattice.proofs.EntryOrder.{key_cmp_total, key_cmp_exact}
 use Rattle.harvest_lattice.proofs.Knowledge.{same_key}
 use Rattle.memento_time.specs.Mementos.{text_cmp}
 use Rattle.memento_time.proofs.ListFacts.{no_element, first_element, later_element, first_or_later}

@@ -19,7 +19,7 @@ use Rattle.memento_time.specs.Mementos.{text_cmp}
 use Rattle.memento_sets.proofs.Rising.{from_keys}
 use Rattle.memento_sets.proofs.Sets.{less_from, two_parts}
 use Rattle.harvest_lattice.specs.Lattice.{Key, key_cmp}
-use Rattle.harvest_lattice.proofs.Entries.{key_cmp_total, key_cmp_exact}
+use Rattle.harvest_lattice.proofs.EntryOrder.{key_cmp_total, key_cmp_exact}
 use Rattle.harvest_lattice.proofs.ShelfLemmas.{text_exact, same_text, lookup-find, find_both, tie, apart, none_after, or_none}
 use Rattle.replica_exchange.specs.StampShelves.{Slots, Shelves, slot_of, slot, stamp_in, slot_rows, shelf_rows, all_rows, stamps_in}
 use Rattle.memento_index.proofs.ListLemmas.{none_there}

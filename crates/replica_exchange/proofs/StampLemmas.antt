@@ -16,7 +16,7 @@ use Rattle.memento_sets.proofs.Semilattice.{join_antisymm, values_semilattice}
 use Rattle.harvest_lattice.specs.Lattice.{Key, key_cmp, Kept, Entries, AtMost, join, join_kept}
 use Rattle.harvest_lattice.specs.Knowledge.{lat}
 use Rattle.memento_index.specs.Merges.{adds_of}
-use Rattle.harvest_lattice.proofs.Entries.{key_cmp_total, key_cmp_exact, entry_semilattice, get-join, joined_at_most, at_most_left, joined_with_none}
+use Rattle.harvest_lattice.proofs.EntryOrder.{key_cmp_total, key_cmp_exact, entry_semilattice, get-join, joined_at_most, at_most_left, joined_with_none}
 use Rattle.harvest_lattice.proofs.Knowledge.{lat-append, get-lat_nil}
 use Rattle.replica_exchange.specs.Stamps.{state_after, kept_after, IsSettled, IsStamp, StampedState, IsStampAt, IsStamped, IsRestamped, IsAbsorbed, is_above, above, entries_above}
 

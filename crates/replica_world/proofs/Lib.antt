@@ -1,5 +1,6 @@
 pub mod Places
 pub mod Worlds
+pub mod WorldRuns
 pub mod Questions
 mod Found
 mod Sizes

@@ -8,4 +8,4 @@ IsDueAt since most now = min (since + most) (2 ^ 64 - 1) ≤ now
 
 -- so much time has passed since it was last done
 abbrev pub IsDue : Due → ℕ → Type 0
-IsDue due now = IsSomeAnd due.every (λ every. IsDueAt due.last every now)
+IsDue due now = IsSomeAnd due.every (λ every. IsDueAt due.last.0 every now)

@@ -2,7 +2,7 @@
 use Rattle.std.specs.Prelude.{Bool, true, false, Result, Ok, Err, if◌then◌else◌}
 use Rattle.harvest_lattice.specs.Knowledge.{Harvested}
 use Rattle.harvester.specs.declared.faults.WalkFault.{WalkFault}
-use Rattle.hyper_edge.specs.declared.faults.PullFault.TheVariants as pulled
+use Rattle.outgoing_requests.specs.declared.faults.PullFault.TheVariants as pulled
 use Rattle.replica_exchange.specs.declared.cursor.TakeFault.TheVariants as taken
 use Rattle.service_status.specs.declared.counts.WalkEnd.{WalkEnd}
 use Rattle.service_status.specs.declared.counts.WalkEnd.TheVariants as walk

@@ -2,11 +2,12 @@
 ghost use Rattle.std.specs.Prelude.{◌≡◌, ◌-◌, ◌^◌, min};
 ghost use Rattle.std.specs.Duration.{as_nanos};
 
+use crate::times::Second;
 use std::time::{Clock, Duration, SystemTime, UNIX_EPOCH};
 
-/// The revision of harvests that begin now: the clock's seconds since 1970, or 0 before 1970 or without a clock.
-pub fn revision_now(rt: &impl Clock) -> u64 {
-    passed_since_1970(rt).as_secs()
+/// The second in which harvests that begin now are made: 0 before 1970 or without a clock.
+pub fn second_now(rt: &impl Clock) -> Second {
+    Second(passed_since_1970(rt).as_secs())
 }
 
 /// The incarnation of a replica that starts now: the clock's nanoseconds since 1970, or 0 before 1970 or without a

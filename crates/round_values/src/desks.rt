@@ -2,6 +2,7 @@
 ghost use Rattle.std.specs.Prelude.{◌≡◌, ◌-◌, ◌≤◌};
 ghost use Rattle.service_status.specs.Counts.{one_more};
 
+use crate::times::Millis;
 use crate::wished::is_overdue;
 use memento_time::{NoMemory, Original};
 use service_log::WishCounts;
@@ -30,19 +31,19 @@ pub struct Desk {
     /// For each archive, whether it may be asked, as far as was tried.
     may: Vec<bool>,
     /// For each archive, since when wishes wait for it, if it couldn't be asked when that was tried last.
-    refused: Vec<Option<u64>>,
+    refused: Vec<Option<Millis>>,
     /// Other spellings of wished originals that are wished for, and not granted yet.
     spellings: Vec<Original>,
     /// How many walks are out.
     out: usize,
     /// From when on what wishes brought is to be published, if that is to be.
-    due: Option<u64>,
-    /// Before this time nothing of wishes is published by itself.
-    rest: u64,
+    due: Option<Millis>,
+    /// Before this moment nothing of wishes is published by itself.
+    rest: Millis,
     /// What the log wasn't told yet.
     counts: WishCounts,
     /// When the log was told last.
-    told: Option<u64>,
+    told: Option<Millis>,
 }
 
 impl Desk {
@@ -61,7 +62,7 @@ impl Desk {
             spellings: Vec::new(alloc),
             out: 0,
             due: None,
-            rest: 0,
+            rest: Millis(0),
             counts: WishCounts::NONE,
             told: None,
         })
@@ -108,7 +109,7 @@ impl Desk {
     }
 
     /// The archive can't be asked now.
-    pub fn refuse(&mut self, archive: usize, now: u64) {
+    pub fn refuse(&mut self, archive: usize, now: Millis) {
         if let Some(may) = self.may.get_mut(archive) {
             *may = false;
         }
@@ -131,7 +132,7 @@ impl Desk {
     }
 
     /// Whether wishes have waited for the archive for so many milliseconds.
-    pub fn is_overdue(&self, archive: usize, most: u64, now: u64) -> bool {
+    pub fn is_overdue(&self, archive: usize, most: u64, now: Millis) -> bool {
         match self.refused.get(archive) {
             Some(since) => is_overdue(*since, most, now),
             None => false,
@@ -160,9 +161,9 @@ impl Desk {
     }
 
     /// Wishes brought something that is to be published.
-    pub fn add_pending(&mut self, now: u64) {
+    pub fn add_pending(&mut self, now: Millis) {
         if self.due.is_none() {
-            self.due = Some(now.saturating_add(GATHER).max(self.rest));
+            self.due = Some(Millis(now.after(GATHER).0.max(self.rest.0)));
         }
     }
 
@@ -172,26 +173,26 @@ impl Desk {
     }
 
     /// Whether what wishes brought is to be published now.
-    pub fn is_due(&self, now: u64) -> bool {
-        matches!(self.due, Some(due) if due <= now)
+    pub fn is_due(&self, now: Millis) -> bool {
+        matches!(self.due, Some(due) if due.0 <= now.0)
     }
 
     /// What was appended is published, or couldn't be.
-    pub fn note_publish(&mut self, is_published: bool, now: u64) {
+    pub fn note_publish(&mut self, is_published: bool, now: Millis) {
         if is_published {
             self.due = None;
-            self.rest = now.saturating_add(BETWEEN);
+            self.rest = now.after(BETWEEN);
         } else if self.due.is_some() {
-            self.due = Some(now.saturating_add(AFTER_REFUSAL));
+            self.due = Some(now.after(AFTER_REFUSAL));
         }
     }
 
     /// For how many milliseconds to wait before wishes are looked at again.
-    pub fn wait(&self, now: u64) -> u64
+    pub fn wait(&self, now: Millis) -> u64
         ensures { result ≤ 50 }
     {
         match self.due {
-            Some(due) => due.saturating_sub(now).max(1).min(LOOK),
+            Some(due) => due.since(now).max(1).min(LOOK),
             None => LOOK,
         }
     }
@@ -220,8 +221,8 @@ impl Desk {
     }
 
     /// What the log is to be told now, if it is to be told of wishes.
-    pub fn take_counts(&mut self, now: u64) -> Option<WishCounts> {
-        let is_early = matches!(self.told, Some(told) if now < told.saturating_add(TELL));
+    pub fn take_counts(&mut self, now: Millis) -> Option<WishCounts> {
+        let is_early = matches!(self.told, Some(told) if now.0 < told.after(TELL).0);
         if is_early || self.counts.ended == 0 {
             return None;
         }

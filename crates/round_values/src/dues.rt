@@ -2,11 +2,11 @@
 ghost use Rattle.std.specs.Prelude.{◌≡◌, ◌↔◌, IsTrue};
 ghost use Rattle.round_values.specs.Dues.{IsDue};
 
+use crate::times::Millis;
 use service_settings::Settings;
 use std::time::{Clock, Instant};
 
-/// Tells how many milliseconds have passed since it was started, by a clock that doesn't go back. Always 0 without a
-/// clock.
+/// Tells the moment of the rounds, which began when it was started. Always the first moment without a clock.
 #[derive(Clone, Copy, Debug)]
 pub struct Stopwatch {
     start: Option<Instant>,
@@ -20,44 +20,45 @@ impl Stopwatch {
         }
     }
 
-    /// The milliseconds that have passed.
-    pub fn now(self, rt: &impl Clock) -> u64 {
+    /// The present moment.
+    pub fn now(self, rt: &impl Clock) -> Millis {
         let (Some(start), Ok(now)) = (self.start, Instant::now(rt)) else {
-            return 0;
+            return Millis(0);
         };
         let passed = now.saturating_duration_since(start);
-        u64::try_from(passed.as_millis()).unwrap_or(u64::MAX)
+        Millis(u64::try_from(passed.as_millis()).unwrap_or(u64::MAX))
     }
 }
 
 /// What is due each time that so much time has passed since it was last done; never without such a time.
 #[derive(Clone, Copy, Debug)]
 pub struct Due {
+    /// In milliseconds.
     every: Option<u64>,
-    last: u64,
+    last: Millis,
 }
 
 impl Due {
-    /// What is due each time that so many seconds have passed, from this millisecond on.
-    pub(crate) fn of_seconds(seconds: Option<u64>, now: u64) -> Due {
+    /// What is due each time that so many seconds have passed, from this moment on.
+    pub(crate) fn of_seconds(seconds: Option<u64>, now: Millis) -> Due {
         Due {
             every: seconds.map(|seconds| seconds.saturating_mul(1_000)),
             last: now,
         }
     }
 
-    /// Whether it is due at this millisecond.
-    pub fn is_due(self, now: u64) -> bool
-        ensures { IsTrue result ↔ IsDue self now }
+    /// Whether it is due at this moment.
+    pub fn is_due(self, now: Millis) -> bool
+        ensures { IsTrue result ↔ IsDue self now.0 }
     {
         match self.every {
-            Some(every) => self.last.saturating_add(every) <= now,
+            Some(every) => self.last.after(every).0 <= now.0,
             None => false,
         }
     }
 
     /// It is done now.
-    pub fn done(&mut self, now: u64)
+    pub fn done(&mut self, now: Millis)
         ensures { self.new ≡ record self.old { last = now } }
     {
         self.last = now;
@@ -76,9 +77,9 @@ pub struct Dues {
 }
 
 impl Dues {
-    /// What is due by these settings, from this millisecond on. The log is told how far a round is only where that is
+    /// What is due by these settings, from this moment on. The log is told how far a round is only where that is
     /// wanted.
-    pub fn new(settings: &Settings, tells: bool, now: u64) -> Dues {
+    pub fn new(settings: &Settings, tells: bool, now: Millis) -> Dues {
         let progress = if tells { Some(PROGRESS) } else { None };
         Dues {
             publish: Due::of_seconds(settings.timing.publish, now),

@@ -5,7 +5,7 @@ ghost use Rattle.round_values.specs.Ends as spec;
 use crate::reasons::reason_of;
 use harvest_lattice::Harvest;
 use harvester::WalkFault;
-use hyper_edge::PullFault;
+use outgoing_requests::PullFault;
 use replica_exchange::TakeFault;
 use service_log::{PeerFault, Reason};
 use service_status::{PullEnd, WalkEnd};

@@ -2,15 +2,16 @@
 ghost use Rattle.std.specs.Prelude.{◌≡◌, ◌↔◌, ◌<◌, IsTrue};
 ghost use Rattle.round_values.specs.Freshness.{IsYoung};
 
+use crate::times::Second;
 use harvest_lattice::Entry;
 use service_settings::Timing;
 
 /// Whether what was looked at in this second is less than so many seconds old, or as little ahead of the clock.
-fn is_young(seen: u64, now: u64, seconds: Option<u64>) -> bool
-    ensures { IsTrue result ↔ IsYoung seen now seconds }
+fn is_young(seen: Second, now: Second, seconds: Option<u64>) -> bool
+    ensures { IsTrue result ↔ IsYoung seen.0 now.0 seconds }
 {
     match seconds {
-        Some(seconds) => now.saturating_sub(seen) < seconds && seen.saturating_sub(now) < seconds,
+        Some(seconds) => now.since(seen) < seconds && seen.since(now) < seconds,
         None => false,
     }
 }
@@ -21,7 +22,7 @@ pub fn has_mementos(entry: &Entry) -> bool {
 }
 
 /// Whether the whole harvest that is known is too young to be made anew in this second.
-pub fn is_fresh(timing: Timing, entry: &Entry, now: u64) -> bool {
+pub fn is_fresh(timing: Timing, entry: &Entry, now: Second) -> bool {
     let Some(seen) = entry.whole() else {
         return false;
     };
@@ -30,5 +31,5 @@ pub fn is_fresh(timing: Timing, entry: &Entry, now: u64) -> bool {
     } else {
         timing.again_none
     };
-    is_young(seen, now, seconds)
+    is_young(Second(seen), now, seconds)
 }

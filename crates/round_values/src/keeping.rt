@@ -8,6 +8,7 @@ ghost use Rattle.round_values.specs.Keeping.{after_publish, with_states, Starts,
 
 use crate::dues::Due;
 use crate::logs::Log;
+use crate::times::Millis;
 use harvest_lattice::State;
 use harvester::SocketRuntime;
 use memento_index::Merge;
@@ -34,7 +35,7 @@ pub struct Keeping {
 
 impl Keeping {
     /// With these settings, where nothing is known yet.
-    pub fn new(storing: &Storing, now: u64) -> Keeping {
+    pub fn new(storing: &Storing, now: Millis) -> Keeping {
         let every = match storing.snapshot {
             Some(_) => Some(storing.every),
             None => None,
@@ -59,8 +60,8 @@ impl Keeping {
     }
 
     /// Whether a snapshot is to be written now.
-    pub fn is_due(self, now: u64) -> bool
-        ensures { IsTrue result ↔ (self.is_behind ≡ true) × IsDue self.due now }
+    pub fn is_due(self, now: Millis) -> bool
+        ensures { IsTrue result ↔ (self.is_behind ≡ true) × IsDue self.due now.0 }
     {
         self.is_behind && self.due.is_due(now)
     }
@@ -73,7 +74,7 @@ impl Keeping {
     }
 
     /// A snapshot was tried, which ended now.
-    pub fn tried(&mut self, now: u64)
+    pub fn tried(&mut self, now: Millis)
         ensures { self.new ≡ record self.old { due = record self.old.due { last = now } } }
     {
         self.due.done(now);

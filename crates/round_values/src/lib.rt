@@ -6,8 +6,8 @@
 //!
 //! In four groups:
 //!
-//! - time: `clocks` (the second, and the incarnation), `dues` (what is due when) and `freshness` (which jobs needn't be
-//!   walked);
+//! - time: `times` (seconds and milliseconds by type), `clocks` (the second, and the incarnation), `dues` (what is due
+//!   when) and `freshness` (which jobs needn't be walked);
 //! - a round: `rounds` (what one comes to), `ordering` (in which order originals are gone over) and `keeping` (the
 //!   file of what is known);
 //! - wishes: `desks` (those that were granted, and how far they are) and `wished` (what the walk of one says);
@@ -26,9 +26,10 @@ mod notes;
 mod ordering;
 mod reasons;
 mod rounds;
+mod times;
 mod wished;
 
-pub use clocks::{incarnation_now, revision_now};
+pub use clocks::{incarnation_now, second_now};
 pub use desks::Desk;
 pub use dues::{Dues, Stopwatch};
 pub use ends::{pull_end, walk_end};
@@ -38,4 +39,5 @@ pub use logs::Log;
 pub use notes::Notes;
 pub use ordering::shuffle;
 pub use rounds::Round;
+pub use times::{Millis, Second};
 pub use wished::{DEFAULT_AGAIN, answer_to, is_kept, is_left_alone, room_left, wish_timing};

@@ -5,6 +5,7 @@ ghost use Rattle.round_values.specs.Dues.{IsDueAt};
 ghost use Rattle.round_values.specs.Wishes as spec;
 ghost use Rattle.round_values.specs.Wishes.{IsLeftAlone};
 
+use crate::times::Millis;
 use harvest_lattice::Harvest;
 use harvest_schedule::Mood;
 use harvester::WalkFault;
@@ -48,24 +49,24 @@ pub fn wish_timing(timing: Timing) -> Timing
 }
 
 /// Whether the archive isn't asked before a later time. It may also be found out just now whether it answers.
-pub fn is_left_alone(mood: Option<Mood>, now: u64) -> bool
-    ensures { IsTrue result ↔ IsLeftAlone now mood }
+pub fn is_left_alone(mood: Option<Mood>, now: Millis) -> bool
+    ensures { IsTrue result ↔ IsLeftAlone now.0 mood }
 {
     let Some(mood) = mood else {
         return false;
     };
     match mood.asked_from() {
-        Some(until) => now < until,
+        Some(until) => now.0 < until,
         None => false,
     }
 }
 
-/// Whether so much time has passed since then, if there is a then.
-pub(crate) fn is_overdue(since: Option<u64>, most: u64, now: u64) -> bool
-    ensures { IsTrue result ↔ IsSomeAnd since (λ since. IsDueAt since most now) }
+/// Whether so many milliseconds have passed since a moment, if there is one.
+pub(crate) fn is_overdue(since: Option<Millis>, most: u64, now: Millis) -> bool
+    ensures { IsTrue result ↔ IsSomeAnd since (λ since. IsDueAt since.0 most now.0) }
 {
     match since {
-        Some(since) => since.saturating_add(most) <= now,
+        Some(since) => since.after(most).0 <= now.0,
         None => false,
     }
 }

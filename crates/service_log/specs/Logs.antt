@@ -2,7 +2,8 @@
 use Rattle.std.specs.Prelude.{ℕ, List, ◌++◌, codes}
 use Rattle.std.specs.Fmt.{decimal}
 use Rattle.harvester.specs.Faults.{walk_words}
-use Rattle.hyper_edge.specs.Faults.{edge_words, pull_words}
+use Rattle.hyper_edge.specs.Faults.{edge_words}
+use Rattle.outgoing_requests.specs.Faults.{pull_words}
 use Rattle.published_index.specs.Faults.{refused_words}
 use Rattle.replica_exchange.specs.CursorRule as rule
 use Rattle.snapshots.specs.Faults.{words_of as unread_words}

@@ -6,8 +6,9 @@ ghost use Rattle.service_log.specs.Logs.{list_words, wish_words};
 
 use crate::counts::Counts;
 use harvester::WalkFault;
-use hyper_edge::{EdgeFault, PullFault};
+use hyper_edge::EdgeFault;
 use memento_time::ArchiveName;
+use outgoing_requests::PullFault;
 use published_index::PublishRefused;
 use replica_exchange::TakeFault;
 use snapshots::{ReadFault, WriteFault};

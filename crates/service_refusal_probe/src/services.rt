@@ -1,9 +1,8 @@
 //! Calls of mergers and gates, of what stands between them and HTTP, and of settings.
 use anyhow::Result;
-use hyper_edge::{
-    Agent, Answers, GateService, Readiness, allowed_addresses, form, read_host, request_of,
-};
+use hyper_edge::{Answers, GateService, Readiness, form, request_of};
 use memento_time::{Items, Octets};
+use outgoing_requests::{Agent, allowed_addresses, read_host};
 use published_index::{Gate, GateFault, Merger, ask_both, open};
 use refused_calls::{Tried, insist, share};
 use replica_exchange::{Delta, read_delta};

@@ -5,7 +5,7 @@ ghost use Rattle.service_settings.specs.Limits.{IsWithin};
 
 use crate::fault::{Key, SettingsFault};
 use crate::values::{number_if, number_or};
-use hyper_edge::Agent;
+use outgoing_requests::Agent;
 use std::alloc::Global;
 use toml::Table;
 

@@ -4,7 +4,7 @@ ghost use Rattle.service_settings.specs.Limits.{IsWithin};
 
 use crate::fault::{Key, SettingsFault};
 use crate::values::list_at;
-use hyper_edge::{AllowedHost, read_host};
+use outgoing_requests::{AllowedHost, read_host};
 use std::alloc::{AllocError, Global};
 use toml::{Table, Value};
 

@@ -3,12 +3,10 @@
 use anyhow::{Context, Result};
 use crossbeam_channel::{Receiver, Sender, bounded};
 use harvester::{Answer, Fetch, FetchFault, WalkProgress};
-use hyper_edge::{
-    Agent, Answers, CarefulFetch, GateService, HyperFetch, Limits, Patience, Readiness, ReadyGate,
-    bind, serve_gate,
-};
+use hyper_edge::{Answers, GateService, HyperFetch, Readiness, ReadyGate, bind, serve_gate};
 use knowledge_tests::makers::get;
 use memento_time::{Clean, Items, Octets};
+use outgoing_requests::{Agent, CarefulFetch, Limits, Patience};
 use published_index::GateFault;
 use std::alloc::{AllocGlobal, Global};
 use std::io::{self, BufRead, BufReader, Write};

@@ -5,7 +5,7 @@ use Rattle.harvester.specs.declared.faults.FetchFault.{FetchFault}
 use Rattle.harvester.specs.declared.jobs.Job.{Job}
 use Rattle.harvest_workers.specs.Errands.{archive_of}
 use Rattle.harvest_workers.specs.declared.errands.Errand.{Errand}
-use Rattle.hyper_edge.specs.Hosts.{IsListedText}
+use Rattle.outgoing_requests.specs.Hosts.{IsListedText}
 use Rattle.timemap_reader.specs.Answer.{IsShort}
 use Rattle.service_settings.specs.declared.settings.Settings.{Settings}
 use Rattle.service_settings.specs.declared.archives.Archive.{Archive}

@@ -3,8 +3,8 @@ ghost use Rattle.std.specs.Prelude.{◌↔◌, ◌<◌, IsTrue};
 
 use crossbeam_channel::{Receiver, Sender, bounded};
 use harvester::SocketRuntime;
-use hyper_edge::{Patience, PullFault, pull_within};
 use memento_time::Clean;
+use outgoing_requests::{Patience, PullFault, pull_within};
 use replica_exchange::{Cursor, Delta};
 use std::alloc::{AllocError, Global};
 use std::sync::Wait;

@@ -5,7 +5,7 @@ use harvest_lattice::{Entry, State};
 use harvester::SocketRuntime;
 use memento_time::NoMemory;
 use published_index::Merger;
-use round_values::revision_now;
+use round_values::second_now;
 use service_settings::Settings;
 use service_status::{
     ArchiveStatus, GateStatus, KnownStatus, PeerStatus, PublishStatus, PullCounts, ReplyCounter,
@@ -170,7 +170,7 @@ impl Telling {
     /// Notes what a snapshot brought, which is published.
     pub fn tell_snapshot<R: SocketRuntime>(&self, rt: &R, merger: &Merger) {
         if self.board.is_open() {
-            self.board.add_publish(rt, revision_now(rt));
+            self.board.add_publish(rt, second_now(rt).0);
             self.board.set_known(rt, known_in(merger.published_state()));
             self.board.set_shown(rt);
         }

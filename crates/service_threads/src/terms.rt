@@ -6,9 +6,9 @@ ghost use Rattle.service_threads.specs.Jobs.{Covers};
 use crate::jobs::job_at;
 use harvest_workers::{Assignment, Errand, RuledFetch, WalkReport, WalkRules, walk_assignment};
 use harvester::SocketRuntime;
-use hyper_edge::{CarefulFetch, Limits, Patience};
 use memento_time::Original;
-use round_values::revision_now;
+use outgoing_requests::{CarefulFetch, Limits, Patience};
+use round_values::{Second, second_now};
 use service_settings::Settings;
 use std::alloc::{AllocError, Global};
 use std::marker::PhantomData;
@@ -50,19 +50,26 @@ impl<P: WalkRules> Terms<P> {
         &*self.settings
     }
 
-    /// The job of an errand's archive for an original, to be handed out. `None` if memory is refused, or if its URL is
-    /// too long.
+    /// The job of an errand's archive for an original, to be handed out, whose revision is this second. `None` if
+    /// memory is refused, or if its URL is too long.
     pub fn assignment(
         &self,
         alloc: Global,
         errand: Errand,
         original: &Original,
-        revision: u64,
+        revision: Second,
     ) -> Option<Assignment<P>>
         ensures errand { IfSome result (λ it. it.errand ≡ errand) }
         ensures original { IfSome result (λ it. it.job.original ≡ original.now) }
+        ensures revision { IfSome result (λ it. it.job.revision ≡ revision.0) }
     {
-        let job = job_at(alloc, self.settings(), errand.archive(), original, revision)?;
+        let job = job_at(
+            alloc,
+            self.settings(),
+            errand.archive(),
+            original,
+            revision.0,
+        )?;
         if !job.has_first_url() {
             return None;
         }
@@ -90,6 +97,6 @@ impl<P: WalkRules> Terms<P> {
             agent: settings.agent.as_ref(),
         };
         let fetch: RuledFetch<CarefulFetch<'_>, P> = RuledFetch::new(fetch);
-        walk_assignment(rt, &fetch, assignment, revision_now(rt))
+        walk_assignment(rt, &fetch, assignment, second_now(rt).0)
     }
 }

@@ -7,7 +7,7 @@ use Rattle.std.specs.FinMap.Entries.{below_all}
 use Rattle.memento_sets.specs.Maps.{join_values}
 use Rattle.memento_sets.proofs.Sets.{two_parts, both_parts}
 use Rattle.harvest_lattice.specs.Lattice.{Key, key_cmp, Kept, Entries, join_kept, join}
-use Rattle.harvest_lattice.proofs.Entries.{key_cmp_total, key_cmp_exact, get-join}
+use Rattle.harvest_lattice.proofs.EntryOrder.{key_cmp_total, key_cmp_exact, get-join}
 use Rattle.harvest_lattice.proofs.Knowledge.{same_key, below_none}
 use Rattle.harvest_lattice.proofs.RowLemmas.{entries_made}
 use Rattle.snapshots.specs.Cuts.{state_of, entries_joined, join_all, IsCut}

@@ -14,7 +14,7 @@ use Rattle.memento_sets.specs.MementoSets.{Mementos}
 use Rattle.harvest_lattice.specs.Lattice.{Entries}
 use Rattle.harvest_lattice.specs.Knowledge.{Harvested, IsShown, lat, shown, shown_of}
 use Rattle.memento_index.specs.Choice.{distance, IsNearest, IsLast}
-use Rattle.harvest_lattice.proofs.Knowledge.{lat_same, shown-is, shown-lat}
+use Rattle.harvest_lattice.proofs.KnowledgeShown.{lat_same, shown-is, shown-lat}
 use Rattle.memento_index.proofs.Choice.{nearest-is, last-is}
 use Rattle.timemap_writer.specs.TimeMap.{gate_links}
 use Rattle.timemap_writer.specs.Pages.{pages}

@@ -4,7 +4,7 @@ use Rattle.std.specs.Cmp.{ranked}
 use Rattle.std.specs.declared.cmp.Ordering.TheVariants.{Less, Equal, Greater}
 use Rattle.std.proofs.lemmas.List.Elements.{All-push}
 use Rattle.memento_sets.specs.MementoSets.{Mementos}
-use Rattle.harvest_lattice.proofs.PartLists.{moved, parted_here, parted_greater}
+use Rattle.harvest_lattice.proofs.WaitingParts.{moved, parted_here, parted_greater}
 use Rattle.harvest_lattice.proofs.ordered.pass.Goals as goal
 
 pub loop-next-preserved : goal.loop-next-preserved

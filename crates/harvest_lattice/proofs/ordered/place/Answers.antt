@@ -2,7 +2,8 @@ use Rattle.std.proofs.Common.{ℕ, ◌<◌, ◌++◌, reverse, sym, subst}
 use Rattle.std.specs.List.{All}
 use Rattle.memento_sets.specs.MementoSets.{Mementos}
 use Rattle.harvest_lattice.specs.Parts.{IsParted}
-use Rattle.harvest_lattice.proofs.PartLists.{placed_is, all_up_to}
+use Rattle.harvest_lattice.proofs.PartLists.{placed_is}
+use Rattle.harvest_lattice.proofs.WaitingParts.{all_up_to}
 use Rattle.harvest_lattice.proofs.ordered.place.Goals as goal
 
 pub pass-requires : goal.pass-requires

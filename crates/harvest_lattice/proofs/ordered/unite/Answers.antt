@@ -1,7 +1,7 @@
 use Rattle.std.proofs.Common.{◌≡◌, ℕ, ◌<◌, ◌≤◌, ◌++◌, [], List, length, get_or, reverse, ap, ◌∙◌, arith}
 use Rattle.memento_sets.specs.MementoSets.{Mementos}
 use Rattle.harvest_lattice.specs.Parts.{put_parts}
-use Rattle.harvest_lattice.proofs.PartLists.{below_next, one_more_placed, still_below, all_placed, reversed_twice}
+use Rattle.harvest_lattice.proofs.WaitingParts.{below_next, one_more_placed, still_below, all_placed, reversed_twice}
 use Rattle.harvest_lattice.proofs.ordered.unite.Goals as goal
 
 -- nothing is placed yet

@@ -2,7 +2,7 @@ use Rattle.std.proofs.Common.{◌≡◌, ℕ, ◌∷◌, [], Option, Some, true,
 use Rattle.memento_sets.specs.MementoSets.{Mementos}
 use Rattle.harvest_lattice.specs.Lattice.{Kept}
 use Rattle.harvest_lattice.specs.Parts.{kept_with}
-use Rattle.replica_exchange.proofs.PartLemmas.{one_made}
+use Rattle.replica_exchange.proofs.EntryLemmas.{one_made}
 use Rattle.replica_exchange.proofs.entries.entry_of_one.Goals as goal
 
 pub returns-in_default : goal.returns-in_default

@@ -3,7 +3,7 @@ use Rattle.std.proofs.lemmas.List.{map_push}
 use Rattle.harvest_lattice.specs.Rows.{row_entry}
 use Rattle.replica_exchange.specs.Parts.{entry, many}
 use Rattle.replica_exchange.proofs.Sequences.{passed_on, refused_with, many_more, many_leaves}
-use Rattle.replica_exchange.proofs.PartLemmas.{entry_once}
+use Rattle.replica_exchange.proofs.EntryLemmas.{entry_once}
 use Rattle.replica_exchange.proofs.entries.read_entries.Goals as goal
 
 pub returns-in_err-row-clause-refused : goal.returns-in_err-row-clause-refused

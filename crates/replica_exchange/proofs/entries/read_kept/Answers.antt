@@ -2,7 +2,7 @@ use Rattle.std.proofs.Common.{ℕ, ◌∷◌, [], sym, subst}
 use Rattle.replica_exchange.specs.Spelling.{Begins}
 use Rattle.replica_exchange.specs.Parts.{part, many}
 use Rattle.replica_exchange.proofs.Sequences.{Leaves, passed_on, refused_with}
-use Rattle.replica_exchange.proofs.PartLemmas.{one_begins, one_leaves}
+use Rattle.replica_exchange.proofs.EntryLemmas.{one_begins, one_leaves}
 use Rattle.replica_exchange.proofs.entries.read_kept.Goals as goal
 
 pub returns-in_err-part-clause-refused : goal.returns-in_err-part-clause-refused

@@ -1,7 +1,8 @@
 use Rattle.std.proofs.Common.{sym, ◌∙◌}
 use Rattle.replica_exchange.specs.Parts.{head, part, new_entry, many}
 use Rattle.replica_exchange.proofs.Sequences.{passed_on, refused_with}
-use Rattle.replica_exchange.proofs.PartLemmas.{new_leaves_head, new_leaves_parts, new_unordered, new_found}
+use Rattle.replica_exchange.proofs.EntryLemmas.{new_unordered, new_found}
+use Rattle.replica_exchange.proofs.EntryLemmas.{new_leaves_head, new_leaves_parts}
 use Rattle.replica_exchange.proofs.entries.read_new_entry.Goals as goal
 
 pub returns-in_err-head-clause-refused : goal.returns-in_err-head-clause-refused

@@ -3,7 +3,8 @@ use Rattle.harvest_lattice.specs.Lattice.{Kept}
 use Rattle.harvest_lattice.specs.Parts.{kept_in}
 use Rattle.replica_exchange.specs.Parts.{old_head, old_entry, set_of}
 use Rattle.replica_exchange.proofs.Sequences.{passed_on, refused_with}
-use Rattle.replica_exchange.proofs.PartLemmas.{old_leaves_head, old_leaves_set, old_found, one_made}
+use Rattle.replica_exchange.proofs.EntryLemmas.{old_found}
+use Rattle.replica_exchange.proofs.EntryLemmas.{old_leaves_head, old_leaves_set, one_made}
 use Rattle.replica_exchange.proofs.entries.read_old_entry.Goals as goal
 
 pub returns-in_err-head-clause-refused : goal.returns-in_err-head-clause-refused

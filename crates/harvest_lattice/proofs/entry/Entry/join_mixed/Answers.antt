@@ -1,5 +1,5 @@
 use Rattle.std.proofs.Common.{sym, ◌∙◌}
-use Rattle.harvest_lattice.proofs.Entries.{entry_semilattice, join_from_at_most}
+use Rattle.harvest_lattice.proofs.EntryOrder.{entry_semilattice, join_from_at_most}
 use Rattle.harvest_lattice.proofs.entry.Entry.join_mixed.Goals as goal
 
 pub returns-then-le-clause-ok : goal.returns-then-le-clause-ok

@@ -1,7 +1,7 @@
 use Rattle.std.proofs.Common.{[], refl, sym, ◌∙◌}
 use Rattle.harvest_lattice.specs.Lattice.{not_before}
 use Rattle.harvest_lattice.specs.Parts.{kept_in}
-use Rattle.harvest_lattice.proofs.PartLists.{older_joined}
+use Rattle.harvest_lattice.proofs.WaitingParts.{older_joined}
 use Rattle.harvest_lattice.proofs.entry.Entry.join_one.Goals as goal
 
 pub returns-then-not-is_not_before-clause-ok : goal.returns-then-not-is_not_before-clause-ok

@@ -5,7 +5,7 @@ use Rattle.harvest_lattice.specs.Lattice.{Kept}
 use Rattle.harvest_lattice.specs.Knowledge.{mementos_of}
 use Rattle.harvest_lattice.specs.Parts.{AllStay}
 use Rattle.harvest_lattice.proofs.Outcomes.{if_ok_shows}
-use Rattle.harvest_lattice.proofs.Entries.{join_from_at_most}
+use Rattle.harvest_lattice.proofs.EntryOrder.{join_from_at_most}
 use Rattle.harvest_lattice.proofs.Staying.{shown_of_both}
 use Rattle.harvest_lattice.proofs.entry.Entry.shown_with.Goals as goal
 

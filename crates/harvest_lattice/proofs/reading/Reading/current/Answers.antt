@@ -2,7 +2,7 @@ use Rattle.std.proofs.Common.{ℕ, ◌∷◌, ◌++◌, [], List, sym, ap, ◌�
 use Rattle.std.specs.FinMap as map
 use Rattle.memento_sets.specs.MementoSets.{Mementos}
 use Rattle.harvest_lattice.specs.Parts.{current}
-use Rattle.harvest_lattice.proofs.PartLists.{one_more_current, taken_all}
+use Rattle.harvest_lattice.proofs.WaitingParts.{one_more_current, taken_all}
 use Rattle.harvest_lattice.proofs.reading.Reading.current.Goals as goal
 
 pub loop-k-preserved : goal.loop-k-preserved

@@ -1,6 +1,6 @@
 use Rattle.std.proofs.Common.{sym, ap, ◌∙◌}
 use Rattle.harvest_lattice.specs.Parts.{kept_in}
-use Rattle.harvest_lattice.proofs.PartLists.{alone_of_it}
+use Rattle.harvest_lattice.proofs.WaitingParts.{alone_of_it}
 use Rattle.harvest_lattice.proofs.sequence.Sequence.into_only.Goals as goal
 
 pub returns : goal.returns

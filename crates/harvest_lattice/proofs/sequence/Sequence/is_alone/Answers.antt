@@ -1,4 +1,4 @@
-use Rattle.harvest_lattice.proofs.PartLists.{alone_of_it, len_of_one}
+use Rattle.harvest_lattice.proofs.WaitingParts.{alone_of_it, len_of_one}
 use Rattle.harvest_lattice.proofs.sequence.Sequence.is_alone.Goals as goal
 
 pub returns : goal.returns

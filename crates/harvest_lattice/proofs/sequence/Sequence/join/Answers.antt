@@ -9,7 +9,8 @@ use Rattle.memento_sets.specs.MementoSets.{Mementos}
 use Rattle.harvest_lattice.specs.Lattice.{Kept, whole, not_before}
 use Rattle.harvest_lattice.specs.Parts.{PartsRise, kept_in, put_part}
 use Rattle.harvest_lattice.proofs.Entries.{unite}
-use Rattle.harvest_lattice.proofs.PartLists.{older_joined, comes_first, comes_to_first, comes_behind, join_from_later, after_either}
+use Rattle.harvest_lattice.proofs.PartLists.{join_from_later}
+use Rattle.harvest_lattice.proofs.WaitingParts.{older_joined, comes_first, comes_to_first, comes_behind, after_either}
 use Rattle.harvest_lattice.proofs.sequence.Sequence.join.Goals as goal
 
 -- what the test of the whole revision told

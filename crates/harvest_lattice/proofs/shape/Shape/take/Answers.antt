@@ -5,7 +5,7 @@ use Rattle.harvest_lattice.specs.Parts.{kept_in}
 use Rattle.harvest_lattice.specs.Shapes.{kept_by, CanTake}
 use Rattle.harvest_lattice.specs.declared.shape.Shape.{Shape}
 use Rattle.harvest_lattice.proofs.Entries.{unite}
-use Rattle.harvest_lattice.proofs.PartLists.{comes_to_first}
+use Rattle.harvest_lattice.proofs.WaitingParts.{comes_to_first}
 use Rattle.harvest_lattice.proofs.shape.Shape.take.Goals as goal
 
 pub returns-in_ok-absorb-in-One-clause-ok : goal.returns-in_ok-absorb-in-One-clause-ok

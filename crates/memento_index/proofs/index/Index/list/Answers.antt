@@ -3,7 +3,7 @@ use Rattle.memento_sets.specs.Sets as set
 use Rattle.memento_sets.specs.MementoSets.{Mementos}
 use Rattle.harvest_lattice.specs.Lattice.{Entries}
 use Rattle.harvest_lattice.specs.Knowledge.{shown_of}
-use Rattle.harvest_lattice.proofs.Knowledge.{shown-lat}
+use Rattle.harvest_lattice.proofs.KnowledgeShown.{shown-lat}
 use Rattle.memento_index.proofs.index.Index.list.Goals as goal
 
 pub returns-clause-stands : goal.returns-clause-stands

@@ -2,7 +2,8 @@ use Rattle.std.proofs.Common.{rules, ◌≡◌, ◌∙◌, ap}
 use Rattle.timegate.specs.Reply.{reply_of}
 use Rattle.replica_world.specs.declared.replica.KeptReplica.{KeptReplica}
 use Rattle.replica_world.specs.Stands.{kept_at}
-use Rattle.replica_world.proofs.Worlds.{no_replica, refused_as, ask_ran_out, replied, kept_here}
+use Rattle.replica_world.proofs.Worlds.{no_replica, refused_as, ask_ran_out}
+use Rattle.replica_world.proofs.WorldRuns.{replied, kept_here}
 use Rattle.replica_world.proofs.world.World.ask.Goals as goal
 
 pub returns-in_err-place : goal.returns-in_err-place

@@ -2,7 +2,7 @@ use Rattle.std.proofs.Common.{rules, ◌≡◌, ℕ, subst}
 use Rattle.std.specs.List.{AllZip}
 use Rattle.replica_events.specs.World.{new_replicas_after}
 use Rattle.replica_world.specs.Stands.{Keeps}
-use Rattle.replica_world.proofs.Worlds.{fresh_kept, stands_at_first}
+use Rattle.replica_world.proofs.WorldRuns.{fresh_kept, stands_at_first}
 use Rattle.replica_world.proofs.world.World.new.Goals as goal
 
 pub loop-place-preserved : goal.loop-place-preserved

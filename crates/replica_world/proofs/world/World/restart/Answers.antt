@@ -1,5 +1,6 @@
 use Rattle.std.proofs.Common.{rules}
-use Rattle.replica_world.proofs.Worlds.{no_replica, spent_restart, restarted}
+use Rattle.replica_world.proofs.Worlds.{no_replica}
+use Rattle.replica_world.proofs.WorldRuns.{spent_restart, restarted}
 use Rattle.replica_world.proofs.world.World.restart.Goals as goal
 
 pub returns-in_err-place-clause-steps : goal.returns-in_err-place-clause-steps

@@ -3,7 +3,7 @@ use Rattle.std.proofs.lemmas.List.{take_more}
 use Rattle.replica_events.specs.declared.event.Event.{Event}
 use Rattle.replica_events.specs.World.{EventAnswer}
 use Rattle.replica_world.specs.Stands.{Runs}
-use Rattle.replica_world.proofs.Worlds.{runs_push}
+use Rattle.replica_world.proofs.WorldRuns.{runs_push}
 use Rattle.replica_world.proofs.world.World.run.Goals as goal
 
 pub loop-event-preserved : goal.loop-event-preserved

@@ -3,7 +3,8 @@ use Rattle.replica_exchange.specs.DeltaText.{IsDelta, delta_text}
 use Rattle.replica_exchange.specs.CursorRule.{delta_from}
 use Rattle.replica_world.specs.declared.replica.KeptReplica.{KeptReplica}
 use Rattle.replica_world.specs.Stands.{kept_at}
-use Rattle.replica_world.proofs.Worlds.{no_replica, refused_as, send_ran_out, sent_whole, kept_here}
+use Rattle.replica_world.proofs.Worlds.{no_replica, refused_as, send_ran_out}
+use Rattle.replica_world.proofs.WorldRuns.{sent_whole, kept_here}
 use Rattle.replica_world.proofs.world.World.send.Goals as goal
 
 pub returns-in_err-place-clause-steps : goal.returns-in_err-place-clause-steps

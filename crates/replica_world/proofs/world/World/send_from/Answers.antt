@@ -4,7 +4,8 @@ use Rattle.replica_exchange.specs.DeltaText.{IsDelta, delta_text}
 use Rattle.replica_exchange.specs.CursorRule.{delta_from}
 use Rattle.replica_world.specs.declared.replica.KeptReplica.{KeptReplica}
 use Rattle.replica_world.specs.Stands.{kept_at}
-use Rattle.replica_world.proofs.Worlds.{no_replica, refused_as, send_from_ran_out, sent_from, kept_here}
+use Rattle.replica_world.proofs.Worlds.{no_replica, refused_as, send_from_ran_out}
+use Rattle.replica_world.proofs.WorldRuns.{sent_from, kept_here}
 use Rattle.replica_world.proofs.world.World.send_from.Goals as goal
 
 -- a cursor at this number of what is kept

@@ -1,6 +1,6 @@
 use Rattle.std.proofs.Common.{subst}
 use Rattle.std.proofs.Math.Logic.{∥∥₁_map}
-use Rattle.hyper_edge.specs.Hosts.{IsListedText}
+use Rattle.outgoing_requests.specs.Hosts.{IsListedText}
 use Rattle.service_threads.specs.Jobs.{MayAnswer}
 use Rattle.service_threads.proofs.HostLemmas.{shown_is_there}
 use Rattle.service_threads.proofs.terms.Terms.walk.Goals as goal

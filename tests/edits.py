@@ -1,0 +1,201 @@
+#!/usr/bin/env python3
+"""`tests/edits/run` notices a contract that was weakened: in a repository of two small crates, whose proofs take seconds.
+
+An edit that the prover refuses is recorded. The record no longer counts if anything changes that the verdict stands on, and prose
+isn't among that. Without the clause that refused the edit it is NOT REFUSED, and nothing is recorded.
+"""
+import contextlib
+import os
+import pathlib
+import re
+import shutil
+import subprocess
+import sys
+import tempfile
+
+from playing import TOP, holds, lacks, same
+
+sys.path.insert(0, str(TOP / "tests/edits"))
+from editing import counted
+
+RT = os.environ.get("RT", "rt")
+EDIT = "tiny/always_the_first.edit"
+LOW, TINY = "crates/low/src/lib.rt", "crates/tiny/src/lib.rt"
+FILES = {
+    "HANDLES": "Handles allowed: none.\n",
+    "crates.txt": "low:\ntiny: low\n",
+    LOW: """// What stands below.
+#![tactic(auto)]
+
+ghost use Rattle.std.specs.Prelude.{◌≡◌};
+
+/// A text of two lines.
+pub const TEXT: &str = "one
+// two";
+
+/// The number itself.
+pub fn itself(a: u8) -> u8
+    ensures same { result ≡ a }
+{
+    a
+}
+""",
+    TINY: """// What is tried.
+#![tactic(auto)]
+
+ghost use Rattle.std.specs.Prelude.{◌≤◌};
+
+use low::itself;
+
+/// The greater of two numbers.
+pub fn greater(a: u8, b: u8) -> u8
+    ensures first { a ≤ result }
+    ensures second { b ≤ result }
+{
+    if a < b { b } else { itself(a) }
+}
+""",
+    "crates/tiny/edits/always_the_first.edit": "file: src/lib.rt\nold: if a < b\nnew: if b < b\n",
+}
+# Lines, each with whether it counts.
+LINES = {
+    "lines.rt": """
+- //! A head.
+-
+- /// A comment.
++ pub fn one(a: u8) -> u8
++     ensures it { a ≡
+-         -- A comment in a clause.
++         // b }
++ {
+-     // A comment in code.
++     let text = "one
++ // two
++
++ three"; // four
+-     /* five
++ // six */ let more = '"';
+-     // "
++     a
++ }
+""",
+    "lines.antt": """
+- -- A head.
++ module
+-
+- {- one
++ -- two -} three : ℕ
++ three = 3 -- four
+-   -- five
+""",
+}
+SECOND = "    ensures second { b ≤ result }\n"
+
+
+class Repository:
+    """A copy of the command, and the crates that it is to try."""
+
+    def __init__(self, folder):
+        self.folder = pathlib.Path(folder)
+        for part in ("tests/edits", "tests/planted", "tools"):
+            shutil.copytree(TOP / part, self.folder / part, ignore=shutil.ignore_patterns("tried", "*.bugs", "*.both"))
+        for file, text in FILES.items():
+            self.write(file, text)
+
+    def write(self, file, text):
+        path = self.folder / file
+        path.parent.mkdir(parents=True, exist_ok=True)
+        path.write_text(text, encoding="utf-8")
+
+    @contextlib.contextmanager
+    def having(self, file, old, new):
+        """Has another text in a file for a while."""
+        was = (self.folder / file).read_text(encoding="utf-8")
+        if was.count(old) != 1:
+            holds(f"{file} has {old!r} once", False)
+        self.write(file, was.replace(old, new))
+        yield
+        self.write(file, was)
+
+    def run(self, *words):
+        """The command's status with these words, and the lines that it says."""
+        ran = subprocess.run([self.folder / "tests/edits/run", *words], stdin=subprocess.DEVNULL, text=True, errors="replace",
+                             stdout=subprocess.PIPE, stderr=subprocess.STDOUT)
+        return ran.returncode, ran.stdout.strip().split("\n")
+
+    def ends(self, what, status, last, *words):
+        """Holds if the command ends with this status and last line. Gives all that it says."""
+        came, lines = self.run(*words)
+        if (came, lines[-1]) != (status, last):
+            print("\n".join(lines))
+        same(what, (came, lines[-1]), (status, last))
+        return "\n".join(lines)
+
+    def is_recorded(self):
+        return re.findall(r"^(\S+) [0-9a-f]{16} (\w+)$", (self.folder / "tests/edits/tried").read_text(), re.M)
+
+
+def try_lines(folder):
+    """Which lines count: those that hold something that the check reads."""
+    for name, marked in LINES.items():
+        lines = marked.strip("\n").split("\n")
+        path = pathlib.Path(folder, name)
+        path.write_text("\n".join(line[2:] for line in lines), encoding="utf-8")
+        wanted = "\n".join(line[2:] for line in lines if line.startswith("+"))
+        same(f"the lines of {name} that count", counted([str(path)])[0].decode(), wanted)
+
+
+def try_record(small):
+    """What the record counts for, once the edit was refused."""
+    small.ends("a refused edit is recorded as it stands", 0, "1 passed, 0 failed", "--check")
+    changed = (
+        ("its crate's line in crates.txt", "crates.txt", "tiny: low", "tiny: low itoa"),
+        ("what HANDLES allows", "HANDLES", "none", "Threads"),
+        ("a contract", TINY, "b ≤ result", "b ≤ b"),
+        ("code of the crate below", LOW, "    a\n", "    (a)\n"),
+        ("a line of a text that looks like a comment", LOW, "// two", "// too"),
+        ("the edit", f"crates/{EDIT.replace('/', '/edits/')}", "b < b", "a < a"),
+        ("code of its crate", TINY, "itself(a)", "a"),
+    )
+    for what, file, old, new in changed:
+        with small.having(file, old, new):
+            small.ends(f"it no longer counts if {what} changes", 1, "0 passed, 1 failed", "--check")
+    for file, old, new in ((TINY, "/// The greater of two numbers.", "/// The greater one.\n/// Or both."), (LOW, "// What stands below.", "")):
+        with small.having(file, old, new):
+            small.ends("it still counts if prose changes", 0, "1 passed, 0 failed", "--check")
+
+
+def try_misplaced(small):
+    """What can't be tried is told without a proof."""
+    with small.having(TINY, "/// The greater", "/// `if a < b`: the greater"):
+        status, lines = small.run("--dry")
+        same("a text that stands twice is told", (status, "stands there 2 times" in lines[0]), (1, True))
+    small.write("crates/tiny/must-fail/other.edit", FILES["crates/tiny/edits/always_the_first.edit"])
+    said = small.ends("an edit that rt ci would try fails the check", 1, "1 passed, 1 failed", "--check")
+    holds("and the check says where it belongs", "move it to crates/tiny/edits/" in said)
+    shutil.rmtree(small.folder / "crates/tiny/must-fail")
+
+
+def main():
+    if shutil.which(RT) is None:
+        lacks("needs rt, the toolchain's command")
+    with tempfile.TemporaryDirectory(prefix="small-") as folder:
+        try_lines(folder)
+        small = Repository(folder)
+        said = small.ends("an edit that wasn't tried fails the check", 1, "0 passed, 1 failed", "--check")
+        holds("and the check says what tries it", "tests/edits/run tiny" in said)
+        small.ends("an edit that breaks a contract is refused", 0, "1 passed, 0 failed")
+        same("and recorded", small.is_recorded(), [(EDIT, "refused")])
+        try_record(small)
+        try_misplaced(small)
+        with small.having(TINY, SECOND, ""):
+            small.ends("it counts as not tried once the contract is weakened", 1, "0 passed, 1 failed", "--check")
+            said = small.ends("it isn't refused then", 1, "0 passed, 1 failed")
+            holds("and is told", f"{EDIT}: NOT REFUSED" in said)
+            same("and not recorded", small.is_recorded(), [])
+        small.ends("it is refused again under the old contract", 0, "1 passed, 0 failed")
+    print("an edit was recorded, tried again whenever its verdict might have changed, and not refused once its clause was gone")
+
+
+if __name__ == "__main__":
+    main()
