@@ -26,6 +26,8 @@ import subprocess
 import sys
 import tempfile
 
+sys.path.insert(0, str(pathlib.Path(__file__).resolve().parent.parent / "tools"))
+from command import words_of
 from quiet import note_turn
 
 NAMES = "ours", "plain", "expert"
@@ -147,7 +149,7 @@ def write(kind, size, rows):
 
 
 def main():
-    kind, size, source, times, counted, *words = sys.argv[1:]
+    kind, size, source, times, counted, *words = words_of(__doc__, least=7, most=None, options=None)
     programs = parted(words)
     with tempfile.TemporaryDirectory() as folder:
         outputs = [f"{folder}/{k}" for k in range(len(programs))]

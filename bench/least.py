@@ -6,7 +6,11 @@
 A pass is chosen by the least times of all programs of a kind and size together, ours and theirs, so that no choice favours one. All
 rows of a kind and size come from one pass.
 """
+import pathlib
 import sys
+
+sys.path.insert(0, str(pathlib.Path(__file__).resolve().parent.parent / "tools"))
+from command import words_of
 
 
 def rows_of(path):
@@ -25,8 +29,9 @@ def together(lines):
 
 
 def main():
-    head, first = rows_of(sys.argv[1])
-    passes = [first, *(rows_of(path)[1] for path in sys.argv[2:])]
+    path, *others = words_of(__doc__, least=1, most=None)
+    head, first = rows_of(path)
+    passes = [first, *(rows_of(other)[1] for other in others)]
     print(head)
     for of in first:
         print("\n".join(min((rows[of] for rows in passes), key=together)))

@@ -15,10 +15,15 @@ processor isn't quiet any more when it ends.
 """
 import functools
 import os
+import pathlib
 import statistics
 import sys
 import time
 
+sys.path.insert(0, str(pathlib.Path(__file__).resolve().parent.parent / "tools"))
+from command import number_of, refuse, words_of
+
+OPTIONS = "--all", "--least", "--is-quiet", "--wait", "--are-quiet"
 TRIES = 5
 PATIENCE = float(os.environ.get("PATIENCE", "3"))    # seconds
 
@@ -108,21 +113,23 @@ def note_figure():
 
 
 def main():
-    match sys.argv[1:]:
+    match words_of(__doc__, most=1, options=OPTIONS):
         case []:
             print(quietest())
         case ["--all"]:
             print(", ".join(f"{processor}: {taken:.1f} ms" for processor, taken in times().items()))
         case ["--least"]:
             print(f"{least():.2f}")
+        case ["--is-quiet"] | ["--wait" | "--are-quiet", _] if "QUIET_MS" not in os.environ:
+            refuse("$QUIET_MS isn't set, to what --least prints")
         case ["--is-quiet"]:
             sys.exit(not is_quiet(middle()))
         case ["--wait", count]:
-            wait_for(int(count))
+            wait_for(number_of(count))
         case ["--are-quiet", count]:
-            sys.exit(not are_quiet(int(count)))
+            sys.exit(not are_quiet(number_of(count)))
         case _:
-            sys.exit(__doc__)
+            refuse("these words don't go together")
 
 
 if __name__ == "__main__":

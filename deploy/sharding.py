@@ -15,7 +15,6 @@ its host and its settings. The entry listens on 127.0.0.1:E (8200), the other se
 Says for each shard how many originals it has; with `--from OLD` how many move, if there were OLD shards before.
 An original that isn't plain (see PLAIN) is read by PROGRAM (`aggregator`), so that it is filed as it will be asked for.
 """
-import argparse
 import collections
 import pathlib
 import re
@@ -24,6 +23,7 @@ import subprocess
 import sys
 import tomllib
 
+from arguments import Arguments
 from settings_text import settings_text
 
 TOP = pathlib.Path(__file__).resolve().parent.parent
@@ -258,7 +258,7 @@ def write(given):
 
 
 def main():
-    arguments = argparse.ArgumentParser(usage=__doc__)
+    arguments = Arguments(__doc__)
     arguments.add_argument("originals", type=pathlib.Path)
     arguments.add_argument("shards", type=int, choices=range(1, 101))
     arguments.add_argument("folder", type=pathlib.Path)

@@ -7,12 +7,13 @@ Serves `/timemap/link/ORIGINAL` on 127.0.0.1 (PORT 8100, if none is given): N co
 that says which copy it is. With `--tls` it speaks https alone, and names itself NAME (127.0.0.1:PORT). Scripts of any site may read
 what it says.
 """
-import argparse
 import datetime
 import functools
 import http.server
 import ssl
 from email.utils import format_datetime
+
+from arguments import Arguments
 
 FIRST = datetime.datetime(2001, 3, 4, 5, 6, 7, tzinfo=datetime.timezone.utc)
 
@@ -81,7 +82,7 @@ class Archive(http.server.BaseHTTPRequestHandler):
 
 
 def main():
-    arguments = argparse.ArgumentParser(usage=__doc__)
+    arguments = Arguments(__doc__)
     arguments.add_argument("port", nargs="?", type=int, default=8100)
     arguments.add_argument("--copies", type=int, default=40)
     arguments.add_argument("--many", type=int, default=40)

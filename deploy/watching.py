@@ -14,7 +14,6 @@ Says in one line what it found. Ends with status 0 if all is well, if the unit i
 within the grace (60); with 1 if it is dead, which `--restart` has systemd restart; with 2 if it can't tell.
 deploy/maplewrench-watch.timer runs it each minute.
 """
-import argparse
 import concurrent.futures
 import pathlib
 import socket
@@ -22,6 +21,8 @@ import subprocess
 import sys
 import time
 import tomllib
+
+from arguments import Arguments
 
 REQUEST = b"GET / HTTP/1.1\r\nHost: watch\r\nConnection: close\r\n\r\n"
 ANSWERS, REFUSES, SILENT = "answers", "refuses", "is silent"
@@ -104,7 +105,7 @@ def look(given):
 
 
 def main():
-    arguments = argparse.ArgumentParser(usage=__doc__)
+    arguments = Arguments(__doc__)
     arguments.add_argument("settings", type=pathlib.Path)
     arguments.add_argument("--unit", default="maplewrench.service")
     arguments.add_argument("--oldest", type=int)

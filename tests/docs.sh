@@ -60,6 +60,11 @@ notices 'a sentence is too long' docs/DEFINITIONS.md 'The notation: `ℕ` is a n
     "The notation is this$(printf ', and %s' {1..20}): \`ℕ\` is a number, " 'at line .* has .* words'
 notices 'a command of scripts has another form' examples/README.md '| `sendfrom I N` |' '| `sendfrom N I` |' \
     "the table of commands isn't as in"
+notices 'a crate of the toolchain in the program has no notice' crates.txt 'text_fields: itoa memchr' 'text_fields: itoa memchr regex' \
+    'lack what is in the program: .*regex'
+notices 'an index leaves out a file of its folder' bench/README.md '`held.c`' 'the former' 'bench/README.md: held.c isn.t named'
+notices 'a crate stands above what it uses' crates/README.md $'`url_texts` |\n| texts of the web | `link_format`, `timemap_reader`' \
+    $'`timemap_reader` |\n| texts of the web | `link_format`, `url_texts`' 'timemap_reader stands above link_format, which it uses'
 notices 'a limit of the settings is another' docs/SETTINGS.md '1 to 60,000' '1 to 6,000' 'no row says that `wishes` holds 1 to 60,000'
 notices 'an item is lent to nobody' crates/harvest_lattice/src/ordered.rt 'pub(crate) fn count_below' 'pub fn count_below' \
     '`count_below` is pub, and no other crate reaches it'

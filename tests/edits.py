@@ -97,8 +97,8 @@ class Repository:
 
     def __init__(self, folder):
         self.folder = pathlib.Path(folder)
-        for part in ("edits", "planted"):
-            shutil.copytree(TOP / "tests" / part, self.folder / "tests" / part, ignore=shutil.ignore_patterns("tried", "*.bugs", "*.both"))
+        for part in ("tests/edits", "tests/planted", "tools"):
+            shutil.copytree(TOP / part, self.folder / part, ignore=shutil.ignore_patterns("tried", "*.bugs", "*.both"))
         for file, text in FILES.items():
             self.write(file, text)
 

@@ -19,7 +19,7 @@ from playing import BASE, ENVIRONMENT, MEMENTO, ORIGINAL, PATIENCE, PROGRAM, TOP
 
 SETTINGS = "etc/maplewrench/settings.toml"
 FILES = {"etc/group", "etc/passwd", "etc/nsswitch.conf", SETTINGS, "usr/bin/aggregator", "usr/share/doc/maplewrench/LICENSE",
-         "usr/share/maplewrench/web/index.html", "usr/share/maplewrench/web/status.html"}
+         "usr/share/doc/maplewrench/copyright", "usr/share/maplewrench/web/index.html", "usr/share/maplewrench/web/status.html"}
 
 
 def run(*words, **more):
@@ -33,6 +33,17 @@ def bytes_of(folder):
 def build(folder):
     """The image's layout, and the name that it is called by."""
     return run(TOP / "deploy/image", folder, env={**os.environ, "PROGRAM": PROGRAM}).strip()
+
+
+def try_notices(root):
+    """The notices of what is in the image, and the files of those that aren't the program's."""
+    ours = root / "usr/share/doc/maplewrench/copyright"
+    holds("it has the notices of what is in the program", ours.exists() and ours.read_bytes() == (TOP / "deploy/copyright").read_bytes())
+    others = [it for it in root.glob("usr/share/doc/*/copyright") if it != ours]
+    named = {root / name[1:] for it in others for name in re.findall(r"/usr/share/common-licenses/[A-Za-z]+(?:-\d+(?:\.\d+)*)?", it.read_text())}
+    holds(f"and those of {', '.join(it.parent.name for it in others)}", bool(others) and bool(named))
+    same("with the licences that these name", sorted(str(it) for it in named if not it.exists()), [])
+    return {str(it.relative_to(root)) for it in [*others, *named]}
 
 
 def write_settings(root, archive):
@@ -120,8 +131,9 @@ def main():
         build(room / "two")
         holds("building it twice gives the same bytes", bytes_of(room / "one") == bytes_of(room / "two"))
         run("umoci", "unpack", "--image", image, room / "bundle")
+        notices = try_notices(room / "bundle/rootfs")
         found = {name for name in bytes_of(room / "bundle/rootfs") if not re.match(r"lib(64)?/", name)}
-        same("it has what is needed, and nothing else", found, FILES)
+        same("it has what is needed, and nothing else", found - notices, FILES)
         how = try_service(room / "bundle")
         try_compose(room)
     print(f"an image that is built twice alike ran a service without rights, on a root that can't be written to ({how})")

@@ -36,6 +36,21 @@ try_contents() {
     holds "lintian refuses one without a copyright"
 }
 
+# The notices of all that is in the program: each crate's, and each licence that is named there.
+try_notices() {
+    local notices crate licence crates=0
+    notices=$(dpkg-deb --fsys-tarfile "$package" | tar -xO ./usr/share/doc/maplewrench/copyright)
+    for crate in $(sed -n 's/^| `\([a-z0-9_]*\)` |.*/\1/p' "$top/docs/LICENCES.md"); do
+        grep -qxE "(Files:)? rattle/$crate/\*" <<<"$notices" || fails "the package has the notice of $crate"
+        crates=$((crates + 1))
+    done
+    [ "$crates" -gt 0 ] || fails "docs/LICENCES.md names what is in the program"
+    for licence in $(grep -oE '^License: .*' <<<"$notices" | sed -E 's/^License: //; s/,? (and|or) /\n/g; s/ with .*//' | sort --unique); do
+        [ "$(grep -A 1 -E "^License: $licence( with .*)?$" <<<"$notices" | grep -c '^ ')" -ge 1 ] || fails "the package has the licence $licence"
+    done
+    holds "it has the notices of the $crates crates that are in the program, and the licences that they name"
+}
+
 # in_root WORDS..: dpkg in the root folder, whose scripts run here and are told of it by DPKG_ROOT.
 in_root() {
     dpkg --root="$root" --force-script-chrootless --force-depends --no-triggers --log="$work/dpkg.log" "$@" >"$work/said" 2>&1 ||
@@ -146,6 +161,7 @@ try_removal() {
 }
 
 try_contents
+try_notices
 try_install
 try_needs
 try_units

@@ -1,4 +1,3 @@
-#!/usr/bin/env python3
 """Checks that the documents say what stands in the repository.
 
     docs/check             says what is wrong, and ends with status 1 if anything is
@@ -11,12 +10,14 @@
 - Each crate of crates.txt has a row in the tables of docs/ARCHITECTURE.md and is named in docs/PROVED.md, and each name in code
   marks below its heading there stands in that crate.
 - The tables are as docs/counts counts them, the lists of contracts as tools/contracts.py has them from the sources, the pictures as
-  tools/pictures.py draws them, the figures of speed as tools/plot.py has them from bench/results.tsv, and the policy of the
-  readers' page as web/policy writes it.
+  tools/pictures.py draws them, the figures of speed as tools/plot.py has them from bench/results.tsv, the policy of the readers' page
+  as web/policy writes it, and the licences of what is in the program as tools/licences.py has them from the toolchain's kit.
 - A claim of the README says the premises of the contracts that it cites, in the words that docs/premises.txt has for each, and none
   is waived there; its headline says those of `replicas_agree.learnt`.
 - How many definitions a contract stands on is as tools/statements.py counts them.
 - The commands of scripts, and what they write, stand in examples/README.md as in the comment of `replay`.
+- The README.md of docs/, bench/, deploy/ and tests/planted/ names each file of its folder. That of crates/ names each crate once,
+  below all that it uses or in their group.
 - Each key of the settings has a row in docs/SETTINGS.md, with the limits that its definition has.
 - What a crate doesn't lend to others is pub(crate) or private, and the head of each lib.rt of many modules says what each is for
   (tools/visibility.py).
@@ -37,6 +38,8 @@ import shutil
 import subprocess
 import sys
 
+import command
+import counts
 import statements
 import visibility
 
@@ -194,6 +197,29 @@ def check_tables(tell):
         for name in re.findall(r"`([\w:.]+)`", re.split(r"^- \[", section, maxsplit=1, flags=re.M)[0]):
             lacking = [word for word in re.findall(r"[^\W\d]\w*", name) if word not in words and word not in crates()]
             tell(page, f"{crate} has no {name}" if lacking else None)
+
+
+def check_indexes(tell):
+    for folder in ("docs", "bench", "deploy", "tests/planted"):
+        page = TOP / folder / "README.md"
+        text = page.read_text(encoding="utf-8")
+        for path in sorted((TOP / folder).iterdir()):
+            is_listed = path.is_file() and path != page and path.suffix not in (".bugs", ".both")
+            if is_listed and f"`{path.name}`" not in text and f"]({path.name})" not in text:
+                tell(page, f"{path.name} isn't named")
+
+
+def check_groups(tell):
+    page = TOP / "crates/README.md"
+    groups = [re.findall(r"`(\w+)`", line.split("|")[2]) for line in lines_of(page) if line.startswith("| ") and "`" in line]
+    rank = {crate: k for k, group in enumerate(groups) for crate in group}
+    tell(page, "a crate is named twice" if len(rank) < sum(map(len, groups)) else None)
+    uses = counts.used()
+    for crate in {*uses, *rank}:
+        tell(page, f"{crate} isn't named" if crate not in rank else f"there is no crate {crate}" if crate not in uses else None)
+        for below in uses.get(crate, ()):
+            if rank.get(below, 0) > rank.get(crate, len(groups)):
+                tell(page, f"{crate} stands above {below}, which it uses")
 
 
 def commands(path, mark):
@@ -447,19 +473,20 @@ def check_edits(tell):
 def check_scripts(tell):
     dry = (["tests/planted/run", "--dry"], ["tests/planted/both", "--dry"], ["tests/edits/run", "--dry"])
     for words in (["docs/counts", "--check"], ["tools/contracts.py", "--check"], ["tools/pictures.py", "--check"], ["tools/plot.py", "--check"],
-                  ["web/policy", "--check"], *dry):
+                  ["web/policy", "--check"], ["tools/licences.py", "--check"], *dry):
         ran = subprocess.run([TOP / words[0], *words[1:]], capture_output=True, text=True)
         tell(TOP / words[0], ((ran.stderr or ran.stdout).strip() or "failed") if ran.returncode else None)
 
 
 def main():
-    if "--mend" in sys.argv:
+    if "--mend" in command.words_of(__doc__, options=["--mend"]):
         mend_columns()
         subprocess.run([TOP / "docs/counts"], check=True)
         subprocess.run([TOP / "tools/contracts.py"], check=True)
         subprocess.run([TOP / "tools/pictures.py"], check=True)
         subprocess.run([TOP / "tools/plot.py"], check=True)
         subprocess.run([TOP / "web/policy"], check=True)
+        subprocess.run([TOP / "tools/licences.py"], check=False)    # which can't without a kit, and says so
         for page in documents():
             mend_links(page)
     wrong = []
@@ -472,6 +499,8 @@ def main():
     check_tables(tell)
     check_counts(tell)
     check_claims(tell)
+    check_indexes(tell)
+    check_groups(tell)
     check_commands(tell)
     check_settings(tell)
     check_columns(tell)

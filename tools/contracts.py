@@ -13,6 +13,7 @@ import re
 import sys
 
 from check import filled
+from command import words_of
 
 TOP = pathlib.Path(__file__).resolve().parent.parent
 PROVED = TOP / "docs/PROVED.md"
@@ -99,9 +100,10 @@ def renewed(text):
 
 
 def main():
+    words = words_of(__doc__, options=["--check"])
     text = PROVED.read_text(encoding="utf-8")
     new = renewed(text)
-    if "--check" in sys.argv:
+    if "--check" in words:
         sys.exit("docs/PROVED.md: the contracts aren't as the sources have them; run tools/contracts.py" if new != text else 0)
     PROVED.write_text(new, encoding="utf-8")
 

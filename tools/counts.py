@@ -1,4 +1,3 @@
-#!/usr/bin/env python3
 """Writes what can be counted or copied: the tables of lines and of planted bugs in docs/TRUST.md, in docs/BELIEF.md the definitions
 that the headline's two clauses stand on, as tools/statements.py finds them, and in docs/ARCHITECTURE.md what each crate stands on, as
 crates.txt has it.
@@ -12,6 +11,7 @@ import sys
 from collections import Counter
 
 import statements
+from command import words_of
 
 TOP = pathlib.Path(__file__).resolve().parent.parent
 sys.path.insert(0, str(TOP / "tests/planted"))
@@ -95,6 +95,8 @@ def with_uses(text):
 
 
 def main():
+    is_check = "--check" in words_of(__doc__, options=["--check"])
+
     def with_table(text, head, table):
         return re.sub(re.escape(head) + r"(?:\|.*\n)*", lambda _: table, text)
 
@@ -103,9 +105,9 @@ def main():
     belief = with_table(BELIEF.read_text(), DEFINITIONS, table_of_definitions(DEFINITIONS, first))
     belief = with_table(belief, FURTHER, table_of_definitions(FURTHER, second - first))
     for path, new in ((TRUST, trust), (BELIEF, belief), (ARCHITECTURE, with_uses(ARCHITECTURE.read_text()))):
-        if "--check" in sys.argv and new != path.read_text():
+        if is_check and new != path.read_text():
             sys.exit(f"{path.relative_to(TOP)}: the tables aren't as counted; run docs/counts")
-        if "--check" not in sys.argv:
+        if not is_check:
             path.write_text(new)
 
 

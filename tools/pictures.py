@@ -12,6 +12,8 @@ import re
 import sys
 from xml.sax.saxutils import escape
 
+from command import words_of
+
 TOP = pathlib.Path(__file__).resolve().parent.parent
 PICTURES = TOP / "docs/pictures"
 INK, FAINT, PAPER, BOX = "#1f2933", "#5b6773", "#fbfaf7", "#ffffff"
@@ -277,9 +279,10 @@ def draw_service():
 
 
 def main():
+    words = words_of(__doc__, options=["--check"])
     drawn = {"crates.svg": draw_crates(), "exchange.svg": draw_exchange(), "crossings.svg": draw_crossings(), "service.svg": draw_service()}
     stale = [name for name, text in drawn.items() if not (PICTURES / name).exists() or (PICTURES / name).read_text(encoding="utf-8") != text]
-    if "--check" in sys.argv:
+    if "--check" in words:
         sys.exit(f"not as drawn: {', '.join(stale)}; run tools/pictures.py" if stale else 0)
     for name in stale:
         (PICTURES / name).write_text(drawn[name], encoding="utf-8")

@@ -18,6 +18,7 @@ import re
 import sys
 
 import pictures
+from command import words_of
 
 TOP = pathlib.Path(__file__).resolve().parent.parent
 PICTURES, PAGES = TOP / "docs/pictures", (TOP / "README.md", TOP / "docs/SPEED.md")
@@ -197,13 +198,14 @@ def filled(page, told):
 
 
 def main():
+    words = words_of(__doc__, options=["--check"])
     told = figures()
     drawn = {PICTURES / "speed.svg": plot()}
     if growth():
         drawn[PICTURES / "growth.svg"] = growth_plot(growth())
     drawn |= {path: filled(path.read_text(encoding="utf-8"), told) for path in PAGES if path.exists()}
     stale = [path for path, text in drawn.items() if not path.exists() or path.read_text(encoding="utf-8") != text]
-    if "--check" in sys.argv:
+    if "--check" in words:
         sys.exit(f"not as measured: {', '.join(path.name for path in stale)}; run tools/plot.py" if stale else 0)
     for path in stale:
         path.write_text(drawn[path], encoding="utf-8")

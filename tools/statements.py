@@ -12,6 +12,8 @@ import pathlib
 import re
 import sys
 
+from command import words_of
+
 TOP = pathlib.Path(__file__).resolve().parent.parent
 NAME = r"[A-Za-z_][\w'-]*"
 DECLARED = re.compile(rf"^(?:(?:pub|abbrev|unfoldable|opaque|record|data|syntax)\s+)*(?:pub\s+)?({NAME})(?=[ :])", re.M)
@@ -172,7 +174,7 @@ def find_clause(crate, contract):
 
 
 def main():
-    crate, contract = sys.argv[1:]
+    crate, contract = words_of(__doc__, least=2, most=2)
     path, statement = find_clause(crate, contract)
     if path is None:
         sys.exit(f"{crate} has no clause {contract}")

@@ -12,6 +12,8 @@ import pathlib
 import re
 import sys
 
+from command import words_of
+
 TOP = pathlib.Path(__file__).resolve().parent.parent
 
 # A lib.rt with more modules than these says in its head what each is for.
@@ -114,5 +116,6 @@ def faults(top=TOP):
 
 
 if __name__ == "__main__":
+    words_of(__doc__)
     told = [f"{path.relative_to(TOP)}: {what}" for path, what in faults()]
     sys.exit("\n".join(told) if told else 0)
