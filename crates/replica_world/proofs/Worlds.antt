@@ -107,7 +107,7 @@ no_replica kept new event why answer is new_is answer_is =
     new_is (answer_is ∙ ap (λ (why : Refused). Err why) is.0)
 
 -- the replica of a number, of which this is kept at its place
-record Found (kept : Kept) (w : World) (number place : ℕ) : Type 0 where
+pub record Found (kept : Kept) (w : World) (number place : ℕ) : Type 0 where
   pub found : Replica
   pub there : replica w number ≡ Some found
   pub keeps : Keeps (kept_at kept place) found
