@@ -106,7 +106,7 @@ try_units() {
     holds "it tells of a key that it doesn't know"
     sed -i 's/^IPAddressDenied=/IPAddressDeny=/' "$work/analyzed/$units/maplewrench.service"
     # In tenths; a unit without any limits has 96.
-    for unit in maplewrench.service:20 maplewrench-watch.service:40 maplewrench-forward.service:40; do
+    for unit in maplewrench.service:20 maplewrench-watch.service:25 maplewrench-forward.service:25; do
         said=$(systemd-analyze security --offline=true --threshold="${unit#*:}" "$work/analyzed/$units/${unit%:*}" 2>&1 | tail -n 1) ||
             fails "systemd finds ${unit%:*} shut in, to ${unit#*:} tenths at most: $said"
         holds "${said#*→ }"

@@ -128,6 +128,14 @@ systemctl daemon-reload
 status() { curl -sk -o /dev/null -w '%{http_code}' --max-time 20 "$1"; }
 is() { [ "$(status "$1")" = "$2" ]; }
 systemctl start maplewrench-forward.service || fails "the forward starts with a name that leads nowhere"
+# Planted: `Type=simple`, by which a start has ended before nginx listens, and the service's first round finds nobody there.
+listens() { is http://127.0.0.1:8100/good.test/timemap/link/http://a.example/ 200; }
+for _ in 1 2 3 4 5; do
+    systemctl restart maplewrench-forward.service
+    (exec 3<>/dev/tcp/127.0.0.1/8100) 2>/dev/null || fails "a start of the forward has ended before nginx listens"
+    listens || fails "and it leads on at once"
+done
+holds "once a start of the forward has ended it listens, five times of five"
 waits "the forward leads on" 60 is http://127.0.0.1:8100/good.test/timemap/link/http://a.example/ 200
 waits "but for that name" 60 is http://127.0.0.1:8100/nobody.test/timemap/link/http://a.example/ 502
 holds "an archive whose name leads nowhere keeps the forward from no other"
@@ -156,4 +164,15 @@ systemctl reload maplewrench-forward.service
 waits "what was written anew is taken in" 60 is http://127.0.0.1:8100/nobody.test/timemap/link/http://a.example/ 502
 [ "$(value maplewrench-forward MainPID)" = "$first" ] && is http://127.0.0.1:8100/good.test/timemap/link/http://a.example/ 200 || fails "reloaded"
 holds "the forward starts without readers' nginx, and can be reloaded"
+# Planted: a reload without `nginx -t`, which says that it succeeded and changes nothing, and a `-` before it.
+cp $etc/forward/nginx.conf /root/forward.conf
+sed -i 's/limit_conn archives/limit_konn archives/' $etc/forward/nginx.conf
+! systemctl reload maplewrench-forward.service 2>/dev/null || fails "a reload that nginx refuses fails"
+[ "$(value maplewrench-forward MainPID)/$(value maplewrench-forward ActiveState)" = "$first/active" ] && listens ||
+    fails "what ran before goes on: $(value maplewrench-forward ActiveState)"
+has 'unknown directive "limit_konn"' "$(journalctl --no-pager --output=cat -u maplewrench-forward)" || fails "and the journal says why"
+cp /root/forward.conf $etc/forward/nginx.conf
+systemctl reload maplewrench-forward.service || fails "and once it is mended a reload succeeds"
+listens || fails "and it leads on"
+holds "a reload that nginx refuses fails, and what ran before goes on"
 echo "bad settings ended the service once, memory was refused and nothing killed, and the two nginx kept out of each other's way"
