@@ -8,11 +8,11 @@ import contextlib
 import threading
 import time
 
-from playing import ORIGINAL, PATIENCE, Played, Service, comes_true, free_ports, get, holds, link, needs, nginx, reply, same
+from playing import ORIGINAL, PATIENCE, QUICK, Played, Service, comes_true, free_ports, get, holds, link, needs, nginx, reply, same
 
 ORIGINALS = [ORIGINAL, *(f"http://a.example/{number}" for number in range(20))]
 FIRST, LATER = "http://m.example/first", "http://m.example/later"
-QUICK = [("rate=20r/s", "rate=100000r/s"), ("limit_conn connections 20", "limit_conn connections 1000")]
+MANY = [*QUICK, ("limit_conn connections 20", "limit_conn connections 1000")]
 
 
 class Archive:
@@ -49,7 +49,7 @@ def main():
         replicas = [Service(stack, ports=free_ports(2), pause=1, rounds=10**9, peers=[harvester.address for harvester in harvesters],
                             keys={"ready": True, "together": 64})
                     for _ in range(2)]
-        front = nginx(stack, [port for replica in replicas for port in replica.ports], *QUICK)
+        front = nginx(stack, [port for replica in replicas for port in replica.ports], *MANY)
         same("a replica without archives tells of its pulls", replicas[0].line(), "round 1 jobs 0 harvests 0 pulls 2 published\n")
         holds("readers see what the harvesters know", waited(front, (302, FIRST), 20))
 

@@ -211,7 +211,7 @@ def try_forward(stack, folder):
     (folder / "trusted.pem").write_text(good[0].read_text() + bad[0].read_text())
     listed, common = write_lists(folder, gate, archives)
     ran = run_forward(listed, folder / "out", "--settings", common, "--port", forward, "--authorities", folder / "trusted.pem",
-                      "--read", 1, "--connect", 1, "--agent", "Maplewrench (+https://aggregator.test/)", "--log", folder / "access.log")
+                      "--read", 1, "--connect", 1, "--agent", "Maplewrench (+https://aggregator.test/)", "--log", folder / "access.log", "--targets")
     holds(f"deploy/forward takes what was checked: {ran.stdout.strip()}{ran.stderr}", ran.returncode == 0 and "unchecked" not in ran.stdout)
     for port in (one, other, wrong, plain):
         wait_for(port)
@@ -238,6 +238,35 @@ def try_forward(stack, folder):
     holds(f"the log of requests has each once, with the archive's status and seconds: {ends}",
           [len(lines) for lines in ends.values()] == [1, 1] and re.search(r"one\.test 200 .*archive: 200 after 0\.\d+ s, connected", ends["one.test"][0])
           and re.search(r"silent\.test 504 .*archive: 504 after 1\.\d+ s", ends["silent.test"][0]))
+
+
+def try_secrets(stack, folder):
+    """What is asked for is in no log, though archives are down, silent, refused their certificate, or asked too much. Planted: the
+    target in the form of the lines, and lines of nginx's own at any level (`error_log stderr crit`)."""
+    secret = "http://clinic.example/?patient=Miller"
+    silent, [down] = Counter(stack), dead_ports(stack, 1)
+    cert = certificate(folder, "other.test")
+    [tls] = free_ports(1)
+    start(stack, TOP / "deploy/archive", tls, "--tls", *cert, stdout=subprocess.DEVNULL)
+    wait_for(tls)
+    good = Played(stack, lambda target: page_of("http://g.example/1"))
+    names = [("good.test", good.address), ("down.test", f"http://127.0.0.1:{down}"), ("silent.test", f"http://127.0.0.1:{silent.port}"),
+             ("wrong.test", f"https://localhost:{tls}"), ("nobody.test", "http://nobody.invalid")]
+    for words, told in ((), False), (("--targets",), True):
+        place = folder / f"secrets-{told}"
+        forward, _ = forward_to(stack, place, names, "--authorities", cert[0], "--connections", 1, *words)
+        for name, _ in names:
+            for _ in range(4):
+                asked(forward.port, f"/{name}/timemap/link/{secret}")
+        with concurrent.futures.ThreadPoolExecutor(4) as pool:
+            list(pool.map(lambda _: asked(forward.port, f"/silent.test/timemap/link/{secret}"), range(4)))
+        ask(forward.port, "/good.test/timemap/link/http://miller.example/Miller/" + "..%2f" * 8 + "x")
+        written = {"requests": (place / "access.log").read_text(), "errors": pathlib.Path(forward.errors.name).read_text()}
+        same(f"with {words or 'no option'} what is asked for is in the logs: {told}",
+             {kind: "Miller" in text for kind, text in written.items()}, {"requests": told, "errors": told})
+        lines = {line.split(" ")[0]: line.split(" ")[1] for line in written["requests"].splitlines()}
+        same("the archives' names and statuses are, and where nginx reads no path the status alone",
+             [lines[name] for name in ("good.test", "wrong.test", "")], ["200", "502", "400"])
 
 
 def page_of(uri, *further):
@@ -490,6 +519,7 @@ def main():
         try_memgator(folder, free_ports(1)[0])
         try_log(folder, free_ports(1)[0])
         try_forward(stack, folder)
+        try_secrets(stack, folder)
         try_paths(stack, folder)
         try_query(stack, folder)
         try_own_answers(stack, folder)

@@ -131,6 +131,7 @@ systemctl start maplewrench-forward.service || fails "the forward starts with a 
 # Planted: `Type=simple`, by which a start has ended before nginx listens, and the service's first round finds nobody there.
 listens() { is http://127.0.0.1:8100/good.test/timemap/link/http://a.example/ 200; }
 for _ in 1 2 3 4 5; do
+    systemctl reset-failed maplewrench-forward.service 2>/dev/null || true
     systemctl restart maplewrench-forward.service
     (exec 3<>/dev/tcp/127.0.0.1/8100) 2>/dev/null || fails "a start of the forward has ended before nginx listens"
     listens || fails "and it leads on at once"
