@@ -245,7 +245,7 @@ def try_networks(stack):
 def try_harvesters(stack):
     """If readers' replicas stand apart from harvesters, what no replica knows goes on to a harvester, with the date that is asked for."""
     replica, harvester = Played(stack, knows(ORIGINAL)), Played(stack, knows("http://fresh.example/"))
-    port = nginx(stack, [replica.port], ("upstream harvesters { server 127.0.0.1:8082; }", f"upstream harvesters {{ server 127.0.0.1:{harvester.port}; }}"),
+    port = nginx(stack, [replica.port], ("consistent; server 127.0.0.1:8082;", f"consistent; server 127.0.0.1:{harvester.port};"),
                  ("try_files /nothing @unknown;", "proxy_pass http://harvesters$request_uri;"), *QUICK)
     same("what a replica knows is asked of it alone", (ask(port, "/timegate/" + ORIGINAL)[0], len(harvester.heads)), (302, 0))
     odd = "http://nobody.example/..%2f..%2f..%2f..%2fx"
@@ -259,7 +259,7 @@ def try_harvesters(stack):
         asked = [line.partition(": ")[2] for line in harvester.heads[-1] if line.lower().startswith("accept-datetime")]
         same(f"and asked for {date}", asked, [date])
     silent = nginx(stack, [replica.port], ("try_files /nothing @unknown;", "proxy_pass http://harvesters$request_uri;"),
-                   ("upstream harvesters { server 127.0.0.1:8082; }", f"upstream harvesters {{ server 127.0.0.1:{dead_ports(stack, 1)[0]}; }}"), *QUICK)
+                   ("consistent; server 127.0.0.1:8082;", f"consistent; server 127.0.0.1:{dead_ports(stack, 1)[0]};"), *QUICK)
     same("if no harvester can be asked it is what the replica said", ask(silent, "/timegate/http://nobody.example/")[::2], (404, "no memento\n"))
 
 
