@@ -198,7 +198,7 @@ def try_unknown(stack):
     """What no gate knows is a wish. The first twelve replies of 404 to one reader come at once, and further ones so often as is said,
     whoever waits for them and whoever doesn't; other readers, and what is known, aren't kept waiting. Planted: replies of 404 that
     aren't counted (`error_page 404`), and a reader whose connections are free again once they have left
-    (`proxy_ignore_client_abort`)."""
+    (`proxy_ignore_client_abort`, in each of its places)."""
     gate = Played(stack, knows(ORIGINAL))
     port = nginx(stack, [gate.port], ("rate=20r/s", "rate=1000r/s"), ("rate=12r/m", "rate=120r/m"))
     one, other, gone = (Reader(port, f"127.0.0.{number}") for number in (5, 6, 7))
