@@ -107,6 +107,27 @@ systemctl stop maplewrench.service
 rm -f $kept
 cp /root/settings.toml $etc/settings.toml
 
+# A second replica on this machine, by its own settings, with a watch of its own, and the first one as its peer.
+/usr/lib/maplewrench/archive 8100 >/dev/null &
+archive=$!
+waits "an archive" 60 curl -s -o /dev/null http://127.0.0.1:8100/
+sed -e '/^gates/{s/:8080/:8083/;s/:8081/:8084/;s/:8082/:8085/}' -e 's|^peers = .*|peers = ["http://127.0.0.1:8082"]|' \
+    -e 's/^originals = .*/originals = []/' -e 's/^snapshot_every = .*/snapshot_every = 1/' /root/settings.toml >$etc/two.toml
+systemctl start maplewrench.service maplewrench@two.service
+shows() { [ "$(curl -s -o /dev/null -w '%{http_code}' "http://127.0.0.1:$1/timegate/http://a.example/")" = 302 ]; }
+waits "the first shows what it harvested" 60 shows 8080
+waits "and the second what it has of the first" 60 shows 8083
+waits "each keeps what it knows in a folder of its own" 60 test -s /var/lib/maplewrench-two/maplewrench.snapshot
+[ "$(stat -c %a /var/lib/maplewrench-two)/$(systemctl show maplewrench@two --property=User --value)" = 700/maplewrench ] || fails "which nobody else may read"
+systemctl start maplewrench-watch@two.service || fails "its watch finds it well"
+has 'well: 3 of 3 gates answer' "$(journalctl --no-pager --output=cat -u maplewrench-watch@two)" || fails "and says so"
+systemctl stop maplewrench.service
+shows 8083 || fails "the second goes on while the first is stopped"
+systemctl stop maplewrench@two.service
+kill $archive
+holds "a second replica runs beside the first by a unit of its name, with a folder and a watch of its own"
+rm -f $kept
+
 # The forward's nginx and the readers' one.
 openssl req -x509 -newkey rsa:2048 -nodes -days 2 -subj /CN=localhost -addext subjectAltName=DNS:localhost \
     -keyout $etc/key.pem -out $etc/certificate.pem 2>/dev/null
