@@ -119,8 +119,8 @@ waits "the first shows what it harvested" 60 shows 8080
 waits "and the second what it has of the first" 60 shows 8083
 waits "each keeps what it knows in a folder of its own" 60 test -s /var/lib/maplewrench-two/maplewrench.snapshot
 [ "$(stat -c %a /var/lib/maplewrench-two)/$(systemctl show maplewrench@two --property=User --value)" = 700/maplewrench ] || fails "which nobody else may read"
-systemctl start maplewrench-watch@two.service || fails "its watch finds it well"
-has 'well: 3 of 3 gates answer' "$(journalctl --no-pager --output=cat -u maplewrench-watch@two)" || fails "and says so"
+systemctl start maplewrench-watch@two.service || fails "its watch leaves it alone"
+has 'maplewrench@two.service has just been started' "$(journalctl --no-pager --output=cat -u maplewrench-watch@two)" || fails "and looks at it"
 systemctl stop maplewrench.service
 shows 8083 || fails "the second goes on while the first is stopped"
 systemctl stop maplewrench@two.service
