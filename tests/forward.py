@@ -252,8 +252,8 @@ def try_secrets(stack, folder):
     good = Played(stack, lambda target: page_of("http://g.example/1"))
     names = [("good.test", good.address), ("down.test", f"http://127.0.0.1:{down}"), ("silent.test", f"http://127.0.0.1:{silent.port}"),
              ("wrong.test", f"https://localhost:{tls}"), ("nobody.test", "http://nobody.invalid")]
-    for words, told in ((), False), (("--targets",), True):
-        place = folder / f"secrets-{told}"
+    for words, shown in ((), False), (("--targets",), True):
+        place = folder / f"secrets-{shown}"
         forward, _ = forward_to(stack, place, names, "--authorities", cert[0], "--connections", 1, *words)
         for name, _ in names:
             for _ in range(4):
@@ -262,8 +262,8 @@ def try_secrets(stack, folder):
             list(pool.map(lambda _: asked(forward.port, f"/silent.test/timemap/link/{secret}"), range(4)))
         ask(forward.port, "/good.test/timemap/link/http://miller.example/Miller/" + "..%2f" * 8 + "x")
         written = {"requests": (place / "access.log").read_text(), "errors": pathlib.Path(forward.errors.name).read_text()}
-        same(f"with {words or 'no option'} what is asked for is in the logs: {told}",
-             {kind: "Miller" in text for kind, text in written.items()}, {"requests": told, "errors": told})
+        same(f"with {words or 'no option'} what is asked for is in the logs: {shown}",
+             {kind: "Miller" in text for kind, text in written.items()}, {"requests": shown, "errors": shown})
         lines = {line.split(" ")[0]: line.split(" ")[1] for line in written["requests"].splitlines()}
         same("the archives' names and statuses are, and where nginx reads no path the status alone",
              [lines[name] for name in ("good.test", "wrong.test", "")], ["200", "502", "400"])

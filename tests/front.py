@@ -308,6 +308,35 @@ def try_whole(stack):
     same("by HTTP/2 a reader gets a hundred pages, sixteen at a time", collections.Counter(ran.stdout.split()), {"200": 100})
 
 
+def try_beside(stack):
+    """By the line of docs/OPERATING.md what stands in deploy/nginx.conf is served beside another site of the same nginx, whose replies and
+    log are as they were. Planted: what is said of logs, and of `//` in paths, in the http block."""
+    folder = pathlib.Path(stack.enter_context(tempfile.TemporaryDirectory()))
+    (folder / "site").mkdir()
+    folder.chmod(0o755)
+    (folder / "site/index.html").write_text("another site")
+    gate, (ours, theirs, unknown) = Played(stack, knows(ORIGINAL)), free_ports(3)
+    text = re.sub(r"(?m)^ *ssl_.*\n", "", (TOP / "deploy/nginx.conf").read_text())
+    for old, new in (("/var/log/nginx/", f"{folder}/"), ("127.0.0.1:8080;", f"127.0.0.1:{gate.port};"), ("        server 127.0.0.1:8081;\n", ""),
+                     ("        listen [::]:443 ssl http2;\n", ""), ("listen 443 ssl http2", f"listen 127.0.0.1:{ours}"), ("127.0.0.1:8079", f"127.0.0.1:{unknown}")):
+        text = text.replace(old, new)
+    (folder / "example.conf").write_text(re.sub(r"(?ms)^    # ---- http ----\n.*?^    \}\n", "", text))
+    lines = re.search(r"(?m)^    (sed -e '1,/From here.*\\\n.*)$", (TOP / "docs/OPERATING.md").read_text())[1]
+    lines = lines.replace("/usr/share/doc/maplewrench/examples/nginx.conf", f"{folder}/example.conf").replace("/etc/nginx/conf.d", str(folder))
+    subprocess.run(["bash", "-euc", lines], check=True)
+    temporary = "".join(f"{kind}_temp_path {folder}/{kind}; " for kind in TEMPORARY)
+    start_nginx(stack, folder, ours, f"pid {folder}/nginx.pid; error_log {folder}/main.log; events {{}}\nhttp {{ access_log {folder}/access.log; {temporary}\n"
+                f"include {folder}/maplewrench.conf;\nserver {{ listen 127.0.0.1:{theirs}; root {folder}/site; }} }}\n")
+    secret = "http://clinic.example//one?patient=Miller"
+    same("beside another site readers are led on", [ask(ours, "/timegate/" + original)[0] for original in (ORIGINAL, secret)], [302, 404])
+    same("to the byte", gate.targets()[-1], "/timegate/" + secret)
+    same("and the other site is served", [ask(theirs, target)[::2] for target in ("/", "//index.html")], [(200, "another site")] * 2)
+    written = {file.name: file.read_text() for file in folder.iterdir() if file.suffix == ".log"}
+    same("its log has its own requests, and no log has ours",
+         ([line.split('"')[1] for line in written["access.log"].splitlines()], [name for name, text in written.items() if "Miller" in text]),
+         (["GET / HTTP/1.1", "GET //index.html HTTP/1.1"], []))
+
+
 def try_unready(stack, good):
     """A gate that knows nothing yet, and one that is down, beside one that knows something."""
     for what, other in (("knows nothing yet", Played(stack, knows_nothing_yet).port), ("is down", dead_ports(stack, 1)[0])):
@@ -415,6 +444,7 @@ def main():
         try_harvesters(stack)
         try_http(stack)
         try_whole(stack)
+        try_beside(stack)
         try_shards(stack)
     print("nginx passed on the longest replies, asked one gate for what nobody has, and said 503 if no gate serves")
 
