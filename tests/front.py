@@ -152,7 +152,7 @@ def try_routes(stack):
 
 def try_logs(stack):
     """No log has what readers ask for, or from where: not beyond a limit, nor while gates are down, nor for odd requests. Each request
-    that a gate failed is a line with the gate. Planted: `error_log` of the http block left out, and at level crit."""
+    that a gate failed is a line with the gate. Planted: `error_log` of a server left out, and at level error; and `combined` in the place of `gates`."""
     folder = pathlib.Path(stack.enter_context(tempfile.TemporaryDirectory()))
     gate, [down] = Played(stack, knows(ORIGINAL)), dead_ports(stack, 1)
     secret = "http://clinic.example/one?patient=Miller"
