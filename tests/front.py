@@ -310,7 +310,7 @@ def try_whole(stack):
 
 def try_beside(stack):
     """By the line of docs/OPERATING.md what stands in deploy/nginx.conf is served beside another site of the same nginx, whose replies and
-    log are as they were. Planted: what is said of logs, and of `//` in paths, in the http block."""
+    log are as they were. Planted: what is said of logs left to the http block."""
     folder = pathlib.Path(stack.enter_context(tempfile.TemporaryDirectory()))
     (folder / "site").mkdir()
     folder.chmod(0o755)
