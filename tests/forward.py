@@ -261,6 +261,8 @@ def try_secrets(stack, folder):
         with concurrent.futures.ThreadPoolExecutor(4) as pool:
             list(pool.map(lambda _: asked(forward.port, f"/silent.test/timemap/link/{secret}"), range(4)))
         ask(forward.port, "/good.test/timemap/link/http://miller.example/Miller/" + "..%2f" * 8 + "x")
+        # A line is written once its reply is on the way.
+        comes_true(lambda: any(line.startswith(" 400 ") for line in (place / "access.log").read_text().splitlines()), 10)
         written = {"requests": (place / "access.log").read_text(), "errors": pathlib.Path(forward.errors.name).read_text()}
         same(f"with {words or 'no option'} what is asked for is in the logs: {shown}",
              {kind: "Miller" in text for kind, text in written.items()}, {"requests": shown, "errors": shown})

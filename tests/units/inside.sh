@@ -125,6 +125,7 @@ systemctl stop maplewrench.service
 shows 8083 || fails "the second goes on while the first is stopped"
 systemctl stop maplewrench@two.service
 kill $archive
+[[ " $(systemctl show maplewrench@two --property=After --value) " = *" maplewrench-forward.service "* ]] || fails "it is started once the forward listens"
 holds "a second replica runs beside the first by a unit of its name, with a folder and a watch of its own"
 rm -f $kept
 
