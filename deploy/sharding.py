@@ -10,6 +10,8 @@ each program, with `log = true` and `ready = true` unless FILE has those keys. W
 own beside it (shard-K-replica-R.NAME). Replica r of shard k runs on host number k R + r of IP.. (127.0.0.1), round again after the
 last, with its gates on ports from P (8300) on, the one for peers last.
 
+FILE may not have `alike`, and IP.. may not be of IPv6 where replicas pull from each other.
+
 Writes FOLDER/shard-K-replica-R.toml, FOLDER/shards.conf for nginx's `http` block, and FOLDER/programs, a line for each program:
 its host and its settings. The entry listens on 127.0.0.1:E (8200), the other servers of shards.conf on the ports behind it.
 Says for each shard how many originals it has; with `--from OLD` how many move, if there were OLD shards before.
@@ -172,6 +174,7 @@ map $status $shards_retry_after {{ default ""; 503 5; }}
 server {{
     listen 127.0.0.1:{entry};
 {common}
+    # The readers' nginx in front bounds what one reader may ask for; here all come from it.
     proxy_hide_header Retry-After;
     add_header Retry-After $shards_retry_after always;
     error_page 502 504 =503 @later;
@@ -203,13 +206,16 @@ server {{
 {shard_blocks}"""
 
 COMMON = """\
+    # What readers ask for can have secrets in it, and each line about a request has it.
+    access_log off;
+    error_log stderr emerg;
     proxy_http_version 1.1;
     proxy_set_header Connection close;
     proxy_set_header Host $host;
     proxy_pass_request_body off;
     proxy_set_header Content-Length "";
     proxy_connect_timeout 2s;
-    proxy_read_timeout 30s;
+    proxy_read_timeout 10s;
     large_client_header_buffers 4 8k;
     # The longest head of a reply is a redirect's, of less than 17,140 bytes (see deploy/nginx.conf).
     proxy_buffer_size 32k;
@@ -237,6 +243,10 @@ def nginx_text(given, places):
 
 def write(given):
     common = {"log": True, "ready": True} | tomllib.loads(given.settings.read_text(encoding="utf-8"))
+    if common.get("alike"):
+        raise Refused("`alike` is of no use in shards: another spelling's hash names another shard, where nobody wished for it. Leave it out")
+    if given.replicas > 1 and any(":" in host for host in given.hosts):
+        raise Refused("--hosts: a replica is pulled from by IPv4 alone, and never by an address in brackets")
     common |= {"archives": common.get("archives", [])} | ({"base": given.base} if given.base else {})
     originals = read_originals(given.originals, given.program)
     owner, places = owners(given.shards), place_replicas(given)

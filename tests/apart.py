@@ -1,6 +1,7 @@
 #!/usr/bin/env python3
 """Harvesters apart from readers' replicas, which have no archives and pull from the harvesters each second: what readers
-behind nginx see of a harvest, of a harvester's long round, and while one of either kind is restarted or down.
+behind nginx see of a harvest, of a harvester's long round, and while one of either kind is restarted or down. What no replica knows
+nginx asks of a harvester, which takes the wish.
 
     ./run --unproved && tests/apart.py          needs nginx (nginx-light)
 """
@@ -8,11 +9,13 @@ import contextlib
 import threading
 import time
 
-from playing import ORIGINAL, PATIENCE, Played, Service, comes_true, free_ports, get, holds, link, needs, nginx, reply, same
+from playing import (BASE, ORIGINAL, PATIENCE, QUICK, Played, Service, comes_true, free_ports, get, holds, link, needs, nginx, reply,
+                     same, until)
 
 ORIGINALS = [ORIGINAL, *(f"http://a.example/{number}" for number in range(20))]
+WISHED = "http://wished.example/"
 FIRST, LATER = "http://m.example/first", "http://m.example/later"
-QUICK = [("rate=20r/s", "rate=100000r/s"), ("limit_conn connections 20", "limit_conn connections 1000")]
+MANY = [*QUICK, ("limit_conn connections 20", "limit_conn connections 1000")]
 
 
 class Archive:
@@ -43,13 +46,16 @@ def main():
         archive = Archive(stack)
         places = free_ports(2)
         harvesters = [Service(stack, archives=[("arc.example", archive.played.address)], originals=ORIGINALS, ports=(own,), workers=4, pause=3,
-                              rounds=10**9, peers=[f"http://127.0.0.1:{other}"]) for own, other in (places, places[::-1])]
+                              rounds=10**9, peers=[f"http://127.0.0.1:{other}"], keys={"wanted": 100}) for own, other in (places, places[::-1])]
         for harvester in harvesters:
             harvester.rounds()
         replicas = [Service(stack, ports=free_ports(2), pause=1, rounds=10**9, peers=[harvester.address for harvester in harvesters],
                             keys={"ready": True, "together": 64})
                     for _ in range(2)]
-        front = nginx(stack, [port for replica in replicas for port in replica.ports], *QUICK)
+        led = " ".join(f"server 127.0.0.1:{port};" for port in places)
+        front = nginx(stack, [port for replica in replicas for port in replica.ports], *MANY,
+                      ("consistent; server 127.0.0.1:8082;", f"consistent; {led}"),
+                      ("try_files /nothing @unknown;", "proxy_pass http://harvesters$request_uri;"))
         same("a replica without archives tells of its pulls", replicas[0].line(), "round 1 jobs 0 harvests 0 pulls 2 published\n")
         holds("readers see what the harvesters know", waited(front, (302, FIRST), 20))
 
@@ -59,6 +65,11 @@ def main():
         harvesters[0].rounds()
         holds("and what a later round brings, once it is published", waited(front, (302, LATER), 20))
         print(f"all of {len(ORIGINALS)} originals within {time.monotonic() - begun:.1f} s")
+        # Planted: nginx as it is shipped, which asks no harvester, so that the wish is lost.
+        same("what nobody knows is 404", shown(front, WISHED), (404, None))
+        until("and shown once a harvester has asked the archive for it", lambda: shown(front, WISHED) == (302, LATER), 20)
+        until("by the readers' replicas themselves", lambda: {replica.shows(WISHED) for replica in replicas} == {LATER}, 20)
+        same("the archive was asked for it once", archive.played.targets().count(BASE + WISHED), 1)
 
         archive.go_on.clear()
         replicas[0].process.terminate()
@@ -84,6 +95,7 @@ def main():
         for replica in replicas:
             replica.rounds(3)
         same("with both down they see what came last", {shown(front, original) for original in ORIGINALS}, {(302, FIRST)})
+        same("and what nobody knows is 404", {shown(front, f"http://nobody.example/{k}") for k in range(4)}, {(404, None)})
         same(f"and the archive, which was asked {count} times, is asked no more", len(archive.played.heads), count)
     print("readers' replicas without archives showed what harvesters had, within seconds, and through the end of any one")
 

@@ -85,9 +85,10 @@ def try_lists(folder, gate):
     for path in (lists[0], TOP / "deploy/archives.toml"):
         ran = run_forward(path, folder / "out", "--settings", lists[1])
         holds(f"if nothing was checked nothing is written: {ran.stderr.strip()}", ran.returncode == 2 and not (folder / "out").exists())
-    for name, address in (("A", "https://a.example"), ("a", "ftp://a.example"), ("a", 'https://a.example/"; }'), ("a", "https://a.example/$x")):
+    for name, address in (("A", "https://a.example"), ("a", "ftp://a.example"), ("a", 'https://a.example/"; }'), ("a", "https://a.example/$x"),
+                          ("a" * 65, "https://a.example"), ("a", "https://a.example/" + "p" * 1024)):
         ran = run_forward(*write_lists(folder, gate, [(name, address.replace('"', '\\"'), True)])[:1], folder / "out", "--settings", lists[1])
-        holds(f"{name} {address} is refused: {ran.stderr.strip()}", ran.returncode == 2)
+        holds(f"{name} {address:.60} is refused: {ran.stderr.strip():.120}", ran.returncode == 2)
     (folder / "archives.toml").write_text('[[archives]]\nname = "a"\ntitle = 7\ntimemap = "https://a.example/"\nchecked = true\n')
     ran = run_forward(folder / "archives.toml", folder / "out", "--settings", lists[1])
     holds(f"a title that is no text is refused: {ran.stderr.strip()}", ran.returncode == 2)
@@ -100,6 +101,86 @@ def try_lists(folder, gate):
     ran = run_forward(write_lists(folder, gate, all_checked)[0], folder / "all", "--settings", lists[1])
     ready = subprocess.run([PROGRAM, "check", folder / "all/settings.toml"], capture_output=True, text=True)
     holds(f"with all of them checked: {ready.stdout.strip()}", ran.returncode == 0 and f"archives {len(shipped)} " in ready.stdout)
+
+
+def nginx_takes(folder):
+    """nginx's own word on the settings that were written into this folder."""
+    with tempfile.TemporaryDirectory() as state:
+        ran = subprocess.run(["nginx", "-t", "-p", f"{state}/", "-c", folder / "nginx.conf", "-e", "stderr"], capture_output=True, text=True)
+    return ran.returncode == 0, ran.stderr.strip()
+
+
+def try_names(folder, gate):
+    """nginx takes each archive of the list that is shipped, alone and with all others, and the longest names and addresses.
+
+    Planted: variables that are named by archives (`$pool_archive_web_2e_..`), by which two of those shipped, and the longest name,
+    are refused.
+    """
+    shipped = [(archive["name"], archive["timemap"].removesuffix("/timemap/link/"), True)
+               for archive in tomllib.loads((TOP / "deploy/archives.toml").read_text())["archives"]]
+    longest = [(("a." * 32)[:62] + f"{number:02}", "https://127.0.0.1/" + "(" * (1024 - 18 - len("/timemap/link/")), True) for number in range(3)]
+    for what, archives in (*((name, [(name, address, checked)]) for name, address, checked in shipped), ("all that are shipped", shipped),
+                           ("the longest", longest), ("all", shipped + longest)):
+        listed, common = write_lists(folder, gate, archives)
+        ran = run_forward(listed, folder / "names", "--settings", common, "--log", "off")
+        takes, said = nginx_takes(folder / "names")
+        holds(f"nginx takes {what}{'' if takes else ': ' + said}", ran.returncode == 0 and takes)
+        written = tomllib.loads((folder / "names/settings.toml").read_text())["archives"]
+        same("and the service is to ask them all", [archive["name"] for archive in written], [name for name, _, _ in archives])
+
+
+def try_refused_by_nginx(folder, gate):
+    """What nginx doesn't take isn't written, and what stood there stays. A folder that an earlier deploy/forward wrote stays as it is
+    when names are looked up, since its nginx.conf wants other variables. Planted: each of the two tests left out."""
+    listed, common = write_lists(folder, gate, [("a.test", "http://127.0.0.1:1", True)])
+    good = run_forward(listed, folder / "kept", "--settings", common)
+    before = {file.name: file.read_bytes() for file in (folder / "kept").iterdir()}
+    (folder / "no.pem").write_text("no certificate\n")
+    ran = run_forward(write_lists(folder, gate, [("b.test", "http://127.0.0.1:2", True)])[0], folder / "kept", "--settings", common,
+                      "--authorities", folder / "no.pem")
+    holds(f"what nginx refuses is refused: {ran.stderr.strip():.160}", (good.returncode, ran.returncode) == (0, 2) and "nginx refuses" in ran.stderr)
+    same("and nothing is written", {file.name: file.read_bytes() for file in (folder / "kept").iterdir()}, before)
+    (folder / "kept/nginx.conf").write_text('proxy_pass https://$pool_archive_a_2e_test$archive_path;\n')
+    (folder / "kept/pools.conf").write_text("as it was\n")
+    ran = run_forward("--look-up", folder / "kept")
+    same(f"pools of an earlier form stay: {ran.stderr.strip()}", (ran.returncode, (folder / "kept/pools.conf").read_text()), (2, "as it was\n"))
+
+
+def try_memgator(folder, gate):
+    """A list of MemGator's is read as it is, and what is wrong with one is named. Planted: `ignore` not heeded, and each check of a
+    type left out."""
+    def written(listed, name="list.json"):
+        (folder / name).write_text(listed if isinstance(listed, str) else json.dumps(listed))
+        return run_forward(folder / name, folder / "gator", "--settings", write_lists(folder, gate, [])[1], "--log", "off")
+
+    good = [{"id": "ia", "name": "Internet Archive", "timemap": "https://127.0.0.1/web/timemap/link/", "timegate": "https://127.0.0.1/web/",
+             "probability": 1.0, "ignore": False},
+            {"id": "pt", "name": "Portugal", "timemap": "https://127.0.0.1:81/timemap/link/", "timegate": "https://127.0.0.1:81/", "probability": 0.5},
+            {"id": "Gone!", "name": "Gone", "timemap": "", "ignore": True}]
+    for name in ("list.json", "list"):
+        ran = written(good, name)
+        keys = tomllib.loads((folder / "gator/settings.toml").read_text())["archives"] if ran.returncode == 0 else ran.stderr
+        same(f"{name}: those that aren't ignored are asked", keys, [
+            {"name": "ia", "timemap": "http://127.0.0.1:8100/ia/web/timemap/link/"}, {"name": "pt", "timemap": "http://127.0.0.1:8100/pt/timemap/link/"}])
+        same("by the names that readers see", json.loads((folder / "gator/archives.json").read_text()),
+             {"127.0.0.1": "Internet Archive", "127.0.0.1:81": "Portugal"})
+    for what, listed, said in (
+            ("no id", [{"timemap": "https://a.example/"}], "name has to be"), ("an id of other letters", [{**good[0], "id": "IA"}], "'IA'"),
+            ("a number for an id", [{**good[0], "id": 7}], "name has to be a text"), ("no timemap", [{"id": "ia"}], "ia: no http or https address"),
+            ("a number for a timemap", [{**good[0], "timemap": 7}], "ia: timemap has to be a text"),
+            ("a word for ignore", [{**good[0], "ignore": "no"}], "ia: ignore has to be true or false"),
+            ("a number for a name", [{**good[0], "name": 7}], "ia: title has to be a text"), ("one twice", [good[0], good[0]], "a name twice"),
+            ("nobody", [], "no archive"), ("all ignored", [good[2]], "no archive"), ("no list", {"archives": good}, "no list of archives"),
+            ("no entries", ["ia"], "no list of archives"), ("half of it", json.dumps(good)[:100], "no JSON")):
+        ran = written(listed)
+        holds(f"a list with {what} is refused: {ran.stderr.strip():.140}", ran.returncode == 2 and said in ran.stderr)
+    for what, text, said in (("a number for a name", 'name = 7\ntimemap = "https://a.example/"\nchecked = true\n', "name has to be a text"),
+                             ("a word for checked", 'name = "a"\ntimemap = "https://a.example/"\nchecked = "yes"\n', "a: checked has to be"),
+                             ("half a line", "name = ", "no TOML")):
+        ran = written("[[archives]]\n" + text, "list.toml")
+        holds(f"one of ours with {what} is refused: {ran.stderr.strip():.140}", ran.returncode == 2 and said in ran.stderr)
+    ran = written("archives = 7\n", "list.toml")
+    holds(f"or with no list: {ran.stderr.strip()}", ran.returncode == 2 and "no list of archives" in ran.stderr)
 
 
 def try_log(folder, gate):
@@ -130,7 +211,7 @@ def try_forward(stack, folder):
     (folder / "trusted.pem").write_text(good[0].read_text() + bad[0].read_text())
     listed, common = write_lists(folder, gate, archives)
     ran = run_forward(listed, folder / "out", "--settings", common, "--port", forward, "--authorities", folder / "trusted.pem",
-                      "--read", 1, "--connect", 1, "--agent", "Maplewrench (+https://aggregator.test/)", "--log", folder / "access.log")
+                      "--read", 1, "--connect", 1, "--agent", "Maplewrench (+https://aggregator.test/)", "--log", folder / "access.log", "--targets")
     holds(f"deploy/forward takes what was checked: {ran.stdout.strip()}{ran.stderr}", ran.returncode == 0 and "unchecked" not in ran.stdout)
     for port in (one, other, wrong, plain):
         wait_for(port)
@@ -157,6 +238,37 @@ def try_forward(stack, folder):
     holds(f"the log of requests has each once, with the archive's status and seconds: {ends}",
           [len(lines) for lines in ends.values()] == [1, 1] and re.search(r"one\.test 200 .*archive: 200 after 0\.\d+ s, connected", ends["one.test"][0])
           and re.search(r"silent\.test 504 .*archive: 504 after 1\.\d+ s", ends["silent.test"][0]))
+
+
+def try_secrets(stack, folder):
+    """What is asked for is in no log, though archives are down, silent, refused their certificate, or asked too much. Planted: the
+    target in the form of the lines, and lines of nginx's own at any level (`error_log stderr crit`)."""
+    secret = "http://clinic.example/?patient=Miller"
+    silent, [down] = Counter(stack), dead_ports(stack, 1)
+    cert = certificate(folder, "other.test")
+    [tls] = free_ports(1)
+    start(stack, TOP / "deploy/archive", tls, "--tls", *cert, stdout=subprocess.DEVNULL)
+    wait_for(tls)
+    good = Played(stack, lambda target: page_of("http://g.example/1"))
+    names = [("good.test", good.address), ("down.test", f"http://127.0.0.1:{down}"), ("silent.test", f"http://127.0.0.1:{silent.port}"),
+             ("wrong.test", f"https://localhost:{tls}"), ("nobody.test", "http://nobody.invalid")]
+    for words, shown in ((), False), (("--targets",), True):
+        place = folder / f"secrets-{shown}"
+        forward, _ = forward_to(stack, place, names, "--authorities", cert[0], "--connections", 1, *words)
+        for name, _ in names:
+            for _ in range(4):
+                asked(forward.port, f"/{name}/timemap/link/{secret}")
+        with concurrent.futures.ThreadPoolExecutor(4) as pool:
+            list(pool.map(lambda _: asked(forward.port, f"/silent.test/timemap/link/{secret}"), range(4)))
+        ask(forward.port, "/good.test/timemap/link/http://miller.example/Miller/" + "..%2f" * 8 + "x")
+        # A line is written once its reply is on the way.
+        comes_true(lambda: any(line.startswith(" 400 ") for line in (place / "access.log").read_text().splitlines()), 10)
+        written = {"requests": (place / "access.log").read_text(), "errors": pathlib.Path(forward.errors.name).read_text()}
+        same(f"with {words or 'no option'} what is asked for is in the logs: {shown}",
+             {kind: "Miller" in text for kind, text in written.items()}, {"requests": shown, "errors": shown})
+        lines = {line.split(" ")[0]: line.split(" ")[1] for line in written["requests"].splitlines()}
+        same("the archives' names and statuses are, and where nginx reads no path the status alone",
+             [lines[name] for name in ("good.test", "wrong.test", "")], ["200", "502", "400"])
 
 
 def page_of(uri, *further):
@@ -192,18 +304,27 @@ def try_paths(stack, folder):
     evil = Played(stack, lambda target: page_of("http://e.example/1", *(f"{own}/victim.test{path}" for path in beyond)))
     forward, _ = forward_to(stack, folder / "paths", [("victim.test", address), ("evil.test", f"http://127.0.0.1:{evil.port}")])
     own = f"http://127.0.0.1:{forward.port}"
+    # Written as below it, and leading out of it: not the archive's failure. Planted: locations that are chosen by the path as nginx
+    # reads it, which say 502 to all, and a forward that leads these on.
+    upwards = ["/timemap/link/../../save/http://x.example/", "/timemap/link/%2e%2e/%2E%2E/save/http://x.example/",
+               "/timemap/link/..%2f..%2fsave/http://x.example/", "/timemap/link/http://x.example/..%2f..%2f..%2f..%2f..%2ftimegate/x",
+               "/timemap/link/http://x.example/..%2f..%2f..%2f..%2f..%2f..%2f..%2fx", "/timemap/link/http://x.example/..%2F..%2F..%2F..%2f..%2f..%2f"
+               "evil.test/timemap/link/x", "/timemap/link/http://x.example/50%-off"]
     same("what isn't below the address of an archive's TimeMaps is refused",
-         [asked(forward.port, "/victim.test" + path) for path in beyond], [502] * len(beyond))
+         [asked(forward.port, "/victim.test" + path) for path in beyond], [400 if path in upwards else 502 for path in beyond])
+    same("what leads upwards from there too, and not as if the archive had failed",
+         [asked(forward.port, "/victim.test" + path) for path in upwards], [400] * len(upwards))
     same("also behind another archive's name", [asked(forward.port, path) for path in (
         "/other/../victim.test/timemap/link/http://x.example/", "/save/x/../../victim.test/timemap/link/http://x.example/",
         "/victim.test/../victim.test/save/x")], [502] * 3)
     same("and the archive isn't asked", victim.targets(), [])
-    same("it is for what is below", asked(forward.port, "/victim.test/timemap/link/2/http://x.example/?a=/../b"), 200)
-    same("to the byte", victim.targets(), ["/timemap/link/2/http://x.example/?a=/../b"])
+    below = ["/timemap/link/2/http://x.example/?a=/../b", "/timemap/link/http://x.example/..%2f..%2fy", "/timemap/link/http://x.example/a%2fb"]
+    same("it is for what is below", [asked(forward.port, "/victim.test" + path) for path in below], [200] * 3)
+    same("to the byte", victim.targets(), below)
     serve = start(stack, PROGRAM, "serve", folder / "paths/out/settings.toml", stdout=subprocess.PIPE, stderr=subprocess.PIPE, text=True)
     lines = [serve.stdout.readline().strip() for _ in range(2)]
     same("a service harvests both archives", lines[1], "round 1 jobs 2 harvests 2 pulls 0 published")
-    same("and by the other's page is led to nothing of it", victim.targets()[1:], ["/timemap/link/" + ORIGINALS[0]])
+    same("and by the other's page is led to nothing of it", victim.targets()[3:], ["/timemap/link/" + ORIGINALS[0]])
 
 
 def try_query(stack, folder):
@@ -395,8 +516,12 @@ def main():
         folder = pathlib.Path(stack.enter_context(tempfile.TemporaryDirectory()))
         folder.chmod(0o755)
         try_lists(folder, free_ports(1)[0])
+        try_names(folder, free_ports(1)[0])
+        try_refused_by_nginx(folder, free_ports(1)[0])
+        try_memgator(folder, free_ports(1)[0])
         try_log(folder, free_ports(1)[0])
         try_forward(stack, folder)
+        try_secrets(stack, folder)
         try_paths(stack, folder)
         try_query(stack, folder)
         try_own_answers(stack, folder)

@@ -115,6 +115,16 @@ def try_compose(room):
     gates = [set(re.findall(r"127\.0\.0\.1:\d+", re.search("(?m)^gates = .*", (folder / f"replica-{k}.toml").read_text())[0])) for k in (1, 2)]
     led = set(re.findall(r"server (127\.0\.0\.1:\d+);", (folder / "nginx.conf").read_text()))
     same("nginx leads to the gates of both replicas", sorted(led), sorted(gates[0] | gates[1]))
+    # Planted: the network kept by `front`, which cuts off the others when it is started again; the host's log in a file that grows.
+    services = dict(re.findall(r"(?ms)^  ([\w-]+):(.*?)(?=^  [\w-]+:|\Z)", text.partition("\nservices:")[2].partition("\nvolumes:")[0]))
+    same("one container keeps the network of all others, and does nothing else",
+         {name: "sleep" if '["sleep", "infinity"]' in its else re.search(r'network_mode: "service:(\w+)"|<<: \*replica', its)[1]
+          for name, its in services.items()},
+         {"net": "sleep", "front": "net", "forward": "net", "replica-1": "net", "replica-2": None})
+    asked = re.findall(r"http://(127\.0\.0\.1:\d+)/health", services["front"])
+    told = [re.search('(?m)^status = "(.*)"', (folder / f"replica-{k}.toml").read_text())[1] for k in (1, 2)]
+    same("whether a replica shows something is asked where each tells it", asked, told)
+    same("nginx writes no file", re.findall(r"(?m)^ *access_log .*/var/log.*", (folder / "nginx.conf").read_text()), [])
     mounted = {source for source in re.findall(r"- (\./[\w./-]+):", text) if not source.endswith(".pem")}
     same("what is mounted stands there, but for a certificate", sorted(it for it in mounted if not (folder / it).exists()), [])
 

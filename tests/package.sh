@@ -1,6 +1,6 @@
 #!/usr/bin/env bash
 # The Debian package that deploy/package builds: the same bytes each time, no errors by lintian, units and a manual page
-# without a warning; and what is there once it is installed in a root folder of this test's own, installed again,
+# without a warning; and what is there once it is installed in a root folder of this test's own, upgraded,
 # removed and purged.
 #
 #     ./run --unproved && tests/package.sh
@@ -66,7 +66,11 @@ try_install() {
     in_root --install "$package"
     local owned
     owned=$(dpkg-deb --contents "$package" | awk '$1 !~ /^d/ { print $6 }' | sort)
-    same "all of the package's files stand there, and nothing else" "$(belongings | wc -l)" "$(wc -l <<<"$owned")"
+    same "all of the package's files stand there, and settings and a list that are nobody's but the operator's" "$(belongings | wc -l)" \
+        $(($(wc -l <<<"$owned") + 2))
+    for file in settings.toml archives.toml; do
+        cmp "$root/usr/share/maplewrench/$file" "$root/etc/maplewrench/$file" || fails "which begin as the package has them"
+    done
     (cd "$root" && md5sum --quiet --check var/lib/dpkg/info/maplewrench.md5sums) || fails "with the package's bytes"
     grep -q '^maplewrench:' "$root/etc/passwd" || fails "the user that the service runs as is there"
     holds "the user that the service runs as is there"
@@ -122,7 +126,7 @@ try_units() {
     holds "it tells of a key that it doesn't know"
     sed -i 's/^IPAddressDenied=/IPAddressDeny=/' "$work/analyzed/$units/maplewrench.service"
     # In tenths; a unit without any limits has 96.
-    for unit in maplewrench.service:20 maplewrench-watch.service:40 maplewrench-forward.service:40; do
+    for unit in maplewrench.service:20 maplewrench@.service:20 maplewrench-watch@.service:25 maplewrench-watch.service:25 maplewrench-forward.service:25; do
         said=$(systemd-analyze security --offline=true --threshold="${unit#*:}" "$work/analyzed/$units/${unit%:*}" 2>&1 | tail -n 1) ||
             fails "systemd finds ${unit%:*} shut in, to ${unit#*:} tenths at most: $said"
         holds "${said#*→ }"
@@ -130,7 +134,7 @@ try_units() {
 }
 verify() {
     systemd-analyze verify --man=no --root="$work/analyzed" maplewrench.service maplewrench-watch.service maplewrench-watch.timer \
-        maplewrench-forward.service 2>&1
+        maplewrench-forward.service maplewrench@two.service maplewrench-watch@two.service maplewrench-watch@two.timer 2>&1
 }
 
 # shellcheck disable=SC2069 # standard error alone is wanted
@@ -149,13 +153,54 @@ try_manual() {
     holds "it tells of each key of the settings, each word and each path"
 }
 
+# next_version VERSION: a package of that version whose settings have another comment.
+next_version() {
+    local folder=$work/next-$1
+    dpkg-deb --raw-extract "$package" "$folder"
+    sed -i "s/^Version: .*/Version: $1/" "$folder/DEBIAN/control"
+    sed -i "1i # of version $1" "$folder/usr/share/maplewrench/settings.toml" "$folder/usr/share/maplewrench/archives.toml"
+    dpkg-deb --root-owner-group --build "$folder" "$folder.deb" >/dev/null
+    echo "$folder.deb"
+}
+
+# upgrades PACKAGE: dpkg without a terminal and without a word on which file to keep, as unattended-upgrades calls it.
+upgrades() {
+    in_root --install "$1" </dev/null
+    same "it is whole" "$(dpkg-query --admindir="$root/var/lib/dpkg" --show --showformat '${db:Status-Abbrev}${Version}' maplewrench)" \
+        "ii $(dpkg-deb --field "$1" Version)"
+    same "and what an operator changed stays" "$(tail -n 1 "$root/etc/maplewrench/settings.toml") $(tail -n 1 "$root/etc/maplewrench/archives.toml")" \
+        "# mine # mine too"
+}
+
+# An upgrade asks nothing, over files that an operator changed and that the next version changes, too. Planted: both files in DEBIAN/conffiles,
+# by which dpkg asks, finds no terminal, and leaves the package half installed.
+try_upgrade() {
+    echo '# mine' >>"$root/etc/maplewrench/settings.toml"
+    echo '# mine too' >>"$root/etc/maplewrench/archives.toml"
+    upgrades "$(next_version 99.1)"
+    same "the settings as they are shipped stand beside them" "$(head -n 1 "$root/usr/share/maplewrench/settings.toml")" "# of version 99.1"
+    # From a version in which they were conffiles.
+    local before=$work/before
+    in_root --purge maplewrench
+    dpkg-deb --raw-extract "$package" "$before"
+    install -D -m 644 -t "$before/etc/maplewrench" "$before"/usr/share/maplewrench/{settings,archives}.toml
+    printf '/etc/maplewrench/%s\n' archives.toml settings.toml >"$before/DEBIAN/conffiles"
+    dpkg-deb --root-owner-group --build "$before" "$before.deb" >/dev/null
+    in_root --install "$before.deb"
+    echo '# mine' >>"$root/etc/maplewrench/settings.toml"
+    echo '# mine too' >>"$root/etc/maplewrench/archives.toml"
+    upgrades "$(next_version 99.2)"
+    holds "an upgrade asks nothing, also from a version in which the settings were the package's"
+}
+
 # What an operator changed stays, until the package is purged.
 try_removal() {
-    echo '# mine' >>"$root/etc/maplewrench/settings.toml"
-    in_root --force-confold --install "$package"
+    in_root --install "$(next_version 99.3)"
     same "settings that were changed stay when it is installed again" "$(tail -n 1 "$root/etc/maplewrench/settings.toml")" "# mine"
+    mkdir -p "$root/etc/maplewrench/forward"
+    echo 'listen 127.0.0.1:8100;' >"$root/etc/maplewrench/forward/nginx.conf"
     in_root --remove maplewrench
-    same "removed, it leaves its settings alone" "$(belongings)" "$(printf './etc/maplewrench/%s\n' archives.toml settings.toml)"
+    same "removed, it leaves its settings alone" "$(belongings)" "$(printf './etc/maplewrench/%s\n' archives.toml forward/nginx.conf settings.toml)"
     in_root --purge maplewrench
     same "purged, it leaves nothing" "$(belongings)" ""
 }
@@ -166,5 +211,6 @@ try_install
 try_needs
 try_units
 try_manual
+try_upgrade
 try_removal
-echo "the package was built, found without errors, installed, removed and purged"
+echo "the package was built, found without errors, installed, upgraded without a question, removed and purged"

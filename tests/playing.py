@@ -436,6 +436,8 @@ class Service:
 
 # ---- nginx ----
 
+# By these changes to deploy/nginx.conf one address may ask as fast as it can, also for what nobody knows.
+QUICK = [("rate=20r/s", "rate=100000r/s"), ("rate=50r/s", "rate=100000r/s"), ("rate=12r/m", "rate=6000000r/m")]
 TEMPORARY = ("client_body", "proxy", "fastcgi", "uwsgi", "scgi")    # where nginx keeps bodies, each in a folder of its own
 
 
@@ -450,21 +452,23 @@ def start_nginx(stack, folder, port, text=None):
 
 def nginx_text(text, folder, *changes):
     """The settings of deploy/nginx.conf for this machine, with what nginx writes in this folder, and with further changes: pairs of what
-    stands there and what is to stand there."""
+    stands there and what is to stand there. It speaks HTTP/1.1 at one address of IPv4, and its server at port 80 is left out."""
     temporary = "".join(f"    {kind}_temp_path {folder}/{kind};\n" for kind in TEMPORARY)
-    for old, new in [("/var/log/nginx/error.log", f"{folder}/error.log"), ("/run/nginx.pid", f"{folder}/nginx.pid"),
-                     ("root /usr/share/maplewrench/web", f"root {TOP}/web"),
-                     ("    access_log off;\n", temporary + "    access_log off;\n"), *changes]:
+    text = re.sub(r"(?ms)^    # ---- http ----\n.*?^    \}\n", "", text)
+    text = re.sub(r"(?m)^ *(listen \[::\]|http2_).*\n", "", text).replace("ssl http2;", "ssl;")
+    for old, new in [("/var/log/nginx/", f"{folder}/"), ("/run/nginx.pid", f"{folder}/nginx.pid"),
+                     ("root /usr/share/maplewrench/web", f"root {TOP}/web"), ("127.0.0.1:8079", f"127.0.0.1:{free_ports(1)[0]}"),
+                     ("    sendfile on;\n", temporary + "    sendfile on;\n"), *changes]:
         if old not in text:
             raise SystemExit(f"deploy/nginx.conf has no {old}")
         text = text.replace(old, new)
     return text
 
 
-def nginx(stack, gates, *changes):
+def nginx(stack, gates, *changes, folder=None):
     """The port of nginx in front of these gates, by the settings of deploy/nginx.conf but for TLS; `changes` are further pairs
-    of what stands there and what is to stand there."""
-    folder = pathlib.Path(stack.enter_context(tempfile.TemporaryDirectory()))
+    of what stands there and what is to stand there. It keeps its logs in a folder of its own, or in the one that is given."""
+    folder = folder or pathlib.Path(stack.enter_context(tempfile.TemporaryDirectory()))
     (front,) = free_ports(1)
     text = re.sub(r"(?m)^ *ssl_.*\n", "", (TOP / "deploy/nginx.conf").read_text())
     servers = "\n".join(f"        server 127.0.0.1:{gate};" for gate in gates)

@@ -16,7 +16,7 @@ import tempfile
 import threading
 import time
 
-from playing import PATIENCE, Played, Service, children, free_ports, get, holds, needs, nginx, reload_nginx, reply
+from playing import PATIENCE, QUICK, Played, Service, children, free_ports, get, holds, needs, nginx, reload_nginx, reply
 
 RESTARTS = 4
 READERS = 8
@@ -26,7 +26,7 @@ LONG_ROUND = FAIL_TIMEOUT + 5    # nginx asks the gate again before its first ro
 LONG = "http://long.example/"
 NOBODY = "/timegate/http://nobody.example/"
 TARGETS = ["/timegate/http://a.example/", "/timegate/" + LONG, f"/timemap/link/page/1/{LONG}", f"/timemap/link/page/2/{LONG}", NOBODY]
-MANY = [("rate=20r/s", "rate=100000r/s"), ("rate=50r/s", "rate=100000r/s"), ("limit_conn connections 20", "limit_conn connections 1000")]
+MANY = [*QUICK, ("limit_conn connections 20", "limit_conn connections 1000")]
 
 
 def page_of(target, seconds):

@@ -41,7 +41,7 @@ def nginx_settings(folder, front, gates, *changes):
         (TOP / "deploy/nginx.conf").read_text(), folder, ("listen 443 ssl", f"listen 127.0.0.1:{front} ssl"),
         ("/etc/maplewrench/certificate.pem", f"{folder}/certificate.pem"), ("/etc/maplewrench/key.pem", f"{folder}/key.pem"),
         ("127.0.0.1:8080", f"127.0.0.1:{gates[0]}"), ("127.0.0.1:8081", f"127.0.0.1:{gates[1]}"),
-        ("127.0.0.1:8082", f"127.0.0.1:{gates[2]}"), ("rate=20r/s", "rate=1000r/s"),
+        ("127.0.0.1:8082", f"127.0.0.1:{gates[2]}"), ("rate=20r/s", "rate=1000r/s"), ("rate=12r/m", "rate=60000r/m"),
         ("alias /etc/maplewrench/forward/", f"alias {folder}/forward/"), *changes)
     (folder / "nginx.conf").write_text(text)
     return folder / "nginx.conf"

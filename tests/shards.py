@@ -144,6 +144,15 @@ def try_refusals(folder):
     settings = common_settings(folder, 1)
     ran = run_shards(write_originals(folder, ["http://a.example/", "ftp://a.example/"]), 2, folder / "none", "--settings", settings)
     holds(f"a line that is no original is named: {ran.stderr.strip()}", ran.returncode == 2 and "line 4 " in ran.stderr)
+    # Planted: each of the two refusals left out.
+    listed = write_originals(folder, ["http://a.example/"])
+    for hosts, replicas, status in (("::1", 2, 2), ("10.0.3.1,fd00::7", 2, 2), ("::1", 1, 0), ("10.0.3.1", 2, 0)):
+        ran = run_shards(listed, 2, folder / ("none" if status else "some"), "--settings", settings, "--hosts", hosts, "--replicas", replicas)
+        holds(f"{replicas} replicas on {hosts}: {ran.stderr.strip() or 'taken'}", ran.returncode == status and ("IPv4 alone" in ran.stderr) == (status == 2))
+    for alike, status in (("true", 2), ("false", 0)):
+        (folder / "alike.toml").write_text(f"alike = {alike}\n" + settings.read_text())
+        ran = run_shards(listed, 2, folder / ("none" if status else "some"), "--settings", folder / "alike.toml")
+        holds(f"with alike = {alike}: {ran.stderr.strip() or 'taken'}", ran.returncode == status and ("no use in shards" in ran.stderr) == (status == 2))
     many = [f"http://a.example/{number:040}" for number in range(30_000)]
     ran = run_shards(write_originals(folder, many), 1, folder / "none", "--settings", settings)
     holds(f"more than settings hold is refused: {ran.stderr.strip()}", ran.returncode == 2 and "take more shards" in ran.stderr)

@@ -24,7 +24,7 @@ import threading
 import time
 from email.utils import formatdate
 
-from playing import BASE, PATIENCE, Played, Service, comes_true, free_ports, get, holds, link, needs, nginx, reply, same
+from playing import BASE, PATIENCE, QUICK, Played, Service, comes_true, free_ports, get, holds, link, needs, nginx, reply, same
 
 SEED = 20_000_101
 ORIGINALS = [f"http://{name}.example/" for name in ("a", "b", "c", "d", "e")]
@@ -226,7 +226,7 @@ def rounds_from_now(replicas, count):
 
 def soak(stack, seconds):
     one, two, three, for_peers = free_ports(4)
-    front = nginx(stack, [one, two], ("rate=20r/s", "rate=1000r/s"), ("127.0.0.1:8082", f"127.0.0.1:{for_peers}"))
+    front = nginx(stack, [one, two], *QUICK, ("127.0.0.1:8082", f"127.0.0.1:{for_peers}"))
     archives = [Archive(stack, "one.test"), Archive(stack, "two.test")]
     replicas = [Replica(stack, archives[0], (one, two, for_peers), f"http://127.0.0.1:{three}"),
                 Replica(stack, archives[1], (three,), f"http://127.0.0.1:{front}")]

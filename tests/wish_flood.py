@@ -7,12 +7,14 @@ becomes of other readers' wishes meanwhile.
 
 - Straight at the gates, as fast as they answer: the archive is asked for as many as `wishes` allows in a minute, and the service
   holds what docs/OPERATING.md says of `wanted`.
-- Through nginx, which lets one address ask so often: then wishes from other addresses are granted as ever.
+- Through nginx, which lets one address wish so often, by as many connections as it likes and with `wishes` as shipped: then wishes
+  from other addresses are granted as ever.
 
 The archive is an nginx that has what begins with http://real. and nothing else.
 """
 import collections
 import contextlib
+import itertools
 import pathlib
 import socket
 import subprocess
@@ -27,6 +29,8 @@ GATES = 3          # that are flooded; one gate more is for the others
 BATCH = 200        # requests that are sent at once over a connection that is kept
 WANTED = 500
 WISHES = 60_000    # that are taken in a minute
+SHIPPED = 60       # the same by deploy/settings.toml
+CROWD = 30         # connections by which one address asks nginx, more than it lets through
 MINUTE = 60        # seconds in which others' wishes are to be granted
 ENTRY = 3_072      # bytes that an original takes that is known of an archive, as docs/OPERATING.md says
 SLACK = 8_192      # KiB for what gates, workers and their threads hold once they have something to do
@@ -158,28 +162,29 @@ def try_front():
     """Through nginx, one address floods, and another one wishes."""
     with contextlib.ExitStack() as stack:
         archive = Archive(stack)
-        service = serve(stack, archive, 2, wanted=WANTED, wishes=3_000)
+        service = serve(stack, archive, 2, wanted=WANTED, wishes=SHIPPED)
         front = nginx(stack, service.ports)
-        ended, began, said = threading.Event(), time.monotonic(), collections.Counter()
+        ended, began, said, numbers = threading.Event(), time.monotonic(), collections.Counter(), itertools.count()
 
         def ask_on():
-            number = 0
+            # What still waits for its turn at the end is cut.
             while not ended.is_set():
-                number += 1
-                said[get(front, f"/timegate/http://made-up.example/{number}", "127.0.0.5")[0]] += 1
+                with contextlib.suppress(OSError):
+                    said[get(front, f"/timegate/http://made-up.example/{next(numbers)}", "127.0.0.5", 5 * PATIENCE)[0]] += 1
 
-        flood_of_one = threading.Thread(target=ask_on, daemon=True)
-        flood_of_one.start()
+        flood_of_one = [threading.Thread(target=ask_on, daemon=True) for _ in range(CROWD)]
+        for each in flood_of_one:
+            each.start()
         readers = Readers(front, "real.example")
         comes_true(lambda: len(readers.took) >= 5 and said.total() > 500)
         ended.set()
-        flood_of_one.join(PATIENCE)
-        most = 41 + 20 * (time.monotonic() - began) + 1
-        readers.end()
-        holds(f"of {said.total()} made-up addresses that one address asks nginx for {said[404]} come to the gates, and the others are refused",
-              set(said) == {404, 503} and said[404] <= most)
+        took = time.monotonic() - began
         made_up = sum("made-up" in original for original in archive.asked())
-        holds(f"so the archive was asked for {made_up}", made_up <= said[404])
+        most = 12 + 20 + 12 / 60 * took + 1
+        readers.end()
+        holds(f"of {said.total()} requests of one address in {took:.0f} s {said[404]} are answered and the others refused", set(said) == {404, 503})
+        # Planted: the 404 of a gate led on as it is, by which the flood has all of a minute's wishes.
+        holds(f"and archives are asked for {made_up} of its made-up addresses, at most {most:.0f}", 12 <= made_up <= most < SHIPPED)
         holds(f"from another address, {readers.told()}", len(readers.took) >= 5 and not readers.missed)
 
 

@@ -10,7 +10,7 @@ import re
 import subprocess
 import tempfile
 
-from playing import (BASE, PROGRAM, TOP, Played, ask, comes_true, free_ports, get, holds, link, needs, nginx, nginx_of_shards, reply, same,
+from playing import (BASE, PROGRAM, QUICK, TOP, Played, ask, comes_true, free_ports, get, holds, link, needs, nginx, nginx_of_shards, reply, same,
                      settings_text, start)
 import sharding
 
@@ -33,7 +33,7 @@ class Shards:
         for line in (self.folder / "programs").read_text().splitlines():
             self.serve(stack, line.split()[1])
         nginx_of_shards(stack, self.folder / "shards.conf", self.entry)
-        self.front = nginx(stack, [self.entry], ("rate=20r/s", "rate=1000r/s"))
+        self.front = nginx(stack, [self.entry], *QUICK)
 
     @staticmethod
     def answer(shard):

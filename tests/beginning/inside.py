@@ -21,7 +21,7 @@ WANTED = [
     ["settings ok: gates 3 archives 1 originals 2 peers 0", "round 1 jobs 2 harvests 2 pulls 0 published", "HTTP/1.1 302 ",
      "location: http://127.0.0.1:8100/web/2015"],
     ["200\n", f"1 archives: {NAME}\n"],
-    ["test is successful", "round 1 jobs 1 harvests 1 pulls 0 published", "HTTP/1.1 302 ", f"location: https://{NAME}/web/"],
+    ["test is successful", "round 1 jobs 1 harvests 1 pulls 0 published", "HTTP/2 302 ", f"location: https://{NAME}/web/"],
 ]
 
 

@@ -107,6 +107,28 @@ systemctl stop maplewrench.service
 rm -f $kept
 cp /root/settings.toml $etc/settings.toml
 
+# A second replica on this machine, by its own settings, with a watch of its own, and the first one as its peer.
+/usr/lib/maplewrench/archive 8100 >/dev/null &
+archive=$!
+waits "an archive" 60 curl -s -o /dev/null http://127.0.0.1:8100/
+sed -e '/^gates/{s/:8080/:8083/;s/:8081/:8084/;s/:8082/:8085/}' -e 's|^peers = .*|peers = ["http://127.0.0.1:8082"]|' \
+    -e 's/^originals = .*/originals = []/' -e 's/^snapshot_every = .*/snapshot_every = 1/' /root/settings.toml >$etc/two.toml
+systemctl start maplewrench.service maplewrench@two.service
+shows() { [ "$(curl -s -o /dev/null -w '%{http_code}' "http://127.0.0.1:$1/timegate/http://a.example/")" = 302 ]; }
+waits "the first shows what it harvested" 60 shows 8080
+waits "and the second what it has of the first" 60 shows 8083
+waits "each keeps what it knows in a folder of its own" 60 test -s /var/lib/maplewrench-two/maplewrench.snapshot
+[ "$(stat -c %a /var/lib/maplewrench-two)/$(systemctl show maplewrench@two --property=User --value)" = 700/maplewrench ] || fails "which nobody else may read"
+systemctl start maplewrench-watch@two.service || fails "its watch leaves it alone"
+has 'maplewrench@two.service has just been started' "$(journalctl --no-pager --output=cat -u maplewrench-watch@two)" || fails "and looks at it"
+systemctl stop maplewrench.service
+shows 8083 || fails "the second goes on while the first is stopped"
+systemctl stop maplewrench@two.service
+kill $archive
+[[ " $(systemctl show maplewrench@two --property=After --value) " = *" maplewrench-forward.service "* ]] || fails "it is started once the forward listens"
+holds "a second replica runs beside the first by a unit of its name, with a folder and a watch of its own"
+rm -f $kept
+
 # The forward's nginx and the readers' one.
 openssl req -x509 -newkey rsa:2048 -nodes -days 2 -subj /CN=localhost -addext subjectAltName=DNS:localhost \
     -keyout $etc/key.pem -out $etc/certificate.pem 2>/dev/null
@@ -128,6 +150,15 @@ systemctl daemon-reload
 status() { curl -sk -o /dev/null -w '%{http_code}' --max-time 20 "$1"; }
 is() { [ "$(status "$1")" = "$2" ]; }
 systemctl start maplewrench-forward.service || fails "the forward starts with a name that leads nowhere"
+# Planted: `Type=simple`, by which a start has ended before nginx listens, and the service's first round finds nobody there.
+listens() { is http://127.0.0.1:8100/good.test/timemap/link/http://a.example/ 200; }
+for _ in 1 2 3 4 5; do
+    systemctl reset-failed maplewrench-forward.service 2>/dev/null || true
+    systemctl restart maplewrench-forward.service
+    (exec 3<>/dev/tcp/127.0.0.1/8100) 2>/dev/null || fails "a start of the forward has ended before nginx listens"
+    listens || fails "and it leads on at once"
+done
+holds "once a start of the forward has ended it listens, five times of five"
 waits "the forward leads on" 60 is http://127.0.0.1:8100/good.test/timemap/link/http://a.example/ 200
 waits "but for that name" 60 is http://127.0.0.1:8100/nobody.test/timemap/link/http://a.example/ 502
 holds "an archive whose name leads nowhere keeps the forward from no other"
@@ -156,4 +187,15 @@ systemctl reload maplewrench-forward.service
 waits "what was written anew is taken in" 60 is http://127.0.0.1:8100/nobody.test/timemap/link/http://a.example/ 502
 [ "$(value maplewrench-forward MainPID)" = "$first" ] && is http://127.0.0.1:8100/good.test/timemap/link/http://a.example/ 200 || fails "reloaded"
 holds "the forward starts without readers' nginx, and can be reloaded"
+# Planted: a reload without `nginx -t`, which says that it succeeded and changes nothing, and a `-` before it.
+cp $etc/forward/nginx.conf /root/forward.conf
+sed -i 's/limit_conn archives/limit_konn archives/' $etc/forward/nginx.conf
+! systemctl reload maplewrench-forward.service 2>/dev/null || fails "a reload that nginx refuses fails"
+[ "$(value maplewrench-forward MainPID)/$(value maplewrench-forward ActiveState)" = "$first/active" ] && listens ||
+    fails "what ran before goes on: $(value maplewrench-forward ActiveState)"
+has 'unknown directive "limit_konn"' "$(journalctl --no-pager --output=cat -u maplewrench-forward)" || fails "and the journal says why"
+cp /root/forward.conf $etc/forward/nginx.conf
+systemctl reload maplewrench-forward.service || fails "and once it is mended a reload succeeds"
+listens || fails "and it leads on"
+holds "a reload that nginx refuses fails, and what ran before goes on"
 echo "bad settings ended the service once, memory was refused and nothing killed, and the two nginx kept out of each other's way"
