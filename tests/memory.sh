@@ -108,10 +108,11 @@ check_serving() {
     total=$((total + $(awk '/^(serve|wishes): / { sum += $2 } END { print sum }' "$work/served")))
 }
 
-# Settings with an entry that is no original: where a request is refused in looking for that entry, it isn't named.
+# Settings with an entry that is no original, and with a key that isn't looked at: where a request is refused in looking for
+# these, less is told.
 check_naming() {
-    local number count status named=0
-    sed 's|^originals = .*|originals = ["http://a.example/", "none"]|' "$top/deploy/settings.toml" >"$work/bad.toml"
+    local number count status named=0 held=0 holds='originals: 0 to 100000 addresses of http or https'
+    sed 's|^originals = .*|other = 1\noriginals = ["http://a.example/", "none"]|' "$top/deploy/settings.toml" >"$work/bad.toml"
     COUNT=$work/count LD_PRELOAD=$work/refuse.so "$PROGRAM" check "$work/bad.toml" 2>"$work/whole" || true
     count=$(cat "$work/count")
     for number in $(seq "$count"); do
@@ -120,12 +121,15 @@ check_naming() {
         case "$status $(cat "$work/err")" in
             "3 no memory") ;;
             "2 bad settings: originals") named=$((named + 1)) ;;
+            "2 bad settings: originals"$'\n'"$holds"$'\n''unknown key: other') held=$((held + 1)) ;;
             "2 $(cat "$work/whole")") ;;
             *) echo "a bad entry: request $number refused: status $status, $(cat "$work/err")" >&2; exit 1 ;;
         esac
     done
     grep -qx "originals: entry 2 is no original" "$work/whole" || { echo "a bad entry isn't named" >&2; exit 1; }
-    [ "$named" -gt 0 ] || { echo "nothing is refused where a bad entry is looked for" >&2; exit 1; }
+    grep -qx "unknown key: other" "$work/whole" || { echo "an unknown key isn't named" >&2; exit 1; }
+    [ "$named" -gt 0 ] || { echo "nothing is refused where unknown keys are looked for" >&2; exit 1; }
+    [ "$held" -gt 0 ] || { echo "nothing is refused where a bad entry is looked for" >&2; exit 1; }
     total=$((total + count))
     echo "a bad entry: $count requests for memory refused in turn"
 }

@@ -10,7 +10,7 @@ take aggregator
 usage='usage: aggregator [replay | serve FILE | check FILE]'
 
 # ends STATUS MESSAGE EXPECTED WORDS..: runs the program with these words on standard input, and compares how it ended.
-# MESSAGE is its one line on standard error, or empty for none; EXPECTED is a file with its standard output.
+# MESSAGE is what it says on standard error, or empty for nothing; EXPECTED is a file with its standard output.
 ends() {
     local status=0 said=$1 message=$2 expected=$3
     shift 3
@@ -53,8 +53,12 @@ ends 0 '' /dev/null replay </dev/null
 ends 2 'bad line 1' /dev/null replay <<<'replicas 17 http://agg.example'
 ends 2 'bad line 3' "$work/restarted" replay <<<$'replicas 1 http://agg.example\nrestart 1\nrestarts 1'
 ends 3 'device fault' /dev/null replay </
-ends 3 'device fault' /dev/null check "$work/none"
-ends 3 'device fault' /dev/null serve "$work/none"
+for word in check serve; do
+    ends 3 "device fault
+can't be read: $work/none" /dev/null $word "$work/none"
+    ends 3 "device fault
+can't be read: $work" /dev/null $word "$work"
+done
 ends 2 'bad settings: base' /dev/null check /dev/null
 status=0
 "$PROGRAM" replay <"$first.replay" >/dev/full 2>"$work/err" || status=$?

@@ -17,6 +17,34 @@ OWN = {"at_once": (1, 64), "tolerance": (1, 1_000_000_000), "dormant": (1, 86_40
        "again": (1, 2_592_000), "again_none": (1, 2_592_000), "publish": (1, 86_400), "pull": (1, 86_400)}    # numbers, with their limits
 OPTIONAL = {"patience", "hosts", "log", *OWN, "agent", "ready", "wanted", "wishes", "alike", "originals_file", "snapshot", "snapshot_every", "formats", "status", "together"}
 
+TELLING = {"tolerance", "again", "publish", "pull", "originals_file"}    # by which more is told than what is specified
+HOLDS = {    # what is told of a key that holds what it may not
+    "base": "a URL of http or https without a path",
+    "gates": "1 to 64 texts IP:PORT",
+    "connections": "a number from 1 to 1000000000",
+    "rounds": "a number from 1 to 1000000000",
+    "pause": "a number from 0 to 86400",
+    "workers": "a number from 1 to 64",
+    "originals": "0 to 100000 addresses of http or https",
+    "peers": "0 to 15 bases of http",
+    "archives": "0 to 1000 tables, each with a name of its own and a timemap of http",
+    "patience": "a number from 1 to 86400",
+    "hosts": "0 to 1000 hosts",
+    "log": "true or false",
+    **{key: f"a number from {least} to {most}" for key, (least, most) in OWN.items()},
+    "agent": "1 to 256 visible bytes of ASCII and blanks",
+    "ready": "true or false",
+    "wanted": "a number from 0 to 1000000",
+    "wishes": "a number from 1 to 60000",
+    "alike": "true or false",
+    "originals_file": "a path of 1 to 4096 bytes",
+    "snapshot": "a path of 1 to 4096 bytes",
+    "snapshot_every": "a number from 1 to 86400",
+    "formats": "0 to 2 of json and cdxj",
+    "status": "a text IP:PORT",
+    "together": "a number from 1 to 256",
+}
+
 SAMPLE = {
     "base": '"http://127.0.0.1:8080"',
     "gates": '["127.0.0.1:8080", "[::1]:8081"]',
@@ -167,12 +195,22 @@ def expect(what, text, wanted):
 
 
 def fault_of(key):
+    """What is said of settings of which this key is the first that holds what it may not."""
     return 2, "", f"bad settings: {key}\n"
+
+
+def told_of(key, unknown=("other",)):
+    """The same, if they say that more is told."""
+    return 2, "", f"bad settings: {key}\n{key}: {HOLDS[key]}\n{unknown_lines(unknown)}"
 
 
 def entry_of(number):
     """What is said of settings of which this entry of `originals` is the first that is none, if they say that more is told."""
-    return 2, "", f"bad settings: originals\noriginals: entry {number} is no original\n"
+    return 2, "", f"bad settings: originals\noriginals: entry {number} is no original\n{unknown_lines(['other'])}"
+
+
+def unknown_lines(keys):
+    return "".join(f"unknown key: {key}\n" for key in keys)
 
 
 def expect_entries():
@@ -187,10 +225,10 @@ def expect_entries():
     expect("the first of all", text_with(originals="[7]", again="60"), entry_of(1))
     expect("the last of all", text_with(originals=listed(2_000, lambda k: original(k) if k < 1_999 else '""'), again="60"), entry_of(2_000))
     expect("of two faults the first", text_with(originals="[{}]", again="0"), entry_of(1))
-    expect("no list has no entry", text_with(originals='"http://a.example/"', again="60"), fault_of("originals"))
-    expect("no key has none either", text_with(originals=None, again="60"), fault_of("originals"))
-    expect("nor is one of an earlier key told", text_with(originals=bad, workers="0", again="60"), fault_of("workers"))
-    expect("nor one of a later", text_with(peers='["x"]', again="60"), fault_of("peers"))
+    expect("no list has no entry", text_with(originals='"http://a.example/"', again="60"), told_of("originals"))
+    expect("no key has none either", text_with(originals=None, again="60"), told_of("originals"))
+    expect("nor is one of an earlier key told", text_with(originals=bad, workers="0", again="60"), told_of("workers"))
+    expect("nor one of a later", text_with(peers='["x"]', again="60"), told_of("peers"))
 
 
 def expect_lines():
@@ -216,6 +254,65 @@ def expect_lines():
                 sys.exit(1)
 
 
+def expect_unknown():
+    """Which keys aren't looked at is told where a key of this service's own says that more is told, and changes no status."""
+    def told(what, more, lines, count=1, **changed):
+        expect(what, text_with(other=None, again="60", **changed) + more, (*summary(archives=count)[:2], lines))
+
+    told("no unknown key", "", "")
+    expect("as it is specified", text_with(publsh="5"), summary())
+    expect("and by a key of which nothing is specified", text_with(publsh="5", at_once="1"), summary())
+    for key, value in {"tolerance": "5", "again": "60", "publish": "1", "pull": "1", "originals_file": '"/dev/null"'}.items():
+        expect(f"an unknown key with {key}", text_with(**{key: value}), (*summary()[:2], unknown_lines(["other"])))
+    told("in the order of their bytes", 'publsh = 5\nBase = 1\nworker = "x"\n[pauses]\nrounds = 1\n',
+         unknown_lines(["Base", "pauses", "publsh", "worker"]))
+    told("a part of a name, and more than a name", "log_ = 1\nlo = 1\n", unknown_lines(["lo", "log_"]))
+    told("twenty", "".join(f"x{k:02} = 1\n" for k in range(20)), unknown_lines(f"x{k:02}" for k in range(20)))
+    told("one more", "".join(f"x{k:02} = 1\n" for k in range(21)), unknown_lines(f"x{k:02}" for k in range(20)) + "unknown keys: 1 more\n")
+    told("many", "".join(f"x{k} = 1\n" for k in range(10_000, 90_000)),
+         unknown_lines(f"x{k}" for k in range(10_000, 10_020)) + "unknown keys: 79980 more\n")
+    archive = '{ name = "arc.example", timemap = "http://a/", at_once = 1, every = 5, %s }'
+    told("of archives", "", "".join(f"archives: {line}\n" for line in ("unknown key: evry", "unknown key: publish", "unknown key: evry")),
+         count=2, archives="[" + archive % "evry = 1, publish = 5" + ", " + archive.replace("arc", "b") % "evry = 7" + "]")
+    told("of archives behind the others", "x = 1\n", "unknown key: x\narchives: unknown key: y\n", archives="[" + archive % "y = 1" + "]")
+    told("a key behind the archives is one of the last of them", '[[archives]]\nname = "a"\ntimemap = "http://a/"\npublish = 5\n',
+         "archives: unknown key: publish\n", archives=None)
+    told("the keys of no table", "x = 1\n[x2]\ny = 1\n", unknown_lines(["x", "x2"]))
+    expect("behind a fault", text_with(again="60", pause=None, puase="60"), told_of("pause", ["other", "puase"]))
+    expect("of archives behind a fault", text_with(again="60", other=None, archives="[7, { nam = 1 }, { name = 1 }]"),
+           (2, "", f"bad settings: archives\narchives: {HOLDS['archives']}\narchives: unknown key: nam\n"))
+    expect("of no list", text_with(again="60", other=None, archives="{ nam = 1 }"), told_of("archives", []))
+    expect("none of what is no TOML", text_with(again="60") + "=", fault_of("text"))
+
+
+def expect_shown():
+    """What may be in a key, and in the name of a file, is shown so that nobody is misled."""
+    for key, line in (
+        ('""', ""),
+        ('"a b"', "a b"),
+        (r'"a\nunknown key: b"', r"a\x0aunknown key: b"),
+        (r'"\u001b[31mred\u0007"', r"\x1b[31mred\x07"),
+        (r'"back\\slash \"quoted\""', r'back\\slash "quoted"'),
+        (r'"\u007f\u0080"', r"\x7f\xc2\x80"),
+        ('"p\u0430use"', r"p\xd0\xb0use"),
+        (r'"\u202egnol"', r"\xe2\x80\xaegnol"),
+        ("k" * 64, "k" * 64),
+        ("k" * 65, "k" * 64 + ".. (65 bytes)"),
+        (f'"{"k" * 63}\u0430"', "k" * 63 + r"\xd0.. (65 bytes)"),
+        (f'"{"k" * 1_000_000}"', "k" * 64 + ".. (1000000 bytes)"),
+    ):
+        expect(f"the key {key[:80]}", text_with(other=None, again="60") + f"{key} = 1\n", (*summary()[:2], unknown_lines([line])))
+    with tempfile.TemporaryDirectory() as name:
+        for command in ("check", "serve"):
+            for word, line in (("nosuch.toml", "nosuch.toml"), (".", "."), ("no\nno gate", r"no\x0ano gate"), ("", ""),
+                               ("\u0430", r"\xd0\xb0"), ("a" * 5_000, "a" * 4_096 + ".. (5000 bytes)")):
+                ran = subprocess.run([PROGRAM, command, word], capture_output=True, text=True, check=False, cwd=name)
+                came = ran.returncode, ran.stdout, ran.stderr
+                if came != (3, "", f"device fault\ncan't be read: {line}\n"):
+                    print(f"{command} {word[:80]}: {came}")
+                    sys.exit(1)
+
+
 def summary(gates=2, archives=1, originals=1, peers=1):
     return 0, f"settings ok: gates {gates} archives {archives} originals {originals} peers {peers}\n", ""
 
@@ -228,11 +325,13 @@ def main():
         expect(f"no {key}", text_with(**{key: None}), summary() if key in OPTIONAL else fault_of(key))
         for value in TAKEN[key]:
             status, _, said = check(text_with(**{key: value}))
-            if (status, said) != (0, ""):
+            if (status, said) != (0, unknown_lines(["other"] if key in TELLING else [])):
                 print(f"{key} = {value[:80]}: {status}, {said}")
                 sys.exit(1)
         for value in REFUSED[key]:
-            expect(f"{key} = {value[:80]}", text_with(**{key: value}), fault_of(key))
+            expect(f"{key} = {value[:80]}", text_with(**{key: value}), told_of(key) if key in TELLING else fault_of(key))
+        if key != "originals":
+            expect(f"what {key} may hold", text_with(**{"again": "60", key: REFUSED[key][0]}), told_of(key))
     expect("no text", "", fault_of("base"))
     expect("of two faults the first in the order of the keys", text_with(workers="0", rounds="0"), fault_of("rounds"))
     expect("an optional key is looked for last", text_with(patience="0", archives="7"), fault_of("archives"))
@@ -249,6 +348,8 @@ def main():
     expect("as many bytes as may be", most, summary())
     expect("a byte more", most + "#", fault_of("text"))
     expect_entries()
+    expect_unknown()
+    expect_shown()
     expect_lines()
     rows = sum(len(rows[key]) for rows in (TAKEN, REFUSED) for key in rows)
     print(f"each key but the optional ones is missed by its name, and {rows} values stand on the right side of their limits")

@@ -1,16 +1,19 @@
 -- How the program ends if it fails: the failure that each fault is, the line on standard error, and the exit status.
-use Rattle.std.specs.Prelude.{ℕ, List, ◌++◌, codes}
+use Rattle.std.specs.Prelude.{◌≡◌, ℕ, List, [], ◌∷◌, ◌++◌, codes, string_bytes, String}
+use Rattle.std.specs.declared.alloc.Global.{Global}
 use Rattle.std.specs.Fmt.{decimal}
 use Rattle.replica_world.specs.declared.replaying.fault.ReplayFault.{ReplayFault}
 use Rattle.replica_world.specs.declared.replaying.fault.ReplayFault.TheVariants as fault
+use Rattle.service_settings.specs.Holding.{holding_words}
 use Rattle.service_settings.specs.Keys.{name_of}
+use Rattle.service_settings.specs.Shown.{shown}
 use Rattle.service_settings.specs.declared.fault.SettingsFault.{SettingsFault}
 use Rattle.service_settings.specs.declared.fault.SettingsFault.TheVariants as settings
 use Rattle.service_threads.specs.declared.faults.ServeFault.{ServeFault}
 use Rattle.service_threads.specs.declared.faults.ServeFault.TheVariants as serve
 use Rattle.aggregator.specs.declared.failure.Failure.{Failure}
-use Rattle.aggregator.specs.declared.failure.Failure.TheVariants.{Usage, BadLine, BadText, BadKey, BadOriginal, NoGate, Device}
-use Rattle.aggregator.specs.declared.failure.Failure.TheVariants.{NoMemory}
+use Rattle.aggregator.specs.declared.failure.Failure.TheVariants.{Usage, BadLine, BadText, BadKey, BadValue, BadOriginal}
+use Rattle.aggregator.specs.declared.failure.Failure.TheVariants.{NoGate, Device, Unread, NoMemory}
 
 -- how a replay's fault ends the program
 abbrev pub failure_of : ReplayFault → Failure
@@ -31,15 +34,28 @@ failure_of_serving serve.NoGate = NoGate
 failure_of_serving serve.Device = Device
 failure_of_serving serve.NoMemory = NoMemory
 
--- what stands on standard error, but for the LF at its end: one line, or two if an entry of `originals` is told
+-- lines behind another one, each after a LF
+abbrev pub behind : List (String Global) → List ℕ
+behind [] = []
+behind (line ∷ lines) = codes "\n" ++ string_bytes line ++ behind lines
+
+-- the most bytes of a file's name that are shown
+abbrev pub most_of_name : ℕ
+most_of_name = 4096
+
+-- what stands on standard error, but for the LF at its end: one line, and behind it what more is told
 abbrev pub message_of : Failure → List ℕ
 message_of Usage = codes "usage: aggregator [replay | serve FILE | check FILE]"
 message_of (BadLine number) = codes "bad line " ++ decimal number
 message_of BadText = codes "bad settings: text"
 message_of (BadKey key) = codes "bad settings: " ++ name_of key
-message_of (BadOriginal number) = codes "bad settings: originals\noriginals: entry " ++ decimal number ++ codes " is no original"
+message_of (BadValue key unknown) =
+    codes "bad settings: " ++ name_of key ++ codes "\n" ++ name_of key ++ codes ": " ++ holding_words key ++ behind unknown.items
+message_of (BadOriginal number unknown) =
+    codes "bad settings: originals\noriginals: entry " ++ decimal number ++ codes " is no original" ++ behind unknown.items
 message_of NoGate = codes "no gate"
 message_of Device = codes "device fault"
+message_of (Unread file) = codes "device fault\ncan't be read: " ++ string_bytes file
 message_of NoMemory = codes "no memory"
 
 -- 2 for wrong input, 3 for a device, a gate or memory
@@ -48,7 +64,16 @@ status_of Usage = 2
 status_of (BadLine number) = 2
 status_of BadText = 2
 status_of (BadKey key) = 2
-status_of (BadOriginal number) = 2
+status_of (BadValue key unknown) = 2
+status_of (BadOriginal number unknown) = 2
 status_of NoGate = 3
 status_of Device = 3
+status_of (Unread file) = 3
 status_of NoMemory = 3
+
+-- how the program ends if the settings in a file with this name can't be read
+abbrev pub IsUnread : List ℕ → Failure → Type 0
+IsUnread name (Unread file) = string_bytes file ≡ shown most_of_name name
+IsUnread name Device = Unit {0}
+IsUnread name NoMemory = Unit {0}
+IsUnread name _ = ⊥

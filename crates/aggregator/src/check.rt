@@ -1,21 +1,33 @@
 //! `check FILE`: reads settings, and says what they hold, and which lines of their file of originals hold none.
 use crate::failure::Failure;
+use crate::telling::write_lines;
 use aggregator_service::check_list;
-use service_settings::{Key, MAX_TEXT, Settings, SettingsFault, bad_original, read_settings};
+use service_settings::{
+    Key, MAX_TEXT, Settings, SettingsFault, bad_original, read_settings, unknown_keys,
+};
 use std::alloc::Global;
+use std::fs;
 use std::io::{self, Read, Write};
 use std::rt::Files;
-use std::{fs, str};
 
 /// Reads the settings of a file, and writes how many gates, archives, originals and peers they name. If they name a
-/// file of originals, it writes which of its lines hold none.
-pub(crate) fn check<R: Files + AllocGlobal, W: Write>(
+/// file of originals, it writes which of its lines hold none. Which keys aren't looked at goes to `err`, if that is to
+/// be told.
+pub(crate) fn check<R: Files + AllocGlobal, W: Write, E: Write>(
     rt: &R,
     file: &str,
     out: &mut W,
+    err: &mut E,
 ) -> Result<(), Failure> {
-    let settings = settings_in(rt, file)?;
-    say_what_they_hold(rt, &settings, out)
+    let text = text_in(rt, file)?;
+    let settings = settings_of(rt.alloc(), text.as_str())?;
+    let unknown = unknown_keys(rt.alloc(), text.as_str())?;
+    say_what_they_hold(rt, &settings, out)?;
+    if let Some(lines) = unknown {
+        // Whether standard error can be written changes nothing.
+        let _ = write_lines(rt.alloc(), "", &lines, err);
+    }
+    Ok(())
 }
 
 /// Writes how many gates, archives, originals and peers these settings name, and which lines of their file of originals
@@ -32,29 +44,46 @@ fn say_what_they_hold<R: Files + AllocGlobal, W: Write>(
     Ok(())
 }
 
-/// The settings in a file.
-pub(crate) fn settings_in<R: Files + AllocGlobal>(rt: &R, file: &str) -> Result<Settings, Failure> {
+/// The text of settings in a file.
+pub(crate) fn text_in<R: Files + AllocGlobal>(rt: &R, file: &str) -> Result<String, Failure> {
     let bytes = match read_file(rt, file) {
         Ok(bytes) => bytes,
-        Err(error) => return Err(Failure::of_device(&error)),
+        Err(error) => return Err(Failure::of_file(rt.alloc(), &error, file)),
     };
-    let Ok(text) = str::from_utf8(&bytes) else {
-        return Err(Failure::BadText);
-    };
-    match read_settings(rt.alloc(), text) {
+    match String::from_utf8(bytes) {
+        Ok(text) => Ok(text),
+        Err(_) => Err(Failure::BadText),
+    }
+}
+
+/// The settings of a text.
+pub(crate) fn settings_of(alloc: Global, text: &str) -> Result<Settings, Failure> {
+    match read_settings(alloc, text) {
         Ok(settings) => Ok(settings),
-        Err(SettingsFault::Key(Key::Originals)) => Err(bad_originals(rt.alloc(), text)),
+        Err(SettingsFault::Key(key)) => Err(bad_key(alloc, text, key)),
         Err(fault) => Err(Failure::from(fault)),
     }
 }
 
-/// The fault of the key `originals`, with the number of the first entry that is none, if that is to be told.
-fn bad_originals(alloc: Global, text: &str) -> Failure {
-    match bad_original(alloc, text) {
+/// The fault of a key, with what is told behind what is specified, if that is to be told.
+fn bad_key(alloc: Global, text: &str, key: Key) -> Failure {
+    let Ok(Some(unknown)) = unknown_keys(alloc, text) else {
+        return Failure::BadKey(key);
+    };
+    match number_of_bad(alloc, text, key) {
         Some(number) => Failure::BadOriginal {
             number: number as u64,
+            unknown,
         },
-        None => Failure::BadKey(Key::Originals),
+        None => Failure::BadValue { key, unknown },
+    }
+}
+
+/// The number of the first entry of `originals` that is none, if that is the key.
+fn number_of_bad(alloc: Global, text: &str, key: Key) -> Option<usize> {
+    match key {
+        Key::Originals => bad_original(alloc, text),
+        _ => None,
     }
 }
 

@@ -1,11 +1,13 @@
 //! How the program fails: what it says on standard error, and its exit status.
 ghost use Rattle.std.specs.Prelude.{◌≡◌, Some};
 ghost use Rattle.std.specs.Process.{exit_status};
-ghost use Rattle.aggregator.specs.Ending.{failure_of, failure_of_serving, failure_of_settings, message_of, status_of};
+ghost use Rattle.aggregator.specs.Ending.{IsUnread, failure_of, failure_of_serving, failure_of_settings, message_of, status_of};
 
-use service_threads::ServeFault;
+use crate::telling::Behind;
 use replica_world::ReplayFault;
-use service_settings::{Key, SettingsFault};
+use service_settings::{Holding, Key, SettingsFault, shown};
+use service_threads::ServeFault;
+use std::alloc::{AllocError, Global};
 use std::process::ExitCode;
 use std::{fmt, io};
 
@@ -15,7 +17,10 @@ const BAD_INPUT: u8 = 2;
 /// A device failed, a gate couldn't be had, or memory was refused.
 const BAD_MACHINE: u8 = 3;
 
-#[derive(Clone, Copy, Debug, PartialEq, Eq)]
+/// The most bytes of a file's name that are shown.
+const MOST_SHOWN: usize = 4_096;
+
+#[derive(Drop)]
 pub(crate) enum Failure {
     /// The words of the command line ask for something that doesn't exist.
     Usage,
@@ -25,28 +30,36 @@ pub(crate) enum Failure {
     BadText,
     /// The settings lack this key, or it holds what it may not.
     BadKey(Key),
-    /// The entry of `originals` with this number, from 1 on, is none.
-    BadOriginal { number: u64 },
+    /// The same, where more is told: what the key may hold, and lines about the keys that aren't looked at.
+    BadValue { key: Key, unknown: Vec<String> },
+    /// The entry of `originals` with this number, from 1 on, is none. More is told: lines about the keys that aren't
+    /// looked at.
+    BadOriginal { number: u64, unknown: Vec<String> },
     /// A gate can't be bound, opened, or given a thread.
     NoGate,
     /// Reading or writing failed.
     Device,
+    /// The settings can't be read. This is the name of their file, as it is shown.
+    Unread { file: String },
     /// The allocator refused a growth.
     NoMemory,
 }
 
 impl Failure {
     /// The exit status: 2 for wrong input, 3 for a device, a gate or memory.
-    pub(crate) fn status(self) -> ExitCode
-        ensures { exit_status result ≡ status_of self }
+    pub(crate) fn status(&self) -> ExitCode
+        ensures { exit_status result ≡ status_of self.now }
     {
         match self {
             Failure::Usage
             | Failure::BadLine { .. }
             | Failure::BadText
             | Failure::BadKey(_)
+            | Failure::BadValue { .. }
             | Failure::BadOriginal { .. } => ExitCode::from(BAD_INPUT),
-            Failure::NoGate | Failure::Device | Failure::NoMemory => ExitCode::from(BAD_MACHINE),
+            Failure::NoGate | Failure::Device | Failure::Unread { .. } | Failure::NoMemory => {
+                ExitCode::from(BAD_MACHINE)
+            }
         }
     }
 }
@@ -60,12 +73,25 @@ impl fmt::Display for Failure {
             Failure::BadLine { number } => write!(f, "bad line {number}"),
             Failure::BadText => f.write_str("bad settings: text"),
             Failure::BadKey(key) => write!(f, "bad settings: {}", key.name()),
-            Failure::BadOriginal { number } => write!(
-                f,
-                "bad settings: originals\noriginals: entry {number} is no original"
-            ),
+            Failure::BadValue { key, unknown } => {
+                let (holding, behind) = (Holding(*key), Behind(unknown.as_slice()));
+                write!(
+                    f,
+                    "bad settings: {}\n{}: {holding}{behind}",
+                    key.name(),
+                    key.name()
+                )
+            }
+            Failure::BadOriginal { number, unknown } => {
+                let behind = Behind(unknown.as_slice());
+                write!(
+                    f,
+                    "bad settings: originals\noriginals: entry {number} is no original{behind}"
+                )
+            }
             Failure::NoGate => f.write_str("no gate"),
             Failure::Device => f.write_str("device fault"),
+            Failure::Unread { file } => write!(f, "device fault\ncan't be read: {file}"),
             Failure::NoMemory => f.write_str("no memory"),
         }
     }
@@ -107,6 +133,14 @@ impl From<ServeFault> for Failure {
     }
 }
 
+impl From<AllocError> for Failure {
+    ghost from_gives = { λ _ failure. failure ≡ Failure.NoMemory };
+
+    fn from(_refused: AllocError) -> Failure {
+        Failure::NoMemory
+    }
+}
+
 impl Failure {
     /// Why the words of the command line couldn't be read: memory was refused, or a word isn't UTF-8.
     pub(crate) fn of_words(error: &io::Error) -> Failure {
@@ -116,7 +150,20 @@ impl Failure {
         }
     }
 
-    /// Why a file or a device couldn't be read or written.
+    /// Why settings couldn't be read from the file with this name. Where memory is refused for the name, it isn't told.
+    pub(crate) fn of_file(alloc: Global, error: &io::Error, file: &str) -> Failure
+        ensures { IsUnread file.now result }
+    {
+        match error.kind() {
+            io::ErrorKind::OutOfMemory => Failure::NoMemory,
+            _ => match shown(alloc, file, MOST_SHOWN) {
+                Ok(file) => Failure::Unread { file },
+                Err(_) => Failure::Device,
+            },
+        }
+    }
+
+    /// Why a device couldn't be read or written.
     pub(crate) fn of_device(error: &io::Error) -> Failure {
         match error.kind() {
             io::ErrorKind::OutOfMemory => Failure::NoMemory,

@@ -1,13 +1,15 @@
 //! The program: what the words of its command line ask for, and what it says and returns when it ends.
 //!
 //! Standard output gets what the command writes and nothing else. A failure is one line on standard error, after the
-//! log if the settings ask for one; a second tells which entry of `originals` is none, if the settings have a key by
-//! which more is told.
+//! log if the settings ask for one. Behind it stands what more is told: which file can't be read; and, if the settings
+//! have a key by which more is told, what the key may hold or which entry of `originals` is none, and which keys aren't
+//! looked at.
 #![tactic(auto)]
 
 mod check;
 mod failure;
 mod serve;
+mod telling;
 mod words;
 
 use crate::check::check;
@@ -45,7 +47,9 @@ fn replay_input(rt: &HostRuntime) -> Result<(), Failure> {
 fn main(rt: HostRuntime) -> ExitCode {
     let ended = match command_of(&rt) {
         Ok(Command::Replay) => replay_input(&rt),
-        Ok(Command::Check(file)) => check(&rt, file.as_str(), &mut rt.stdout()),
+        Ok(Command::Check(file)) => {
+            check(&rt, file.as_str(), &mut rt.stdout(), &mut rt.stderr())
+        }
         Ok(Command::Serve(file)) => serve_file(&rt, file.as_str(), rt.stdout(), rt.stderr()),
         Err(failure) => Err(failure),
     };

@@ -1,5 +1,5 @@
 -- The keys of settings.
-use Rattle.std.specs.Prelude.{ℕ, List, codes}
+use Rattle.std.specs.Prelude.{ℕ, List, [], ◌∷◌, Bool, false, ◌||◌, bytes_eq, codes}
 use Rattle.service_settings.specs.declared.fault.Key.{Key}
 use Rattle.service_settings.specs.declared.fault.Key.TheVariants as key
 
@@ -37,3 +37,20 @@ name_of key.SnapshotEvery = codes "snapshot_every"
 name_of key.Formats = codes "formats"
 name_of key.Status = codes "status"
 name_of key.Together = codes "together"
+
+-- all keys, in the order in which they are looked for
+abbrev pub all_keys : List Key
+all_keys =
+    key.Base ∷ key.Gates ∷ key.Connections ∷ key.Rounds ∷ key.Pause ∷ key.Workers ∷ key.Originals ∷ key.Peers ∷
+    key.Archives ∷ key.Patience ∷ key.Hosts ∷ key.Log ∷ key.AtOnce ∷ key.Tolerance ∷ key.Dormant ∷ key.Walk ∷
+    key.Rate ∷ key.Again ∷ key.AgainNone ∷ key.Publish ∷ key.Pull ∷ key.Agent ∷ key.Ready ∷ key.Wanted ∷ key.Wishes ∷
+    key.Alike ∷ key.OriginalsFile ∷ key.Snapshot ∷ key.SnapshotEvery ∷ key.Formats ∷ key.Status ∷ key.Together ∷ []
+
+-- the text is the name of one of these keys
+abbrev pub names_one : List ℕ → List Key → Bool
+names_one text [] = false
+names_one text (k ∷ ks) = bytes_eq (name_of k) text || names_one text ks
+
+-- the text is the name of a key
+unfoldable pub is_name : List ℕ → Bool
+is_name text = names_one text all_keys

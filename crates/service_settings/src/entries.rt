@@ -1,24 +1,31 @@
 //! Which entry of `originals` keeps settings from being read.
-ghost use Rattle.std.specs.Prelude.{◌≡◌, IfSome};
+ghost use Rattle.std.specs.Prelude.{◌≡◌, IfSome, is_some};
+ghost use Rattle.toml.specs.Data.{get_member};
+ghost use Rattle.toml.specs.View.{table_view};
 ghost use Rattle.service_settings.specs.Entries.{IsBadOriginal};
+ghost use Rattle.service_settings.specs.Keys.{name_of};
+ghost use Rattle.service_settings.specs.Unknown as spec;
 
 use crate::fault::Key;
 use original_list::bad_entry;
 use std::alloc::Global;
 use toml::Table;
 
-/// The keys of this service's own by which more is told than what is specified.
-const TELLING: [Key; 5] = [
-    Key::Tolerance,
-    Key::Again,
-    Key::Publish,
-    Key::Pull,
-    Key::OriginalsFile,
-];
+/// Whether settings have one of the keys of this service's own by which more is told than what is specified.
+pub(crate) fn tells_more(table: &Table) -> bool
+    ensures { result ≡ spec.tells_more (table_view table.now) }
+{
+    has(table, Key::Tolerance)
+        || has(table, Key::Again)
+        || has(table, Key::Publish)
+        || has(table, Key::Pull)
+        || has(table, Key::OriginalsFile)
+}
 
-/// Whether one of these keys is there.
-fn tells_more(table: &Table) -> bool {
-    TELLING.iter().any(|key| table.get(key.name()).is_some())
+fn has(table: &Table, key: Key) -> bool
+    ensures { result ≡ is_some (get_member (name_of key) (table_view table.now)) }
+{
+    table.get(key.name()).is_some()
 }
 
 /// The number of the first entry of `originals` that is no original, from 1 on, where the settings have a key by which

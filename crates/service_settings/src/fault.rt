@@ -1,6 +1,6 @@
 //! Why a text gives no settings.
-ghost use Rattle.std.specs.Prelude.{◌≡◌};
-ghost use Rattle.service_settings.specs.Keys.{name_of};
+ghost use Rattle.std.specs.Prelude.{◌≡◌, IfSome, is_some};
+ghost use Rattle.service_settings.specs.Keys.{is_name, name_of};
 ghost use Rattle.service_settings.specs.Limits.{limits};
 
 use harvester::MAX_WORKERS;
@@ -68,6 +68,55 @@ pub enum Key {
 }
 
 impl Key {
+    /// All keys.
+    pub const ALL: [Key; 32] = [
+        Key::Base,
+        Key::Gates,
+        Key::Connections,
+        Key::Rounds,
+        Key::Pause,
+        Key::Workers,
+        Key::Originals,
+        Key::Peers,
+        Key::Archives,
+        Key::Patience,
+        Key::Hosts,
+        Key::Log,
+        Key::AtOnce,
+        Key::Tolerance,
+        Key::Dormant,
+        Key::Walk,
+        Key::Rate,
+        Key::Again,
+        Key::AgainNone,
+        Key::Publish,
+        Key::Pull,
+        Key::Agent,
+        Key::Ready,
+        Key::Wanted,
+        Key::Wishes,
+        Key::Alike,
+        Key::OriginalsFile,
+        Key::Snapshot,
+        Key::SnapshotEvery,
+        Key::Formats,
+        Key::Status,
+        Key::Together,
+    ];
+
+    /// The key with this name.
+    pub fn named(text: &str) -> Option<Key>
+        ensures found { IfSome result (λ key. name_of key ≡ text.now) }
+        ensures known { is_some result ≡ is_name text.now }
+    {
+        for key in &Key::ALL {
+            if key.name() == text {
+                return Some(*key);
+            }
+        }
+        None
+    }
+
     /// The key as it is written.
     pub fn name(self) -> &'static str
         ensures { result.now ≡ name_of self }

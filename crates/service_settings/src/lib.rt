@@ -3,13 +3,16 @@
 //! `read_settings` gives `Settings` only if each key holds what it may: keys are looked for in the order of `Key`, and
 //! the fault is the first that is missing or holds what it may not. `Key::limits` says how much each may hold.
 //!
-//! In three groups:
+//! In four groups:
 //!
 //! - the whole: `settings` (all of them, and how they are read), `fault` (the keys, their limits, and why a text gives
-//!   no settings) and `entries` (which entry of the originals is none);
+//!   no settings);
 //! - what stands at one key: `values` (numbers, and lists of texts), `archives` and `hosts`;
 //! - the keys that are this service's own, by what they are for: `asking`, `timing`, `wishing`, `storing` and
-//!   `showing`.
+//!   `showing`;
+//! - what is told beside the fault: `entries` (which entry of the originals is none, and where more is told at all),
+//!   `unknown` (which keys aren't looked at), `holding` (what a key may hold, in words) and `printing` (how a text is
+//!   shown that may hold anything).
 //!
 //! What follows from the definitions is in `laws`.
 #![tactic(auto)]
@@ -18,12 +21,15 @@ mod archives;
 mod asking;
 mod entries;
 mod fault;
+mod holding;
 mod hosts;
 mod laws;
+mod printing;
 mod settings;
 mod showing;
 mod storing;
 mod timing;
+mod unknown;
 mod values;
 mod wishing;
 
@@ -31,8 +37,11 @@ pub use archives::Archive;
 pub use asking::Asking;
 pub use entries::bad_original;
 pub use fault::{Key, SettingsFault};
-pub use laws::limits_by_example;
+pub use holding::Holding;
+pub use laws::{limits_by_example, unknown_keys_are_no_names};
+pub use printing::shown;
 pub use settings::{MAX_TEXT, Settings, read_settings};
 pub use storing::Storing;
 pub use timing::Timing;
+pub use unknown::unknown_keys;
 pub use wishing::Wishing;

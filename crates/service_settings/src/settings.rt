@@ -1,7 +1,7 @@
 //! All settings, and how they are read.
 //!
 //! Keys are looked for in the order of `Key`. The fault is the first key that is missing or holds what it may not. An
-//! optional key may be missing. Other keys aren't looked at.
+//! optional key may be missing. Other keys aren't looked at: `unknown_keys` tells which.
 ghost use Rattle.std.specs.Prelude.{◌≡◌, ◌<◌, IfOk, IfSome, length};
 ghost use Rattle.std.proofs.Props.{props};
 ghost use Rattle.service_settings.specs.Limits.{IsWithin};
