@@ -5,12 +5,13 @@ use text_fields::{
     read_decimal, split_once, write_decimal,
 };
 
+/// The greatest number, `u64::MAX`.
+const MOST: &[u8] = b"18446744073709551615";
+
 #[test]
-fn decimals(rt: HostRuntime) -> Result<(), Fail> {
+fn decimals(rt: HostRuntime) {
     decimals_are_read_back();
-    let most = b"18446744073709551615";
-    assert!(rt; read_decimal(b"0") == Some(0));
-    assert!(rt; read_decimal(most) == Some(u64::MAX));
+    assert!(rt; read_decimal(b"0") == Some(0) && read_decimal(MOST) == Some(u64::MAX));
     for text in [
         b"18446744073709551616".as_slice(),
         b"",
@@ -20,23 +21,29 @@ fn decimals(rt: HostRuntime) -> Result<(), Fail> {
     ] {
         assert!(rt; read_decimal(text).is_none());
     }
+}
+
+/// Each is written behind what stands there.
+#[test]
+fn written_decimals(rt: HostRuntime) -> Result<(), Fail> {
     let mut out = Vec::new(rt.alloc());
-    write_decimal(&mut out, 0)?;
-    assert!(rt; out.as_slice() == b"0".as_slice());
-    write_decimal(&mut out, u64::MAX)?;
-    assert!(rt; &out[1..] == most.as_slice());
+    for number in [0, u64::MAX] {
+        write_decimal(&mut out, number)?;
+    }
+    assert!(rt; out.strip_prefix(b"0".as_slice()) == Some(MOST));
     Ok(())
 }
 
 #[test]
 fn leading_decimals(rt: HostRuntime) {
-    let most = b"18446744073709551615/";
-    assert!(rt; leading_decimal(b"0:7") == Some((0, b":7".as_slice())));
-    assert!(rt; leading_decimal(b"1262304000 x") == Some((1_262_304_000, b" x".as_slice())));
-    assert!(rt;
-        leading_decimal(b"9999999999999999999") == Some((9_999_999_999_999_999_999, b"".as_slice()))
-    );
-    assert!(rt; leading_decimal(most) == Some((u64::MAX, b"/".as_slice())));
+    for (text, number, rest) in [
+        (b"0:7".as_slice(), 0, b":7".as_slice()),
+        (b"1262304000 x", 1_262_304_000, b" x"),
+        (b"9999999999999999999", 9_999_999_999_999_999_999, b""),
+        (b"18446744073709551615/", u64::MAX, b"/"),
+    ] {
+        assert!(rt; leading_decimal(text) == Some((number, rest)), "{number}");
+    }
     for text in [
         b"18446744073709551616".as_slice(),
         b"100000000000000000000 ",

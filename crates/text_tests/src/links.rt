@@ -13,6 +13,14 @@ fn count_of(rt: &HostRuntime, text: &[u8]) -> Option<usize> {
     read_links(rt.alloc(), text).ok().map(|links| links.len())
 }
 
+/// Whether a value is there, and says this.
+fn is_value_of(value: Option<Vec<u8>>, wanted: &[u8]) -> bool {
+    match value {
+        Some(value) => value.as_slice() == wanted,
+        None => false,
+    }
+}
+
 /// `front`, then `piece` `times` times.
 fn repeated(rt: &HostRuntime, front: &[u8], piece: &[u8], times: usize) -> Result<Vec<u8>, Fail> {
     let mut text = Vec::from_slice(rt.alloc(), front)?;
@@ -51,10 +59,13 @@ const PLACES: [(&[u8], usize); 21] = [
 #[test]
 fn says_where_reading_stopped(rt: HostRuntime) -> Result<(), Fail> {
     for (text, at) in PLACES {
-        assert_eq!(rt; fault_of(&rt, text), Some(LinkFault::NotLinkFormat { at }));
+        assert!(rt;
+            fault_of(&rt, text) == Some(LinkFault::NotLinkFormat { at }),
+            "{at}"
+        );
     }
     let text = format!(in rt.alloc(); "{}", LinkFault::NotLinkFormat { at: 9 })?;
-    assert_eq!(rt; text.as_str(), "not link-format, at byte 9");
+    assert!(rt; text.as_str() == "not link-format, at byte 9");
     Ok(())
 }
 
@@ -66,7 +77,7 @@ fn counts_links(rt: HostRuntime) {
         (b",,<a>;;,", 1),
         (b"<a>,<b>", 2),
     ] {
-        assert_eq!(rt; count_of(&rt, text), Some(count));
+        assert!(rt; count_of(&rt, text) == Some(count), "{count}");
     }
 }
 
@@ -80,40 +91,72 @@ fn is_token_byte(byte: u8) -> bool {
     byte.is_ascii_alphanumeric() || b"!#$%&'()*+-./:<=>?@[]^_`{|}~".contains(&byte)
 }
 
-#[test]
-fn knows_the_bytes(rt: HostRuntime) {
-    for b in 0..=255_u8 {
-        assert_eq!(rt; is_name(&[b]), is_name_byte(b));
-        let token = [b'<', b'a', b'>', b';', b'x', b'=', b];
-        assert_eq!(rt; fault_of(&rt, &token).is_none(), is_token_byte(b));
-        let is_blank = b" \t\r\n".contains(&b);
-        assert_eq!(rt; is_value(&[b]), is_blank || (b >= b' ' && b != 0x7F));
-        assert_eq!(rt; is_target(&[b]), b >= b' ' && b != b'>' && b != 0x7F);
-        let after = [b, b'<', b'a', b'>'];
-        let is_between = is_blank || b == b',' || b == b'<';
-        assert_eq!(rt; fault_of(&rt, &after).is_none(), is_between);
-    }
+fn is_blank(byte: u8) -> bool {
+    b" \t\r\n".contains(&byte)
+}
+
+/// A byte of a quoted value: any but controls that are no blanks.
+fn is_value_byte(byte: u8) -> bool {
+    is_blank(byte) || (byte >= b' ' && byte != 0x7F)
+}
+
+fn is_target_byte(byte: u8) -> bool {
+    byte >= b' ' && byte != b'>' && byte != 0x7F
+}
+
+/// A byte that may stand before a link.
+fn is_between(byte: u8) -> bool {
+    is_blank(byte) || byte == b',' || byte == b'<'
+}
+
+fn is_read(rt: &HostRuntime, text: &[u8]) -> bool {
+    fault_of(rt, text).is_none()
 }
 
 #[test]
+fn knows_the_bytes(rt: HostRuntime) {
+    for b in 0..=255_u8 {
+        assert!(rt; is_name(&[b]) == is_name_byte(b), "{b}");
+        assert!(rt;
+            is_read(&rt, &[b'<', b'a', b'>', b';', b'x', b'=', b]) == is_token_byte(b),
+            "{b}"
+        );
+        assert!(rt; is_value(&[b]) == is_value_byte(b), "{b}");
+        assert!(rt; is_target(&[b]) == is_target_byte(b), "{b}");
+        assert!(rt;
+            is_read(&rt, &[b, b'<', b'a', b'>']) == is_between(b),
+            "{b}"
+        );
+    }
+}
+
+/// Two links, of which the second has three parameters.
+const TWO_LINKS: &[u8] = b",,<a>;;, <b\xC3\xA9> ; REL = x;rel=y; bare";
+
+const ACCENTED: &[u8] = b"b\xC3\xA9";
+
+#[test]
 fn reads_the_parts_of_a_link(rt: HostRuntime) -> Result<(), Fail> {
-    let text = b",,<a>;;, <b\xC3\xA9> ; REL = x;rel=y; bare";
-    let links = read_links(rt.alloc(), text)?;
-    assert_eq!(rt; links.len(), 2);
-    assert_eq!(rt; links.params(0), 0);
-    assert_eq!(rt; links.target(1), b"b\xC3\xA9".as_slice());
-    assert_eq!(rt; links.params(1), 3);
-    assert_eq!(rt; links.name(1, 2), b"bare".as_slice());
-    let first = links.value(1, b"rel")?;
-    assert!(rt; first.is_some_and(|value| value.as_slice() == b"x".as_slice()));
+    let links = read_links(rt.alloc(), TWO_LINKS)?;
+    assert!(rt; links.len() == 2);
+    assert!(rt; links.params(0) == 0 && links.params(1) == 3);
+    assert!(rt; links.target(1) == ACCENTED && links.name(1, 2) == b"bare".as_slice());
+    assert!(rt; is_value_of(links.value(1, b"rel")?, b"x"));
+    assert!(rt; links.link(1).target() == ACCENTED);
+    Ok(())
+}
+
+/// A parameter without a value has an empty one, whatever the case of its name, and one that isn't there has none.
+#[test]
+fn reads_bare_parameters(rt: HostRuntime) -> Result<(), Fail> {
+    let links = read_links(rt.alloc(), TWO_LINKS)?;
+    assert!(rt; links.len() == 2);
     let link = links.link(1);
-    assert_eq!(rt; link.target(), b"b\xC3\xA9".as_slice());
     let is_bare = match link.value_ref(b"Bare")? {
         Some(value) => value.len() == 0,
         None => false,
     };
-    assert!(rt; is_bare);
-    assert!(rt; link.value(b"type")?.is_none());
+    assert!(rt; is_bare && link.value(b"type")?.is_none());
     Ok(())
 }
 
@@ -124,15 +167,21 @@ fn next_target<'a>(links: &mut LinkReader<'a>) -> Result<Option<&'a [u8]>, LinkF
 #[test]
 fn reads_one_link_after_another(rt: HostRuntime) -> Result<(), Fail> {
     let mut links = LinkReader::new(rt.alloc(), b"<a>;b, ,<c>,");
-    assert!(rt; next_target(&mut links)? == Some(b"a".as_slice()));
-    assert!(rt; next_target(&mut links)? == Some(b"c".as_slice()));
-    assert!(rt; next_target(&mut links)?.is_none());
-    assert!(rt; next_target(&mut links)?.is_none());
+    for target in [Some(b"a".as_slice()), Some(b"c"), None, None] {
+        assert!(rt; next_target(&mut links)? == target);
+    }
+    Ok(())
+}
+
+/// A fault is told again and again.
+#[test]
+fn reads_no_further_than_a_fault(rt: HostRuntime) -> Result<(), Fail> {
     let mut links = LinkReader::new(rt.alloc(), b"<a>,<b");
     assert!(rt; next_target(&mut links)? == Some(b"a".as_slice()));
     let unfinished = Some(LinkFault::NotLinkFormat { at: 6 });
-    assert!(rt; links.read().err() == unfinished);
-    assert!(rt; links.read().err() == unfinished);
+    for _ in 0..2 {
+        assert!(rt; links.read().err() == unfinished);
+    }
     Ok(())
 }
 
@@ -157,42 +206,82 @@ fn a_reader_tells_the_first_fault(rt: HostRuntime) -> Result<(), Fail> {
     text.extend_from_slice(b",<")?;
     let unfinished = LinkFault::NotLinkFormat { at: text.len() };
     assert!(rt; last_fault(&rt, &text) == (1, Some(unfinished)));
-    let most = repeated(&rt, b"<a>", b",<a>", 199_999)?;
-    assert!(rt; last_fault(&rt, &most) == (200_000, None));
-    let more = repeated(&rt, b"<a>", b",<a>", 200_000)?;
-    assert!(rt; last_fault(&rt, &more) == (200_000, Some(LinkFault::TooManyLinks)));
     Ok(())
 }
 
-/// Each limit of a text: `front` and, so often, `piece`, and `end`; what reading one piece more says.
+#[test]
+fn a_reader_tells_of_too_many_links(rt: HostRuntime) -> Result<(), Fail> {
+    for (times, fault) in [(199_999, None), (200_000, Some(LinkFault::TooManyLinks))] {
+        let text = repeated(&rt, b"<a>", b",<a>", times)?;
+        assert!(rt; last_fault(&rt, &text) == (200_000, fault));
+    }
+    Ok(())
+}
+
+/// A limit of a text: `front`, `piece` so often, and `end`; what reading one piece more says.
+#[derive(Clone, Copy)]
+struct Limit {
+    front: &'static [u8],
+    piece: &'static [u8],
+    times: usize,
+    end: &'static [u8],
+    fault: LinkFault,
+}
+
+const LIMITS: [Limit; 3] = [
+    Limit {
+        front: b"<a>",
+        piece: b";x=y",
+        times: 32,
+        end: b" ",
+        fault: LinkFault::TooManyParams,
+    },
+    Limit {
+        front: b"<",
+        piece: b"a",
+        times: 8_192,
+        end: b">",
+        fault: LinkFault::TargetTooLong,
+    },
+    Limit {
+        front: b"<>",
+        piece: b",<>",
+        times: 199_999,
+        end: b"",
+        fault: LinkFault::TooManyLinks,
+    },
+];
+
+/// What reading a text of so many pieces says.
+fn fault_at(rt: &HostRuntime, limit: Limit, times: usize) -> Result<Option<LinkFault>, Fail> {
+    let mut text = repeated(rt, limit.front, limit.piece, times)?;
+    text.extend_from_slice(limit.end)?;
+    Ok(fault_of(rt, &text))
+}
+
 #[test]
 fn keeps_the_limits(rt: HostRuntime) -> Result<(), Fail> {
-    let limits = [
-        (
-            b"<a>".as_slice(),
-            b";x=y".as_slice(),
-            32,
-            b" ".as_slice(),
-            LinkFault::TooManyParams,
-        ),
-        (b"<", b"a", 8_192, b">", LinkFault::TargetTooLong),
-        (b"<>", b",<>", 199_999, b"", LinkFault::TooManyLinks),
-    ];
-    for (front, piece, times, end, fault) in limits {
-        let mut text = repeated(&rt, front, piece, times)?;
-        text.extend_from_slice(end)?;
-        assert_eq!(rt; fault_of(&rt, &text), None);
-        let mut text = repeated(&rt, front, piece, times + 1)?;
-        text.extend_from_slice(end)?;
-        assert_eq!(rt; fault_of(&rt, &text), Some(fault));
+    for limit in LIMITS {
+        assert!(rt; fault_at(&rt, limit, limit.times)?.is_none());
+        assert!(rt; fault_at(&rt, limit, limit.times.saturating_add(1))? == Some(limit.fault));
     }
+    Ok(())
+}
+
+/// What follows the most links is reported with its place.
+#[test]
+fn reads_behind_the_most_links(rt: HostRuntime) -> Result<(), Fail> {
     let mut links = repeated(&rt, b"<>", b",<>", 199_999)?;
-    assert_eq!(rt; count_of(&rt, &links), Some(200_000));
+    assert!(rt; count_of(&rt, &links) == Some(200_000));
     links.extend_from_slice(b",<>x")?;
-    let fault = LinkFault::NotLinkFormat { at: 600_002 };
-    assert_eq!(rt; fault_of(&rt, &links), Some(fault));
+    assert!(rt; fault_of(&rt, &links) == Some(LinkFault::NotLinkFormat { at: 600_002 }));
+    Ok(())
+}
+
+#[test]
+fn commas_are_no_links(rt: HostRuntime) -> Result<(), Fail> {
     let commas = repeated(&rt, b"", b",", 1_000_000)?;
-    assert_eq!(rt; count_of(&rt, &commas), Some(0));
+    assert!(rt; count_of(&rt, &commas) == Some(0));
     Ok(())
 }
 
@@ -236,8 +325,8 @@ fn reads_rel_and_datetime(rt: HostRuntime) -> Result<(), Fail> {
         let mut text = Vec::from_slice(rt.alloc(), b"<a>")?;
         text.extend_from_slice(params)?;
         let links = read_links(rt.alloc(), &text)?;
-        assert_eq!(rt; links.len(), 1);
-        assert_eq!(rt; links.params(0), count);
+        assert!(rt; links.len() == 1);
+        assert!(rt; links.params(0) == count);
         let found = links.link(0).rel_and_datetime()?;
         assert!(rt; says(&found.0, rel) && says(&found.1, datetime));
     }
@@ -248,7 +337,7 @@ fn reads_rel_and_datetime(rt: HostRuntime) -> Result<(), Fail> {
 #[test]
 fn copies_only_what_is_escaped(rt: HostRuntime) -> Result<(), Fail> {
     let links = read_links(rt.alloc(), b"<a>;x=\"b c\";y=\"b\\ \\\"c\"")?;
-    assert_eq!(rt; links.len(), 1);
+    assert!(rt; links.len() == 1);
     let link = links.link(0);
     let lent = match link.value_ref(b"x")? {
         Some(CowSlice::Borrowed(value)) => value == b"b c".as_slice(),
@@ -260,8 +349,7 @@ fn copies_only_what_is_escaped(rt: HostRuntime) -> Result<(), Fail> {
         _ => false,
     };
     assert!(rt; unescaped);
-    let copied = link.value(b"y")?;
-    assert!(rt; copied.is_some_and(|value| value.as_slice() == b"b \"c".as_slice()));
+    assert!(rt; is_value_of(link.value(b"y")?, b"b \"c"));
     Ok(())
 }
 
@@ -271,10 +359,9 @@ fn reads_back_what_it_writes(rt: HostRuntime) -> Result<(), Fail> {
     let mut text = Vec::new(rt.alloc());
     write_target(&mut text, b"x")?;
     write_param(&mut text, b"t", b"a\"b\\c")?;
-    assert_eq!(rt; text.as_slice(), b"<x>; t=\"a\\\"b\\\\c\"".as_slice());
+    assert!(rt; text.as_slice() == b"<x>; t=\"a\\\"b\\\\c\"".as_slice());
     let links = read_links(rt.alloc(), &text)?;
-    assert_eq!(rt; links.len(), 1);
-    let title = links.value(0, b"t")?;
-    assert!(rt; title.is_some_and(|value| value.as_slice() == b"a\"b\\c".as_slice()));
+    assert!(rt; links.len() == 1);
+    assert!(rt; is_value_of(links.value(0, b"t")?, b"a\"b\\c"));
     Ok(())
 }

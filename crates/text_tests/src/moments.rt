@@ -98,23 +98,38 @@ fn letters(alloc: Global, count: usize) -> Result<Vec<u8>, AllocError> {
     vec![in alloc; b'x'; count]
 }
 
+/// Whether so many letters are a clean text.
+fn are_clean(alloc: Global, count: usize) -> Result<bool, Fail> {
+    Ok(Clean::new(alloc, &letters(alloc, count)?).is_ok())
+}
+
+/// Whether so many letters are an original.
+fn are_original(alloc: Global, count: usize) -> Result<bool, Fail> {
+    Ok(Original::new(alloc, &letters(alloc, count)?).is_ok())
+}
+
+/// Whether so many letters are an archive's name.
+fn are_name(alloc: Global, count: usize) -> Result<bool, Fail> {
+    Ok(ArchiveName::new(&letters(alloc, count)?).is_some())
+}
+
 #[test]
 fn limits_of_texts(rt: HostRuntime) -> Result<(), Fail> {
-    let alloc = rt.alloc();
-    assert!(rt; Clean::new(alloc, &letters(alloc, 8192)?).is_ok());
-    assert!(rt; Clean::new(alloc, &letters(alloc, 8193)?).is_err());
-    assert!(rt; Original::new(alloc, &letters(alloc, 4096)?).is_ok());
-    assert!(rt; Original::new(alloc, &letters(alloc, 4097)?).is_err());
-    for text in [b"".as_slice(), b"a b"] {
-        assert!(rt; Clean::new(alloc, text).is_err() && !is_clean(text));
-    }
+    assert!(rt; are_clean(rt.alloc(), 8192)? && !are_clean(rt.alloc(), 8193)?);
+    assert!(rt; are_original(rt.alloc(), 4096)? && !are_original(rt.alloc(), 4097)?);
     Ok(())
 }
 
 #[test]
+fn texts_that_are_not_clean(rt: HostRuntime) {
+    for text in [b"".as_slice(), b"a b"] {
+        assert!(rt; Clean::new(rt.alloc(), text).is_err() && !is_clean(text));
+    }
+}
+
+#[test]
 fn limits_of_names(rt: HostRuntime) -> Result<(), Fail> {
-    assert!(rt; ArchiveName::new(&letters(rt.alloc(), 64)?).is_some());
-    assert!(rt; ArchiveName::new(&letters(rt.alloc(), 65)?).is_none());
+    assert!(rt; are_name(rt.alloc(), 64)? && !are_name(rt.alloc(), 65)?);
     for name in [b"".as_slice(), b"A", b"_", b"/", b" "] {
         assert!(rt; ArchiveName::new(name).is_none());
     }

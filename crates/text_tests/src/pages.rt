@@ -1,6 +1,7 @@
 //! Pages of archives, and originals, as they are read (`timemap_reader`).
 use crate::makers::{FIRST_DAY, THIRD_DAY};
 use link_format::LinkFault;
+use std::alloc::Global;
 use std::test::Fail;
 use timemap_reader::{OriginalFault, Page, PageFault, read_original, read_page};
 
@@ -110,14 +111,14 @@ fn cuts_with(rt: &HostRuntime, wanted: Cut) -> usize {
 /// the place where more is missing: within a target or a quoted value, or behind `=`. The numbers are another reader's.
 #[test]
 fn cut_pages(rt: HostRuntime) -> Result<(), Fail> {
-    assert_eq!(rt; LAYOUT.len(), 293);
+    assert!(rt; LAYOUT.len() == 293);
     for (wanted, cuts) in [
         (Cut::Read(0), 46),
         (Cut::Read(1), 22),
         (Cut::Read(2), 3),
         (Cut::Missing, 223),
     ] {
-        assert_eq!(rt; cuts_with(&rt, wanted), cuts);
+        assert!(rt; cuts_with(&rt, wanted) == cuts, "{wanted:?}");
     }
     Ok(())
 }
@@ -273,8 +274,21 @@ fn limits_of_links(rt: HostRuntime) -> Result<(), Fail> {
         body.push_str(end)?;
         assert!(rt; read(&rt, body.as_bytes()).err() == Some(PageFault::Links(fault)));
     }
-    let printed = format!(in rt.alloc(); "{}", PageFault::Links(LinkFault::TooManyLinks))?;
-    assert_eq!(rt; printed.as_str(), "more than 200,000 links");
+    Ok(())
+}
+
+#[test]
+fn printed_faults(rt: HostRuntime) -> Result<(), Fail> {
+    for (fault, text) in [
+        (
+            PageFault::Links(LinkFault::TooManyLinks),
+            "more than 200,000 links",
+        ),
+        (PageFault::BadBase, "a base that is no http or https URL"),
+    ] {
+        let printed = format!(in rt.alloc(); "{fault}")?;
+        assert!(rt; printed.as_str() == text, "{text}");
+    }
     Ok(())
 }
 
@@ -283,14 +297,15 @@ fn fault_of_base(rt: &HostRuntime, base: &str, body: &[u8]) -> Option<PageFault>
 }
 
 #[test]
-fn bases(rt: HostRuntime) -> Result<(), Fail> {
+fn bases(rt: HostRuntime) {
     let bad_text = PageFault::Links(LinkFault::NotLinkFormat { at: 0 });
-    assert!(rt; fault_of_base(&rt, "ftp://arc/", b"x") == Some(bad_text));
-    assert!(rt; fault_of_base(&rt, "ftp://arc/", b"") == Some(PageFault::BadBase));
-    assert!(rt; fault_of_base(&rt, "list", b"") == Some(PageFault::BadBase));
-    let printed = format!(in rt.alloc(); "{}", PageFault::BadBase)?;
-    assert_eq!(rt; printed.as_str(), "a base that is no http or https URL");
-    Ok(())
+    for (base, body, fault) in [
+        ("ftp://arc/", b"x".as_slice(), bad_text),
+        ("ftp://arc/", b"", PageFault::BadBase),
+        ("list", b"", PageFault::BadBase),
+    ] {
+        assert!(rt; fault_of_base(&rt, base, body) == Some(fault), "{base}");
+    }
 }
 
 /// A base has at most 8,192 bytes: 11, and so many more.
@@ -306,12 +321,18 @@ fn limits_of_bases(rt: HostRuntime) -> Result<(), Fail> {
 /// A quotation mark in a target is written as three bytes: 8,192 bytes once it is, and one more.
 #[test]
 fn limits_of_addresses(rt: HostRuntime) -> Result<(), Fail> {
-    let longest = long_text(&rt, "http://m/\"", "x", 8_180)?;
-    assert!(rt; count(&rt, longest.as_bytes(), "rel=memento")? == (1, 0, 0));
-    assert!(rt; count(&rt, longest.as_bytes(), "rel=timemap")? == (0, 1, 0));
-    let longer = long_text(&rt, "http://m/\"", "x", 8_181)?;
-    assert!(rt; count(&rt, longer.as_bytes(), "rel=memento")? == (0, 0, 1));
-    assert!(rt; count(&rt, longer.as_bytes(), "rel=timemap")? == (0, 0, 1));
+    for (letters, params, counts) in [
+        (8_180, "rel=memento", (1, 0, 0)),
+        (8_180, "rel=timemap", (0, 1, 0)),
+        (8_181, "rel=memento", (0, 0, 1)),
+        (8_181, "rel=timemap", (0, 0, 1)),
+    ] {
+        let target = long_text(&rt, "http://m/\"", "x", letters)?;
+        assert!(rt;
+            count(&rt, target.as_bytes(), params)? == counts,
+            "{letters}"
+        );
+    }
     Ok(())
 }
 
@@ -327,6 +348,11 @@ fn originals(rt: HostRuntime) -> Result<(), Fail> {
         let read = read_original(rt.alloc(), text)?;
         assert!(rt; read.as_bytes() == original.as_bytes(), "{text}");
     }
+    Ok(())
+}
+
+#[test]
+fn texts_that_are_no_originals(rt: HostRuntime) -> Result<(), Fail> {
     let refused = [
         ("ftp://a/", OriginalFault::NotHttp),
         ("", OriginalFault::NotUrl),
@@ -339,22 +365,34 @@ fn originals(rt: HostRuntime) -> Result<(), Fail> {
         );
     }
     let printed = format!(in rt.alloc(); "{}", OriginalFault::NotHttp)?;
-    assert_eq!(rt; printed.as_str(), "not an http or https URL");
+    assert!(rt; printed.as_str() == "not an http or https URL");
     Ok(())
+}
+
+/// How many bytes the original of a text has.
+fn length_of(alloc: Global, text: &str) -> Result<usize, OriginalFault> {
+    Ok(read_original(alloc, text)?.as_bytes().len())
 }
 
 /// An original has at most 4,096 bytes as it is sent, and as it is written: a letter of two bytes is written as six.
 #[test]
 fn limits_of_originals(rt: HostRuntime) -> Result<(), Fail> {
-    let alloc = rt.alloc();
+    for (start, piece, count, length) in [
+        ("http://a/", "x", 4_087, Ok(4_096)),
+        ("http://a/", "x", 4_088, Err(OriginalFault::TooLong)),
+        ("http://a/1", "\u{E9}", 681, Ok(4_096)),
+        ("http://a/12", "\u{E9}", 681, Err(OriginalFault::TooLong)),
+    ] {
+        let text = long_text(&rt, start, piece, count)?;
+        assert!(rt; length_of(rt.alloc(), &text) == length, "{start} {count}");
+    }
+    Ok(())
+}
+
+/// The longest is written as it was sent.
+#[test]
+fn a_long_original(rt: HostRuntime) -> Result<(), Fail> {
     let longest = long_text(&rt, "http://a/", "x", 4_087)?;
-    assert!(rt; read_original(alloc, &longest)?.as_bytes() == longest.as_bytes());
-    let grown = long_text(&rt, "http://a/1", "\u{E9}", 681)?;
-    assert!(rt; read_original(alloc, &grown)?.as_bytes().len() == 4_096);
-    let too_long = Some(OriginalFault::TooLong);
-    let longer = long_text(&rt, "http://a/", "x", 4_088)?;
-    assert!(rt; read_original(alloc, &longer).err() == too_long);
-    let grown = long_text(&rt, "http://a/12", "\u{E9}", 681)?;
-    assert!(rt; read_original(alloc, &grown).err() == too_long);
+    assert!(rt; read_original(rt.alloc(), &longest)?.as_bytes() == longest.as_bytes());
     Ok(())
 }

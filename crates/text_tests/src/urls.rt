@@ -6,7 +6,7 @@ use url_texts::{join_url, read_url};
 fn texts_are_urls_or_none(rt: HostRuntime) -> Result<(), Fail> {
     let alloc = rt.alloc();
     let url = read_url(alloc, "HTTP://A.example:80/b c")?.ok_or("no URL")?;
-    assert_eq!(rt; url.as_str(), "http://a.example/b%20c");
+    assert!(rt; url.as_str() == "http://a.example/b%20c");
     assert!(rt; read_url(alloc, "/b")?.is_none());
     assert!(rt; read_url(alloc, "http://a b/")?.is_none());
     Ok(())
@@ -16,7 +16,7 @@ fn texts_are_urls_or_none(rt: HostRuntime) -> Result<(), Fail> {
 fn targets_are_joined_to_a_base(rt: HostRuntime) -> Result<(), Fail> {
     let base = read_url(rt.alloc(), "http://a/b/c")?.ok_or("the base is no URL")?;
     let url = join_url(&base, "../d?e")?.ok_or("no URL")?;
-    assert_eq!(rt; url.as_str(), "http://a/d?e");
+    assert!(rt; url.as_str() == "http://a/d?e");
     assert!(rt; join_url(&base, "//a b/")?.is_none());
     Ok(())
 }

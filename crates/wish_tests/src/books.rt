@@ -2,7 +2,7 @@
 use anyhow::{Context, Result};
 use hyper_edge::Answers;
 use knowledge_tests::makers::{get, request};
-use memento_time::{Items, Octets};
+use memento_time::{Items, Octets, Original};
 use original_sets::OriginalSet;
 use published_index::GateFault;
 use std::alloc::{AllocGlobal, Global};
@@ -79,26 +79,32 @@ where
 #[test]
 fn a_closed_book_takes_nothing(rt: HostRuntime) -> Result<()> {
     let book = WishBook::closed();
-    assert!(rt; !book.is_open());
-    assert!(rt; !book.share()?.is_open());
-    assert_eq!(rt; book.note(original(rt.alloc(), A)?, false, 60), None);
+    assert!(rt; !book.is_open() && !book.share()?.is_open());
+    assert!(rt; book.note(original(rt.alloc(), A)?, false, 60).is_none());
     assert!(rt; book.grant(&rt).is_none());
-    assert_eq!(rt; ask(&rt, &book, 404, b"/timegate/http://a.example/")?, 404);
+    assert!(rt; ask(&rt, &book, 404, b"/timegate/http://a.example/")? == 404);
     Ok(())
 }
 
-/// What a book decides on wishes, one after the other: each for an original of which something is shown or nothing, and
-/// in its second.
-fn decide(
-    alloc: Global,
-    book: &WishBook,
-    made: &[(&[u8], bool, u64)],
-) -> Result<Vec<Option<Decision>>> {
-    let mut decisions = Vec::new(alloc);
-    for (uri, is_shown, second) in made {
-        decisions.push(book.note(original(alloc, uri)?, *is_shown, *second))?;
+/// A wish: for an original of which something is shown or nothing, and in its second; and what a book decides on it.
+type Made = (&'static [u8], bool, u64, Decision);
+
+/// Whether a book decides just this on these wishes, one after the other.
+fn decides(alloc: Global, book: &WishBook, made: &[Made]) -> Result<bool> {
+    for (uri, is_shown, second, decision) in made {
+        if book.note(original(alloc, uri)?, *is_shown, *second) != Some(*decision) {
+            return Ok(false);
+        }
     }
-    Ok(decisions)
+    Ok(true)
+}
+
+/// Whether there is an original, and it is this one.
+fn is(found: Option<Original>, wanted: &Original) -> bool {
+    match found {
+        Some(found) => found == *wanted,
+        None => false,
+    }
 }
 
 #[test]
@@ -108,17 +114,11 @@ fn a_wish_goes_through_a_book(rt: HostRuntime) -> Result<()> {
     let book = book_in(&rt)?;
     assert!(rt; book.is_open());
     let other = book.share()?;
-    assert_eq!(rt;
-        other.note(original(alloc, A)?, false, 60),
-        Some(Decision::Added)
-    );
-    assert_eq!(rt;
-        book.note(original(alloc, A)?, false, 60),
-        Some(Decision::Waits)
-    );
-    assert!(rt; book.grant(&rt).context("no wish")? == a);
+    assert!(rt; decides(alloc, &other, &[(A, false, 60, Decision::Added)])?);
+    assert!(rt; decides(alloc, &book, &[(A, false, 60, Decision::Waits)])?);
+    assert!(rt; is(book.grant(&rt), &a));
     book.put_back(&rt, &a);
-    assert!(rt; book.grant(&rt).context("no wish")? == a);
+    assert!(rt; is(book.grant(&rt), &a));
     Ok(())
 }
 
@@ -126,18 +126,14 @@ fn a_wish_goes_through_a_book(rt: HostRuntime) -> Result<()> {
 fn a_wish_that_ended_is_fresh(rt: HostRuntime) -> Result<()> {
     let alloc = rt.alloc();
     let book = book_in(&rt)?;
-    let _ = decide(alloc, &book, &[(A, false, 60)])?;
+    assert!(rt; decides(alloc, &book, &[(A, false, 60, Decision::Added)])?);
     book.end(&rt, &original(alloc, A)?, true, FOUND, 60);
-    let made = [(A, true, 1_059), (B, true, 60), (B, true, 120)];
-    assert_eq!(rt;
-        decide(alloc, &book, &made)?.as_slice(),
-        [
-            Some(Decision::Fresh),
-            Some(Decision::Late),
-            Some(Decision::Added)
-        ]
-        .as_slice()
-    );
+    let made = [
+        (A, true, 1_059, Decision::Fresh),
+        (B, true, 60, Decision::Late),
+        (B, true, 120, Decision::Added),
+    ];
+    assert!(rt; decides(alloc, &book, &made)?);
     Ok(())
 }
 
@@ -145,16 +141,13 @@ fn a_wish_that_ended_is_fresh(rt: HostRuntime) -> Result<()> {
 fn a_wish_that_asked_nobody_gives_its_place_back(rt: HostRuntime) -> Result<()> {
     let alloc = rt.alloc();
     let book = book_in(&rt)?;
-    let _ = decide(alloc, &book, &[(B, true, 120)])?;
+    assert!(rt; decides(alloc, &book, &[(B, true, 120, Decision::Added)])?);
     let spared = Outcome {
         is_asked: false,
         ..FOUND
     };
     book.end(&rt, &original(alloc, B)?, true, spared, 120);
-    assert_eq!(rt;
-        decide(alloc, &book, &[(A, false, 120)])?.as_slice(),
-        [Some(Decision::Added)].as_slice()
-    );
+    assert!(rt; decides(alloc, &book, &[(A, false, 120, Decision::Added)])?);
     Ok(())
 }
 
@@ -163,18 +156,12 @@ fn a_book_has_room_and_what_rounds_look_after(rt: HostRuntime) -> Result<()> {
     let alloc = rt.alloc();
     let book = book_in(&rt)?;
     book.set_room(&rt, 0);
-    assert_eq!(rt;
-        book.note(original(alloc, A)?, false, 60),
-        Some(Decision::Full)
-    );
-    assert_eq!(rt; book.turned_away(&rt), 1);
+    assert!(rt; decides(alloc, &book, &[(A, false, 60, Decision::Full)])?);
+    assert!(rt; book.turned_away(&rt) == 1);
     let mut listed = OriginalSet::with_room(alloc, 1, RandomState::new(&rt)?)?;
     assert!(rt; listed.insert(original_sets::Key::new(&original(alloc, A)?)?)?);
     book.set_listed(&rt, listed);
-    assert_eq!(rt;
-        book.note(original(alloc, A)?, true, 60),
-        Some(Decision::Listed)
-    );
+    assert!(rt; decides(alloc, &book, &[(A, true, 60, Decision::Listed)])?);
     Ok(())
 }
 
@@ -187,11 +174,11 @@ fn a_gate_notes_what_it_is_asked_for_in_vain(rt: HostRuntime) -> Result<()> {
         (400, b"/timegate/http://a.example/".as_slice()),
         (405, b"/timegate/http://a.example/".as_slice()),
     ] {
-        assert_eq!(rt; ask(&rt, &book, status, target)?, status);
+        assert!(rt; ask(&rt, &book, status, target)? == status);
         assert!(rt; book.grant(&rt).is_none());
     }
-    assert_eq!(rt; ask(&rt, &book, 404, b"/timegate/http://a.example/")?, 404);
-    assert!(rt; book.grant(&rt).context("no wish")? == original(rt.alloc(), A)?);
+    assert!(rt; ask(&rt, &book, 404, b"/timegate/http://a.example/")? == 404);
+    assert!(rt; is(book.grant(&rt), &original(rt.alloc(), A)?));
     Ok(())
 }
 
@@ -202,24 +189,28 @@ fn a_gate_notes_what_it_shows(rt: HostRuntime) -> Result<()> {
         (200, b"/timemap/link/http://a.example/".as_slice()),
     ] {
         let book = book_in(&rt)?;
-        assert_eq!(rt; ask(&rt, &book, status, target)?, status);
-        assert!(rt; book.grant(&rt).context("no wish")? == original(rt.alloc(), A)?);
+        assert!(rt; ask(&rt, &book, status, target)? == status);
+        assert!(rt; is(book.grant(&rt), &original(rt.alloc(), A)?));
     }
     Ok(())
 }
 
+/// The original that a request by this method for a target asks for, if it asks for one.
+fn asked_by(alloc: Global, method: &[u8], target: &[u8]) -> Result<Option<Original>> {
+    let request = request(alloc, method, target, &[])?;
+    Ok(asked_original(alloc, &request)?)
+}
+
 #[test]
 fn a_request_asks_for_an_original(rt: HostRuntime) -> Result<()> {
-    let alloc = rt.alloc();
-    let a = original(alloc, A)?;
+    let a = original(rt.alloc(), A)?;
     for target in [
         b"/timegate/http://a.example/".as_slice(),
         b"/timemap/link/http://a.example/".as_slice(),
     ] {
-        let asked = asked_original(alloc, &request(alloc, b"HEAD", target, &[])?)?;
-        assert!(rt; asked.context("no original")? == a);
-        let asked = asked_original(alloc, &request(alloc, b"POST", target, &[])?)?;
-        assert!(rt; asked.is_none());
+        let asked = asked_by(rt.alloc(), b"HEAD", target)?;
+        assert!(rt; is(asked, &a));
+        assert!(rt; asked_by(rt.alloc(), b"POST", target)?.is_none());
     }
     Ok(())
 }

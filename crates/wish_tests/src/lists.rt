@@ -8,6 +8,15 @@ use std::hash::RandomState;
 use std::test::*;
 use text_tests::makers::original;
 
+/// Whether these are the addresses of a list, in this order.
+fn are(list: &[Original], texts: &[&[u8]]) -> bool {
+    list.len() == texts.len()
+        && list
+            .iter()
+            .zip(texts)
+            .all(|(original, text)| original.as_bytes() == *text)
+}
+
 /// The originals of these texts.
 fn originals(alloc: Global, texts: &[&[u8]]) -> Result<Vec<Original>> {
     let mut list = Vec::new(alloc);
@@ -17,16 +26,25 @@ fn originals(alloc: Global, texts: &[&[u8]]) -> Result<Vec<Original>> {
     Ok(list)
 }
 
+fn has(set: &OriginalSet, original: &Original) -> Result<bool> {
+    Ok(set.has(&Key::new(original)?))
+}
+
+/// Whether the original is new to the set.
+fn insert(set: &mut OriginalSet, original: &Original) -> Result<bool> {
+    Ok(set.insert(Key::new(original)?)?)
+}
+
 #[test]
 fn a_set_has_each_original_once(rt: HostRuntime) -> Result<()> {
     let alloc = rt.alloc();
     let a = original(alloc, b"http://a.example/")?;
+    let b = original(alloc, b"http://b.example/")?;
     let mut set = OriginalSet::with_room(alloc, 0, RandomState::new(&rt)?)?;
-    assert!(rt; !set.has(&Key::new(&a)?));
-    assert!(rt; set.insert(Key::new(&a)?)?);
-    assert!(rt; !set.insert(Key::new(&a)?)?);
-    assert!(rt; set.has(&Key::new(&a)?));
-    assert!(rt; !set.has(&Key::new(&original(alloc, b"http://b.example/")?)?));
+    assert!(rt; !has(&set, &a)?);
+    assert!(rt; insert(&mut set, &a)?);
+    assert!(rt; !insert(&mut set, &a)?);
+    assert!(rt; has(&set, &a)? && !has(&set, &b)?);
     Ok(())
 }
 
@@ -43,15 +61,12 @@ fn two_lists_are_one_in_which_none_stands_twice(rt: HostRuntime) -> Result<()> {
         ],
     )?;
     let list = each_once(alloc, &first, &second, RandomState::new(&rt)?)?;
-    let wanted = originals(
-        alloc,
-        &[
-            b"http://a.example/",
-            b"http://b.example/",
-            b"http://c.example/",
-        ],
-    )?;
-    assert!(rt; list == wanted);
+    let wanted = [
+        b"http://a.example/".as_slice(),
+        b"http://b.example/",
+        b"http://c.example/",
+    ];
+    assert!(rt; are(&list, &wanted));
     Ok(())
 }
 
@@ -74,10 +89,13 @@ fn a_text_has_originals_and_bad_lines(rt: HostRuntime) -> Result<()> {
         alloc,
         b"http://a.example/\n\nnothing\nhttp://b.example/\nnone",
     )?;
-    let wanted = originals(alloc, &[b"http://a.example/", b"http://b.example/"])?;
-    assert!(rt; listed.originals == wanted);
-    assert!(rt; listed.bad.as_slice() == [3, 5].as_slice());
-    assert_eq!(rt; listed.bad_count, 2);
+    assert!(rt;
+        are(
+            &listed.originals,
+            &[b"http://a.example/", b"http://b.example/"]
+        )
+    );
+    assert!(rt; listed.bad.as_slice() == [3, 5].as_slice() && listed.bad_count == 2);
     Ok(())
 }
 
@@ -85,15 +103,12 @@ fn a_text_has_originals_and_bad_lines(rt: HostRuntime) -> Result<()> {
 fn an_original_has_three_other_spellings(rt: HostRuntime) -> Result<()> {
     let alloc = rt.alloc();
     let list = spellings_of(alloc, &original(alloc, b"http://a.example/x")?)?;
-    let wanted = originals(
-        alloc,
-        &[
-            b"https://a.example/x",
-            b"http://www.a.example/x",
-            b"https://www.a.example/x",
-        ],
-    )?;
-    assert!(rt; list == wanted);
+    let wanted = [
+        b"https://a.example/x".as_slice(),
+        b"http://www.a.example/x",
+        b"https://www.a.example/x",
+    ];
+    assert!(rt; are(&list, &wanted));
     assert!(rt; spellings_of(alloc, &original(alloc, b"http://a.example:81/")?)?.is_empty());
     Ok(())
 }
@@ -104,9 +119,13 @@ fn the_first_bad_one_is_told_by_its_number(rt: HostRuntime) -> Result<()> {
     let text =
         "good = [\"http://a.example/\"]\nbad = [\"http://a.example/\", \"ftp://b.example/\", 7]\nnumber = 7";
     let table = toml::table_from_str(alloc, text)?;
-    assert_eq!(rt; bad_entry(alloc, &table, "good")?, None);
-    assert_eq!(rt; bad_entry(alloc, &table, "bad")?, Some(2));
-    assert_eq!(rt; bad_entry(alloc, &table, "number")?, None);
-    assert_eq!(rt; bad_entry(alloc, &table, "none")?, None);
+    for (key, place) in [
+        ("good", None),
+        ("bad", Some(2)),
+        ("number", None),
+        ("none", None),
+    ] {
+        assert!(rt; bad_entry(alloc, &table, key)? == place, "{key}");
+    }
     Ok(())
 }

@@ -25,41 +25,30 @@ fn no_wishes<R: RandomSource + AllocGlobal>(rt: &R) -> Result<Wishes> {
     Ok(Wishes::new(rt.alloc(), limits, RandomState::new(rt)?)?)
 }
 
-/// What is decided on wishes, one after the other: each for an original of which something is shown or nothing, and in
-/// its second.
-fn decide(
-    alloc: Global,
-    wishes: &mut Wishes,
-    made: &[(&[u8], bool, u64)],
-) -> Result<Vec<Decision>> {
-    let mut decisions = Vec::new(alloc);
-    for (uri, is_shown, second) in made {
-        decisions.push(wishes.wish(original(alloc, uri)?, *is_shown, *second)?)?;
+/// A wish: for an original of which something is shown or nothing, and in its second; and what is decided on it.
+type Made = (&'static [u8], bool, u64, Decision);
+
+/// Whether just this is decided on these wishes, one after the other.
+fn decides(alloc: Global, wishes: &mut Wishes, made: &[Made]) -> Result<bool> {
+    for (uri, is_shown, second, decision) in made {
+        if wishes.wish(original(alloc, uri)?, *is_shown, *second)? != *decision {
+            return Ok(false);
+        }
     }
-    Ok(decisions)
+    Ok(true)
 }
 
 #[test]
 fn a_wish_is_taken_once_and_two_in_a_minute(rt: HostRuntime) -> Result<()> {
     let mut wishes = no_wishes(&rt)?;
     let made = [
-        (A, false, 60),
-        (A, false, 61),
-        (B, true, 119),
-        (C, false, 119),
-        (C, false, 120),
+        (A, false, 60, Decision::Added),
+        (A, false, 61, Decision::Waits),
+        (B, true, 119, Decision::Added),
+        (C, false, 119, Decision::Late),
+        (C, false, 120, Decision::Added),
     ];
-    assert_eq!(rt;
-        decide(rt.alloc(), &mut wishes, &made)?.as_slice(),
-        [
-            Decision::Added,
-            Decision::Waits,
-            Decision::Added,
-            Decision::Late,
-            Decision::Added
-        ]
-        .as_slice()
-    );
+    assert!(rt; decides(rt.alloc(), &mut wishes, &made)?);
     Ok(())
 }
 
@@ -67,7 +56,7 @@ fn a_wish_is_taken_once_and_two_in_a_minute(rt: HostRuntime) -> Result<()> {
 fn a_wish_is_granted_and_put_back(rt: HostRuntime) -> Result<()> {
     let a = original(rt.alloc(), A)?;
     let mut wishes = no_wishes(&rt)?;
-    let _ = decide(rt.alloc(), &mut wishes, &[(A, false, 60)])?;
+    assert!(rt; decides(rt.alloc(), &mut wishes, &[(A, false, 60, Decision::Added)])?);
     assert!(rt; wishes.grant()?.context("no wish")? == a);
     assert!(rt; wishes.grant()?.is_none(), "it is granted");
     wishes.put_back(&a);
@@ -82,21 +71,12 @@ fn what_was_looked_after_is_fresh(rt: HostRuntime) -> Result<()> {
     wishes.note(&a, false, true, 2_000)?;
     wishes.note(&b, false, false, 2_000)?;
     let made = [
-        (B, false, 1_999 + RETRY),
-        (B, false, 2_000 + RETRY),
-        (A, false, 2_999),
-        (A, false, 3_000),
+        (B, false, 1_999 + RETRY, Decision::Fresh),
+        (B, false, 2_000 + RETRY, Decision::Added),
+        (A, false, 2_999, Decision::Fresh),
+        (A, false, 3_000, Decision::Added),
     ];
-    assert_eq!(rt;
-        decide(rt.alloc(), &mut wishes, &made)?.as_slice(),
-        [
-            Decision::Fresh,
-            Decision::Added,
-            Decision::Fresh,
-            Decision::Added
-        ]
-        .as_slice()
-    );
+    assert!(rt; decides(rt.alloc(), &mut wishes, &made)?);
     Ok(())
 }
 
@@ -104,17 +84,21 @@ fn what_was_looked_after_is_fresh(rt: HostRuntime) -> Result<()> {
 fn a_wish_that_asks_no_archive_does_not_count(rt: HostRuntime) -> Result<()> {
     let alloc = rt.alloc();
     let mut wishes = no_wishes(&rt)?;
-    let made = [(A, true, 60), (B, true, 60), (C, false, 60)];
-    assert_eq!(rt;
-        decide(alloc, &mut wishes, &made)?.as_slice(),
-        [Decision::Added, Decision::Added, Decision::Late].as_slice()
-    );
+    let made = [
+        (A, true, 60, Decision::Added),
+        (B, true, 60, Decision::Added),
+        (C, false, 60, Decision::Late),
+    ];
+    assert!(rt; decides(alloc, &mut wishes, &made)?);
     wishes.end(&original(alloc, A)?, false);
-    let _ = decide(alloc, &mut wishes, &[(C, false, 60)])?;
+    assert!(rt; decides(alloc, &mut wishes, &[(C, false, 60, Decision::Added)])?);
     wishes.end(&original(alloc, B)?, true);
-    assert_eq!(rt;
-        decide(alloc, &mut wishes, &[(C, false, 60), (A, false, 60)])?.as_slice(),
-        [Decision::Waits, Decision::Late].as_slice(),
+    let made = [
+        (C, false, 60, Decision::Waits),
+        (A, false, 60, Decision::Late),
+    ];
+    assert!(rt;
+        decides(alloc, &mut wishes, &made)?,
         "C has A's place, and an archive was asked for B"
     );
     Ok(())
@@ -124,13 +108,14 @@ fn a_wish_that_asks_no_archive_does_not_count(rt: HostRuntime) -> Result<()> {
 fn a_wish_of_an_earlier_minute_gives_none_back(rt: HostRuntime) -> Result<()> {
     let alloc = rt.alloc();
     let mut wishes = no_wishes(&rt)?;
-    let made = [(A, true, 60), (B, false, 120), (C, false, 120)];
-    let _ = decide(alloc, &mut wishes, &made)?;
+    let made = [
+        (A, true, 60, Decision::Added),
+        (B, false, 120, Decision::Added),
+        (C, false, 120, Decision::Added),
+    ];
+    assert!(rt; decides(alloc, &mut wishes, &made)?);
     wishes.end(&original(alloc, A)?, false);
-    assert_eq!(rt;
-        decide(alloc, &mut wishes, &[(A, true, 120)])?.as_slice(),
-        [Decision::Late].as_slice()
-    );
+    assert!(rt; decides(alloc, &mut wishes, &[(A, true, 120, Decision::Late)])?);
     Ok(())
 }
 
@@ -142,9 +127,12 @@ fn rounds_have_their_originals(rt: HostRuntime) -> Result<()> {
     let a = Key::new(&original(alloc, A)?)?;
     assert!(rt; listed.insert(a)?);
     drop(wishes.set_listed(listed));
-    assert_eq!(rt;
-        decide(alloc, &mut wishes, &[(A, true, 60), (A, false, 60)])?.as_slice(),
-        [Decision::Listed, Decision::Added].as_slice(),
+    let made = [
+        (A, true, 60, Decision::Listed),
+        (A, false, 60, Decision::Added),
+    ];
+    assert!(rt;
+        decides(alloc, &mut wishes, &made)?,
         "nothing of it is shown the second time"
     );
     Ok(())
@@ -154,13 +142,13 @@ fn rounds_have_their_originals(rt: HostRuntime) -> Result<()> {
 fn room_is_bounded_for_what_is_not_shown(rt: HostRuntime) -> Result<()> {
     let mut wishes = no_wishes(&rt)?;
     wishes.set_room(1);
-    let made = [(A, false, 60), (B, false, 60), (B, true, 60)];
-    assert_eq!(rt;
-        decide(rt.alloc(), &mut wishes, &made)?.as_slice(),
-        [Decision::Added, Decision::Full, Decision::Added].as_slice()
-    );
-    assert_eq!(rt; wishes.turned_away(), 1);
-    assert_eq!(rt; wishes.turned_away(), 0);
+    let made = [
+        (A, false, 60, Decision::Added),
+        (B, false, 60, Decision::Full),
+        (B, true, 60, Decision::Added),
+    ];
+    assert!(rt; decides(rt.alloc(), &mut wishes, &made)?);
+    assert!(rt; wishes.turned_away() == 1 && wishes.turned_away() == 0);
     Ok(())
 }
 
@@ -180,14 +168,9 @@ fn one_wish(alloc: Global) -> Result<Queue> {
 fn a_queue_has_what_stands_in_it(rt: HostRuntime) -> Result<()> {
     let queue = one_wish(rt.alloc())?;
     let (a, b) = (original(rt.alloc(), A)?, original(rt.alloc(), B)?);
-    assert_eq!(rt; (queue.len(), queue.unshown()), (1, 1));
-    assert_eq!(rt; (queue.has(&a), queue.has(&b)), (true, false));
-    let from = (
-        queue.has_from(&a, 7),
-        queue.has_from(&a, 8),
-        queue.has_from(&b, 7),
-    );
-    assert_eq!(rt; from, (true, false, false));
+    assert!(rt; queue.len() == 1 && queue.unshown() == 1);
+    assert!(rt; queue.has(&a) && !queue.has(&b));
+    assert!(rt; queue.has_from(&a, 7) && !queue.has_from(&a, 8) && !queue.has_from(&b, 7));
     Ok(())
 }
 
@@ -200,8 +183,8 @@ fn a_queue_grants_once_and_ends_what_it_has(rt: HostRuntime) -> Result<()> {
     queue.put_back(&a);
     assert!(rt; queue.grant()?.is_some());
     queue.end(&b);
-    assert_eq!(rt; queue.len(), 1);
+    assert!(rt; queue.len() == 1);
     queue.end(&a);
-    assert_eq!(rt; queue.len(), 0);
+    assert!(rt; queue.len() == 0);
     Ok(())
 }
