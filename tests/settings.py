@@ -285,6 +285,24 @@ def expect_unknown():
     expect("none of what is no TOML", text_with(again="60") + "=", fault_of("text"))
 
 
+def expect_logged():
+    """`serve` begins its log with the keys that aren't looked at, if there is one, and says nothing of them otherwise."""
+    nowhere = '["192.0.2.1:8080"]'    # so that it ends at once
+    with tempfile.TemporaryDirectory() as name:
+        file = pathlib.Path(name) / "settings.toml"
+        for what, changed, said in (
+            ("with a log", {"log": "true", "again": "60"}, "log: unknown key: other\nlog: archives: unknown key: evry\n"),
+            ("without one", {"log": "false", "again": "60"}, ""),
+            ("as it is specified", {"log": "true"}, ""),
+        ):
+            file.write_text(text_with(gates=nowhere, archives=asked("evry = 1"), **changed))
+            ran = subprocess.run([PROGRAM, "serve", file], capture_output=True, text=True, check=False)
+            came = ran.returncode, ran.stdout, ran.stderr
+            if came != (3, "", said + "no gate\n"):
+                print(f"serve {what}: {came}")
+                sys.exit(1)
+
+
 def expect_shown():
     """What may be in a key, and in the name of a file, is shown so that nobody is misled."""
     for key, line in (
@@ -349,6 +367,7 @@ def main():
     expect("a byte more", most + "#", fault_of("text"))
     expect_entries()
     expect_unknown()
+    expect_logged()
     expect_shown()
     expect_lines()
     rows = sum(len(rows[key]) for rows in (TAKEN, REFUSED) for key in rows)

@@ -1,5 +1,6 @@
 -- How the program ends if it fails: the failure that each fault is, the line on standard error, and the exit status.
-use Rattle.std.specs.Prelude.{◌≡◌, ℕ, List, [], ◌∷◌, ◌++◌, codes, string_bytes, String}
+use Rattle.std.specs.Prelude.{◌≡◌, ℕ, List, ◌++◌, codes, string_bytes, String}
+use Rattle.std.specs.List.{flat_map}
 use Rattle.std.specs.declared.alloc.Global.{Global}
 use Rattle.std.specs.Fmt.{decimal}
 use Rattle.replica_world.specs.declared.replaying.fault.ReplayFault.{ReplayFault}
@@ -36,8 +37,7 @@ failure_of_serving serve.NoMemory = NoMemory
 
 -- lines behind another one, each after a LF
 abbrev pub behind : List (String Global) → List ℕ
-behind [] = []
-behind (line ∷ lines) = codes "\n" ++ string_bytes line ++ behind lines
+behind lines = flat_map (λ line. codes "\n" ++ string_bytes line) lines
 
 -- the most bytes of a file's name that are shown
 abbrev pub most_of_name : ℕ

@@ -1,6 +1,7 @@
 //! How the program fails: what it says on standard error, and its exit status.
 ghost use Rattle.std.specs.Prelude.{◌≡◌, Some};
 ghost use Rattle.std.specs.Process.{exit_status};
+ghost use Rattle.aggregator.specs.declared.failure.Failure.TheVariants.{NoMemory};
 ghost use Rattle.aggregator.specs.Ending.{IsUnread, failure_of, failure_of_serving, failure_of_settings, message_of, status_of};
 
 use crate::telling::Behind;
@@ -83,11 +84,11 @@ impl fmt::Display for Failure {
                 )
             }
             Failure::BadOriginal { number, unknown } => {
-                let behind = Behind(unknown.as_slice());
                 write!(
                     f,
-                    "bad settings: originals\noriginals: entry {number} is no original{behind}"
-                )
+                    "bad settings: originals\noriginals: entry {number} is no original"
+                )?;
+                write!(f, "{}", Behind(unknown.as_slice()))
             }
             Failure::NoGate => f.write_str("no gate"),
             Failure::Device => f.write_str("device fault"),
@@ -134,7 +135,7 @@ impl From<ServeFault> for Failure {
 }
 
 impl From<AllocError> for Failure {
-    ghost from_gives = { λ _ failure. failure ≡ Failure.NoMemory };
+    ghost from_gives = { λ _ failure. failure ≡ NoMemory };
 
     fn from(_refused: AllocError) -> Failure {
         Failure::NoMemory

@@ -9,6 +9,7 @@ use std::fmt;
 use std::io::{self, Write};
 
 /// Lines behind another one, each after a LF.
+#[derive(Clone, Copy)]
 pub(crate) struct Behind<'a>(pub(crate) &'a [String]);
 
 impl<'a> fmt::Display for Behind<'a> {
