@@ -150,7 +150,7 @@ try_counts() {
     same "and counts them" "$(tail -n 1 <<<"$said")" "1 passed, 2 failed, 1 skipped"
     runs 0 ./run test pages lacks
     same "./run test is that command" "$(tail -n 1 <<<"$said")" "1 passed, 0 failed, 1 skipped"
-    runs 1 tests/run nosuch
+    runs 2 tests/run nosuch
     has "a test that isn't there is refused" "$complaint" "there is no test nosuch"
     sed -i '/^lacks /d' tests/list.txt
     echo 'nosuch quick 1 -' >>tests/list.txt
