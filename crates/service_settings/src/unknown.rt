@@ -165,8 +165,8 @@ fn lines_about(alloc: Global, table: &Table) -> Result<Vec<String>, AllocError>
     told.lines(alloc)
 }
 
-/// Lines about the keys of settings that aren't looked at: one for each of the first 20, and then how many more there are.
-/// `None` if the text isn't TOML, or has no key by which more is told than what is specified.
+/// Lines about the keys of settings that aren't looked at: one for each of the first 20, and then how many more there
+/// are. `None` if the text isn't TOML, or has no key by which more is told than what is specified.
 pub fn unknown_keys(alloc: Global, text: &str) -> Result<Option<Vec<String>>, AllocError>
     ensures { IfOk result (λ told. option_map (λ lines. map (λ line. string_bytes line) lines.items) told
         ≡ told_of (parse_document text.now)) }
