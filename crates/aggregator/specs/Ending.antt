@@ -43,6 +43,10 @@ behind lines = flat_map (λ line. codes "\n" ++ string_bytes line) lines
 abbrev pub most_of_name : ℕ
 most_of_name = 4096
 
+-- which entry of `originals` is none
+abbrev pub entry_words : ℕ → List ℕ
+entry_words number = codes "originals: entry " ++ decimal number ++ codes " is no original"
+
 -- what stands on standard error, but for the LF at its end: one line, and behind it what more is told
 abbrev pub message_of : Failure → List ℕ
 message_of Usage = codes "usage: aggregator [replay | serve FILE | check FILE]"
@@ -51,8 +55,7 @@ message_of BadText = codes "bad settings: text"
 message_of (BadKey key) = codes "bad settings: " ++ name_of key
 message_of (BadValue key unknown) =
     codes "bad settings: " ++ name_of key ++ codes "\n" ++ name_of key ++ codes ": " ++ holding_words key ++ behind unknown.items
-message_of (BadOriginal number unknown) =
-    codes "bad settings: originals\noriginals: entry " ++ decimal number ++ codes " is no original" ++ behind unknown.items
+message_of (BadOriginal number unknown) = codes "bad settings: originals\n" ++ entry_words number ++ behind unknown.items
 message_of NoGate = codes "no gate"
 message_of Device = codes "device fault"
 message_of (Unread file) = codes "device fault\ncan't be read: " ++ string_bytes file

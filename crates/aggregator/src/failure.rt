@@ -2,7 +2,8 @@
 ghost use Rattle.std.specs.Prelude.{◌≡◌, Some};
 ghost use Rattle.std.specs.Process.{exit_status};
 ghost use Rattle.aggregator.specs.declared.failure.Failure.TheVariants.{NoMemory};
-ghost use Rattle.aggregator.specs.Ending.{IsUnread, failure_of, failure_of_serving, failure_of_settings, message_of, status_of};
+ghost use Rattle.aggregator.specs.Ending.{IsUnread, entry_words, failure_of, failure_of_serving, failure_of_settings};
+ghost use Rattle.aggregator.specs.Ending.{message_of, status_of};
 
 use crate::telling::Behind;
 use replica_world::ReplayFault;
@@ -84,17 +85,26 @@ impl fmt::Display for Failure {
                 )
             }
             Failure::BadOriginal { number, unknown } => {
-                write!(
-                    f,
-                    "bad settings: originals\noriginals: entry {number} is no original"
-                )?;
-                write!(f, "{}", Behind(unknown.as_slice()))
+                let (entry, behind) = (BadEntry(*number), Behind(unknown.as_slice()));
+                write!(f, "bad settings: originals\n{entry}{behind}")
             }
             Failure::NoGate => f.write_str("no gate"),
             Failure::Device => f.write_str("device fault"),
             Failure::Unread { file } => write!(f, "device fault\ncan't be read: {file}"),
             Failure::NoMemory => f.write_str("no memory"),
         }
+    }
+}
+
+/// Which entry of `originals` is none.
+#[derive(Clone, Copy)]
+struct BadEntry(u64);
+
+impl fmt::Display for BadEntry {
+    ghost output = { λ entry. Some (entry_words entry.0) };
+
+    fn fmt<W: fmt::Write>(&self, f: &mut fmt::Formatter<W>) -> fmt::Result {
+        write!(f, "originals: entry {} is no original", self.0)
     }
 }
 

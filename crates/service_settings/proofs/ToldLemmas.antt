@@ -1,5 +1,6 @@
 -- What is told of keys that aren't looked at, step by step.
-use Rattle.std.proofs.Common.{◌≡◌, ℕ, suc, Result, Ok, Err, IfOk, ◌+◌, ◌-◌, ◌<◌, ◌≤◌, List, [], ◌∷◌, ◌++◌, false, length, get_or, map, take, string_bytes, String, Global, refl, sym, ap, ◌∙◌, arith, append_assoc, append-nil, length-append}
+use Rattle.std.proofs.Common.{◌≡◌, ℕ, suc, Result, Ok, Err, IfOk, ◌+◌, ◌-◌, ◌<◌, ◌≤◌, List, [], ◌∷◌, ◌++◌}
+use Rattle.std.proofs.Common.{false, length, get_or, map, take, string_bytes, String, Global, refl, sym, ap, ◌∙◌, arith, append_assoc, append-nil, length-append}
 use Rattle.std.proofs.lemmas.List.{length-take, take-append-le, take_all, take_more}
 use Rattle.std.proofs.lemmas.Bool.Decides.{nat_tests}
 use Rattle.std.specs.Fmt.{decimal}

@@ -4,9 +4,9 @@ ghost use Rattle.service_settings.specs.Shown as spec;
 
 use std::alloc::{AllocError, Global};
 
-/// A text so that no terminal and no line of a log takes it for something else: blanks and what prints in ASCII as they
-/// are, but for `\`, which is `\\`; each other byte as `\x1b`. If it has more than so many bytes, the first of them,
-/// and how many it has.
+/// A text so that no terminal and no line of a log takes it for something else: blanks and what prints in ASCII as
+/// they are, but for `\`, which is `\\`; each other byte as `\x1b`. If it has more than so many bytes, the first of
+/// them, and how many it has.
 pub fn shown(alloc: Global, text: &str, most: usize) -> Result<String, AllocError>
     ensures { IfOk result (λ shown. string_bytes shown ≡ spec.shown most text.now) }
 {

@@ -7,11 +7,13 @@ use Rattle.service_settings.proofs.fault.Key.named.Goals as goal
 pub returns-then-eq-clause-known : goal.returns-then-eq-clause-known
 unfolding is_name
 returns-then-eq-clause-known c =
-    sym (names_one-found c.args.text.now all_keys c.loop-key.key-index key.Base c.loop-key-test.true (ap (λ n. bytes_eq n c.args.text.now) (sym c.name.ensures) ∙ (sym c.eq.ensures ∙ c.if-eq.true))) ∙ c.loop-key.invariant
+    sym (names_one-found c.args.text.now all_keys c.loop-key.key-index key.Base c.loop-key-test.true
+    (ap (λ n. bytes_eq n c.args.text.now) (sym c.name.ensures) ∙ (sym c.eq.ensures ∙ c.if-eq.true))) ∙ c.loop-key.invariant
 
 pub loop-key-preserved : goal.loop-key-preserved
 loop-key-preserved c =
-    sym (names_one-other c.args.text.now all_keys c.loop-key.key-index key.Base c.loop-key-test.true (ap (λ n. bytes_eq n c.args.text.now) (sym c.name.ensures) ∙ (sym c.eq.ensures ∙ c.if-eq.false))) ∙ c.loop-key.invariant
+    sym (names_one-other c.args.text.now all_keys c.loop-key.key-index key.Base c.loop-key-test.true
+    (ap (λ n. bytes_eq n c.args.text.now) (sym c.name.ensures) ∙ (sym c.eq.ensures ∙ c.if-eq.false))) ∙ c.loop-key.invariant
 
 pub returns-clause-known : goal.returns-clause-known
 unfolding is_name
