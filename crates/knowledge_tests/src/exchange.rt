@@ -53,16 +53,29 @@ fn takes(alloc: Global, cursors: &mut Cursors, peer: u64, text: &[u8]) -> Result
 fn deltas_follow_on_cursors(rt: HostRuntime) -> Result<()> {
     let alloc = rt.alloc();
     let mut cursors = Cursors::new(alloc);
-    assert!(rt; !takes(alloc, &mut cursors, 7, THIRD_MERGE)?);
-    assert!(rt; !takes(alloc, &mut cursors, 7, SECOND_MERGE)?);
+    for (text, is_taken) in [
+        (THIRD_MERGE, false),
+        (SECOND_MERGE, false),
+        (TWO_MERGES, true),
+        (FOURTH_MERGE, false),
+        (OF_ANOTHER_INCARNATION, false),
+    ] {
+        assert!(rt; takes(alloc, &mut cursors, 7, text)? == is_taken);
+    }
+    assert!(rt; cursors.held(7) == at(2) && cursors.held(8).is_none());
+    Ok(())
+}
+
+#[test]
+fn a_copy_of_cursors_follows_alone(rt: HostRuntime) -> Result<()> {
+    let alloc = rt.alloc();
+    let mut cursors = Cursors::new(alloc);
     assert!(rt; takes(alloc, &mut cursors, 7, TWO_MERGES)?);
-    assert!(rt; !takes(alloc, &mut cursors, 7, FOURTH_MERGE)?);
-    assert!(rt; !takes(alloc, &mut cursors, 7, OF_ANOTHER_INCARNATION)?);
-    assert_eq!(rt; (cursors.held(7), cursors.held(8)), (at(2), None));
     let mut copy = cursors.try_clone()?;
-    assert!(rt; takes(alloc, &mut copy, 7, OLD_THIRD_MERGE)?);
-    assert!(rt; takes(alloc, &mut copy, 7, TWO_MERGES)?);
-    assert_eq!(rt; (copy.held(7), cursors.held(7)), (at(3), at(2)));
+    for text in [OLD_THIRD_MERGE, TWO_MERGES] {
+        assert!(rt; takes(alloc, &mut copy, 7, text)?);
+    }
+    assert!(rt; copy.held(7) == at(3) && cursors.held(7) == at(2));
     Ok(())
 }
 
@@ -105,6 +118,12 @@ fn cut_texts_are_no_deltas(rt: HostRuntime) {
     }
 }
 
+/// Whether a text is refused for its length, as a state and as a delta.
+fn is_too_long(alloc: Global, text: &[u8]) -> bool {
+    matches!(read_state(alloc, text), Err(StateFault::TooLong))
+        && matches!(read_delta(alloc, text), Err(StateFault::TooLong))
+}
+
 fn without_last(text: &[u8]) -> &[u8] {
     match text.split_last() {
         Some((_, before)) => before,
@@ -117,11 +136,9 @@ fn without_last(text: &[u8]) -> &[u8] {
 fn texts_have_at_most_268_435_456_bytes(rt: HostRuntime) -> Result<()> {
     let alloc = rt.alloc();
     let long = vec![in alloc; b'\n'; 268_435_457]?;
-    assert!(rt; read_state(alloc, &long).err() == Some(StateFault::TooLong));
-    assert!(rt; read_delta(alloc, &long).err() == Some(StateFault::TooLong));
+    assert!(rt; is_too_long(alloc, &long));
     let most = without_last(&long);
-    assert!(rt; is_no_state(alloc, most));
-    assert!(rt; is_no_delta(alloc, most));
+    assert!(rt; is_no_state(alloc, most) && is_no_delta(alloc, most));
     Ok(())
 }
 
@@ -177,15 +194,16 @@ fn begins_anew(alloc: Global, stamped: &Stamped, cursor: Option<Cursor>) -> Resu
 fn other_cursors_begin_anew(rt: HostRuntime) -> Result<()> {
     let alloc = rt.alloc();
     let mut stamped = Stamped::new(alloc, 1);
-    stamped.absorb(&merge_of(alloc, 1)?)?;
-    stamped.absorb(&merge_of(alloc, 2)?)?;
+    for number in 1..3 {
+        stamped.absorb(&merge_of(alloc, number)?)?;
+    }
     let other = Cursor {
         incarnation: 2,
         number: 1,
     };
-    assert!(rt; begins_anew(alloc, &stamped, None)?);
-    assert!(rt; begins_anew(alloc, &stamped, at(3))?);
-    assert!(rt; begins_anew(alloc, &stamped, Some(other))?);
+    for cursor in [None, at(3), Some(other)] {
+        assert!(rt; begins_anew(alloc, &stamped, cursor)?);
+    }
     Ok(())
 }
 

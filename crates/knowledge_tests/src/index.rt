@@ -217,21 +217,37 @@ fn has(alloc: Global, index: &Index, list: &[Memento]) -> Result<bool> {
     Ok(index.list(&root) == list)
 }
 
-/// The second archive gets all that the first has, and the first then ceases to show it, so that nothing of it goes.
-/// The list is shared with that of another index, which stays as it was.
-fn is_listed_while_shared(alloc: Global, count: u32) -> Result<bool> {
+/// Whether the list stays as it is once the second archive gets all that the first has.
+fn counts_twice(alloc: Global, index: &mut Index, other: &Index, count: u32) -> Result<bool> {
+    take_all(alloc, index, b"b1", 2, numbered(alloc, count)?)?;
+    is_same_once_shared(alloc, index, other)
+}
+
+/// Whether nothing of it goes once the first archive ceases to show it.
+fn loses_nothing(alloc: Global, index: &mut Index, other: &Index, count: u32) -> Result<bool> {
+    take_all(alloc, index, b"a1", 2, Vec::new(alloc))?;
     let all = numbered(alloc, count)?;
+    Ok(has(alloc, index, &all)? && is_same_once_shared(alloc, index, other)?)
+}
+
+/// Whether what the second archive ceases to show goes, and the other index stays as it was.
+fn loses_half(alloc: Global, index: &mut Index, other: &Index, count: u32) -> Result<bool> {
+    take_all(alloc, index, b"b1", 3, every_second(alloc, count, 1)?)?;
     let rest = every_second(alloc, count, 1)?;
+    let all = numbered(alloc, count)?;
+    Ok(has(alloc, index, &rest)? && has(alloc, other, &all)?)
+}
+
+/// The list is shared with that of another index while archives come to show it and cease to.
+fn is_listed_while_shared(alloc: Global, count: u32) -> Result<bool> {
     let mut index = halved(alloc, count)?;
     let other = halved(alloc, count)?;
-    let is_shared = is_same_once_shared(alloc, &mut index, &other)?;
-    take_all(alloc, &mut index, b"b1", 2, numbered(alloc, count)?)?;
-    let is_counted = is_same_once_shared(alloc, &mut index, &other)?;
-    take_all(alloc, &mut index, b"a1", 2, Vec::new(alloc))?;
-    let is_kept = has(alloc, &index, &all)? && is_same_once_shared(alloc, &mut index, &other)?;
-    take_all(alloc, &mut index, b"b1", 3, every_second(alloc, count, 1)?)?;
-    let has_rest = has(alloc, &index, &rest)? && has(alloc, &other, &all)?;
-    Ok(is_shared && is_counted && is_kept && has_rest)
+    Ok(
+        is_same_once_shared(alloc, &mut index, &other)?
+            && counts_twice(alloc, &mut index, &other, count)?
+            && loses_nothing(alloc, &mut index, &other, count)?
+            && loses_half(alloc, &mut index, &other, count)?,
+    )
 }
 
 /// A list of 64 is short, and one of 65 isn't.
@@ -253,6 +269,14 @@ fn lists_that_differ_are_not_shared(rt: HostRuntime) -> Result<()> {
         assert!(rt; is_same_once_shared(alloc, &mut index, &other)?);
         assert!(rt; lists(alloc, &other, captures)?);
     }
+    Ok(())
+}
+
+/// Nor is a list taken for an original of which nothing is listed.
+#[test]
+fn an_empty_list_stays_empty(rt: HostRuntime) -> Result<()> {
+    let alloc = rt.alloc();
+    let index = indexed(alloc, &[FIRST, SECOND])?;
     let mut other = Index::new(alloc);
     assert!(rt; is_same_once_shared(alloc, &mut other, &index)?);
     assert!(rt; lists(alloc, &other, &[])?);

@@ -9,19 +9,51 @@ use std::alloc::Global;
 use std::test::*;
 use text_tests::makers::{archive, memento, mementos};
 
-/// All that an archive had of the root.
-fn whole(alloc: Global, name: &[u8], revision: u64, captures: &[Capture]) -> Result<Harvest> {
-    harvest(alloc, name, ROOT, revision, mementos(alloc, captures)?)
+/// What an archive had of the root at a revision: all of it, or a part.
+#[derive(Clone, Copy)]
+struct Had<'a> {
+    archive: &'a [u8],
+    is_whole: bool,
+    revision: u64,
+    captures: &'a [Capture],
 }
 
-/// A part of what archive a1 had of the root.
-fn part(alloc: Global, revision: u64, captures: &[Capture]) -> Result<Harvest> {
-    part_harvest(alloc, b"a1", ROOT, revision, mementos(alloc, captures)?)
+/// All that an archive had.
+fn whole<'a>(archive: &'a [u8], revision: u64, captures: &'a [Capture]) -> Had<'a> {
+    Had {
+        archive,
+        is_whole: true,
+        revision,
+        captures,
+    }
 }
 
-fn take(state: &mut State, harvest: &Harvest) -> Result<()> {
-    state.merge(harvest)?;
-    Ok(())
+/// A part of what archive a1 had.
+fn part<'a>(revision: u64, captures: &'a [Capture]) -> Had<'a> {
+    Had {
+        archive: b"a1",
+        is_whole: false,
+        revision,
+        captures,
+    }
+}
+
+fn harvest_of(alloc: Global, had: Had<'_>) -> Result<Harvest> {
+    let list = mementos(alloc, had.captures)?;
+    if had.is_whole {
+        harvest(alloc, had.archive, ROOT, had.revision, list)
+    } else {
+        part_harvest(alloc, had.archive, ROOT, had.revision, list)
+    }
+}
+
+/// A state that takes these, one after the other.
+fn state_with(alloc: Global, all: &[Had<'_>]) -> Result<State> {
+    let mut state = State::new(alloc);
+    for had in all {
+        state.merge(&harvest_of(alloc, *had)?)?;
+    }
+    Ok(state)
 }
 
 /// The entry of archive a1 for the root.
@@ -34,12 +66,13 @@ fn entry_of_root(alloc: Global, state: &State) -> Result<Entry> {
 #[test]
 fn harvests_of_one_revision_are_united(rt: HostRuntime) -> Result<()> {
     let alloc = rt.alloc();
-    let mut state = State::new(alloc);
-    take(&mut state, &part(alloc, 5, &[SECOND])?)?;
-    take(&mut state, &part(alloc, 6, &[THIRD])?)?;
-    take(&mut state, &whole(alloc, b"a1", 5, &[FIRST])?)?;
-    take(&mut state, &part(alloc, 6, &[SECOND])?)?;
-    let entry = entry_of_root(alloc, &state)?;
+    let all = [
+        part(5, &[SECOND]),
+        part(6, &[THIRD]),
+        whole(b"a1", 5, &[FIRST]),
+        part(6, &[SECOND]),
+    ];
+    let entry = entry_of_root(alloc, &state_with(alloc, &all)?)?;
     assert!(rt; entry.whole() == Some(5) && entry.revisions() == 2);
     assert!(rt; entry.revision(0) == 5 && are(alloc, entry.mementos(0), &[FIRST, SECOND])?);
     assert!(rt; entry.revision(1) == 6 && are(alloc, entry.mementos(1), &[SECOND, THIRD])?);
@@ -50,7 +83,8 @@ fn harvests_of_one_revision_are_united(rt: HostRuntime) -> Result<()> {
 /// come back between them.
 fn take_empty_parts(alloc: Global, state: &mut State, count: u64, step: u64) -> Result<()> {
     for k in 0..count {
-        take(state, &part(alloc, k.wrapping_mul(step) % count, &[])?)?;
+        let empty = part(k.wrapping_mul(step) % count, &[]);
+        state.merge(&harvest_of(alloc, empty)?)?;
     }
     Ok(())
 }
@@ -66,9 +100,7 @@ fn grows_above(state: &mut State, other: &State) -> Result<bool> {
 fn joins_all(alloc: Global, count: u64, step: u64) -> Result<bool> {
     let mut state = State::new(alloc);
     take_empty_parts(alloc, &mut state, count, step)?;
-    let mut other = State::new(alloc);
-    take(&mut other, &part(alloc, 0, &[FIRST])?)?;
-    take(&mut other, &part(alloc, count, &[SECOND])?)?;
+    let mut other = state_with(alloc, &[part(0, &[FIRST]), part(count, &[SECOND])])?;
     let is_news = grows_above(&mut other, &state)?;
     let entry = entry_of_root(alloc, &other)?;
     Ok(is_news && entry.revisions() as u64 == count.saturating_add(1))
@@ -91,29 +123,32 @@ fn take_changes(state: &mut State, other: &State) -> Result<usize> {
     Ok(count)
 }
 
-fn is_news(state: &State, harvest: &Harvest) -> Result<bool> {
-    Ok(!state.changes_by(harvest)?.rows().is_empty())
+fn is_news(alloc: Global, state: &State, had: Had<'_>) -> Result<bool> {
+    let harvest = harvest_of(alloc, had)?;
+    Ok(!state.changes_by(&harvest)?.rows().is_empty())
 }
 
 #[test]
 fn changes_are_what_is_news(rt: HostRuntime) -> Result<()> {
     let alloc = rt.alloc();
-    let mut here = State::new(alloc);
-    take(&mut here, &whole(alloc, b"a1", 7, &[FIRST])?)?;
-    take(&mut here, &whole(alloc, b"b1", 2, &[THIRD])?)?;
-    let mut there = State::new(alloc);
-    take(&mut there, &whole(alloc, b"a1", 7, &[FIRST, SECOND])?)?;
-    take(&mut there, &whole(alloc, b"b1", 1, &[FIRST])?)?;
-    take(&mut there, &whole(alloc, b"c1", 1, &[FIRST])?)?;
+    let standing = [whole(b"a1", 7, &[FIRST]), whole(b"b1", 2, &[THIRD])];
+    let coming = [
+        whole(b"a1", 7, &[FIRST, SECOND]),
+        whole(b"b1", 1, &[FIRST]),
+        whole(b"c1", 1, &[FIRST]),
+    ];
+    let mut here = state_with(alloc, &standing)?;
+    let there = state_with(alloc, &coming)?;
     assert!(rt; take_changes(&mut here, &there)? == 2);
     assert!(rt; there.le(&here) && here.len() == 3);
-    assert!(rt; !is_news(&here, &whole(alloc, b"a1", 6, &[THIRD])?)?);
+    assert!(rt; !is_news(alloc, &here, whole(b"a1", 6, &[THIRD]))?);
     Ok(())
 }
 
-/// Whether a copy that shares a state's lists says what the harvest says.
-fn is_copied(state: &State, harvest: &Harvest) -> Result<bool> {
-    let copy = state.share_harvest(harvest)?;
+/// Whether a copy of a harvest that shares a state's lists says what the harvest says.
+fn is_copied(alloc: Global, state: &State, had: Had<'_>) -> Result<bool> {
+    let harvest = harvest_of(alloc, had)?;
+    let copy = state.share_harvest(&harvest)?;
     let is_same = are_same(copy.mementos(), harvest.mementos());
     Ok(is_same && copy.revision() == harvest.revision() && copy.is_part() == harvest.is_part())
 }
@@ -121,15 +156,23 @@ fn is_copied(state: &State, harvest: &Harvest) -> Result<bool> {
 #[test]
 fn copies_that_share_lists_are_the_same(rt: HostRuntime) -> Result<()> {
     let alloc = rt.alloc();
-    let mut state = State::new(alloc);
-    take(&mut state, &whole(alloc, b"a1", 1, &[FIRST, SECOND])?)?;
-    let again = whole(alloc, b"a1", 2, &[FIRST, SECOND])?;
-    assert!(rt; is_copied(&state, &again)?);
-    assert!(rt; is_copied(&state, &part(alloc, 2, &[FIRST, THIRD])?)?);
-    assert!(rt; is_copied(&state, &whole(alloc, b"b1", 1, &[FIRST])?)?);
-    let mut other = State::new(alloc);
-    take(&mut other, &again)?;
-    take(&mut other, &whole(alloc, b"b1", 1, &[FIRST])?)?;
+    let state = state_with(alloc, &[whole(b"a1", 1, &[FIRST, SECOND])])?;
+    for had in [
+        whole(b"a1", 2, &[FIRST, SECOND]),
+        part(2, &[FIRST, THIRD]),
+        whole(b"b1", 1, &[FIRST]),
+    ] {
+        assert!(rt; is_copied(alloc, &state, had)?);
+    }
+    Ok(())
+}
+
+#[test]
+fn states_that_share_lists_are_the_same(rt: HostRuntime) -> Result<()> {
+    let alloc = rt.alloc();
+    let again = [whole(b"a1", 2, &[FIRST, SECOND]), whole(b"b1", 1, &[FIRST])];
+    let state = state_with(alloc, &[whole(b"a1", 1, &[FIRST, SECOND])])?;
+    let other = state_with(alloc, &again)?;
     let copy = state.share_state(&other)?;
     assert!(rt; copy.le(&other) && other.le(&copy));
     Ok(())
@@ -190,14 +233,18 @@ fn begins_with(alloc: Global, state: &State, name: &[u8]) -> Result<bool> {
 #[test]
 fn rows_make_states_that_are_joined(rt: HostRuntime) -> Result<()> {
     let alloc = rt.alloc();
-    let mut state = State::new(alloc);
-    assert!(rt; state.is_empty() && state.rows().next().is_none());
-    take(&mut state, &whole(alloc, b"c1", 1, &[SECOND])?)?;
+    let mut state = state_with(alloc, &[whole(b"c1", 1, &[SECOND])])?;
     let other = state_of(alloc, &row(alloc, b"a1", 1)?, &row(alloc, b"b1", 1)?)?;
     assert!(rt; other.len() == 2 && grows_above(&mut state, &other)?);
     assert!(rt; state.len() == 3 && begins_with(alloc, &state, b"a1")?);
     assert!(rt; state.rows().next().is_some());
     Ok(())
+}
+
+#[test]
+fn a_new_state_has_no_rows(rt: HostRuntime) {
+    let state = State::new(rt.alloc());
+    assert!(rt; state.is_empty() && state.rows().next().is_none());
 }
 
 /// Mementos of the first seconds of 1970, the first one twice.
@@ -225,13 +272,18 @@ fn a_harvest_has_at_most_100_000_distinct_mementos(rt: HostRuntime) -> Result<()
     Ok(())
 }
 
+/// A copy of a harvest.
+fn copy_of(alloc: Global, had: Had<'_>) -> Result<Harvest> {
+    Ok(harvest_of(alloc, had)?.try_clone()?)
+}
+
 #[test]
 fn a_harvest_keeps_each_memento_once(rt: HostRuntime) -> Result<()> {
     let alloc = rt.alloc();
-    let copy = whole(alloc, b"a1", 7, &[SECOND, FIRST, SECOND])?.try_clone()?;
+    let copy = copy_of(alloc, whole(b"a1", 7, &[SECOND, FIRST, SECOND]))?;
     assert!(rt; copy.archive() == archive(b"a1")? && copy.original().as_bytes() == ROOT);
     assert!(rt; copy.revision() == 7 && !copy.is_part());
     assert!(rt; are(alloc, copy.mementos(), &[FIRST, SECOND])?);
-    assert!(rt; part(alloc, 7, &[FIRST])?.try_clone()?.is_part());
+    assert!(rt; copy_of(alloc, part(7, &[FIRST]))?.is_part());
     Ok(())
 }
