@@ -68,6 +68,14 @@ fn set(alloc: Global, second: u64, uri: &[u8]) -> Option<Mementos> {
     Some(Mementos::of(list))
 }
 
+fn mine(alloc: Global) -> Option<Mementos> {
+    set(alloc, THIRD_DAY, SECOND)
+}
+
+fn part(alloc: Global) -> Option<Part> {
+    Part::new(1, mine(alloc)?).ok()
+}
+
 fn set_of_two(alloc: Global) -> Option<Mementos> {
     let mut both = set(alloc, FIRST_DAY, FIRST)?;
     both.absorb(set(alloc, THIRD_DAY, SECOND)?).ok()?;
@@ -105,21 +113,23 @@ fn absorb(mut mine: Mementos, one: Mementos, other: Mementos) -> Tried {
     Tried::of_change(is_answered, is_as_before, is_repeated)
 }
 
+fn try_absorb(alloc: Global) -> Option<Tried> {
+    let one = set(alloc, FIRST_DAY, FIRST)?;
+    let other = set(alloc, FIRST_DAY, FIRST)?;
+    Some(absorb(mine(alloc)?, one, other))
+}
+
+/// What a call is made on is made in its own arm: what lives beside it costs the prover at each way out.
 fn try_set(alloc: Global, call: OnSet) -> Option<Tried> {
-    let mine = set(alloc, THIRD_DAY, SECOND)?;
     let is_answered = match call {
-        OnSet::MementosWithout => mine.without(&Mementos::of(Vec::new(alloc))).is_ok(),
+        OnSet::MementosWithout => mine(alloc)?.without(&Mementos::of(Vec::new(alloc))).is_ok(),
         OnSet::MementosPacked => set_of_two(alloc)?.packed().is_ok(),
-        OnSet::Packed => packed(alloc, mine.as_slice()).is_ok(),
+        OnSet::Packed => packed(alloc, mine(alloc)?.as_slice()).is_ok(),
         OnSet::IntoPacked => into_packed(alloc, set_of_two(alloc)?.into_vec()).is_ok(),
-        OnSet::MementosAbsorb => {
-            let one = set(alloc, FIRST_DAY, FIRST)?;
-            let other = set(alloc, FIRST_DAY, FIRST)?;
-            return Some(absorb(mine, one, other));
-        }
-        OnSet::PartNew => Part::new(1, mine).is_ok(),
-        OnSet::PartTryClone => Part::new(1, mine).ok()?.try_clone().is_ok(),
-        OnSet::PartShare => Part::new(1, mine).ok()?.share().is_ok(),
+        OnSet::MementosAbsorb => return try_absorb(alloc),
+        OnSet::PartNew => Part::new(1, mine(alloc)?).is_ok(),
+        OnSet::PartTryClone => part(alloc)?.try_clone().is_ok(),
+        OnSet::PartShare => part(alloc)?.share().is_ok(),
     };
     Some(Tried::of(is_answered))
 }
@@ -202,12 +212,17 @@ enum Harvesting {
     StateShareHarvest,
 }
 
+fn new_list(known: &Known) -> Option<Vec<Memento>> {
+    mementos(known.alloc, THIRD_DAY, SECOND).ok()
+}
+
 fn try_harvest(known: &Known, call: Harvesting) -> Option<Tried> {
-    let list = mementos(known.alloc, THIRD_DAY, SECOND).ok()?;
     let is_answered = match call {
-        Harvesting::HarvestNew => Harvest::new(known.archive, &known.original, 1, list).is_ok(),
+        Harvesting::HarvestNew => {
+            Harvest::new(known.archive, &known.original, 1, new_list(known)?).is_ok()
+        }
         Harvesting::HarvestNewPart => {
-            Harvest::new_part(known.archive, &known.original, 1, list).is_ok()
+            Harvest::new_part(known.archive, &known.original, 1, new_list(known)?).is_ok()
         }
         Harvesting::HarvestTryClone => known.harvest.try_clone().is_ok(),
         Harvesting::StateShareHarvest => known.standing.share_harvest(&known.harvest).is_ok(),

@@ -1,11 +1,11 @@
 //! Calls over texts, links, URLs, pages and TimeMaps.
-use crate::makers::{FIRST_DAY, mementos, moment, original, service};
+use crate::makers::{FIRST_DAY, mementos, moment, octets, original, service};
 use anyhow::Result;
 use link_format::{
     LinkFault, LinkReader, is_name, is_target, is_value, read_links, write_param,
     write_plain_param, write_target,
 };
-use memento_time::{Clean, MementosBuilder, Octets, Original};
+use memento_time::{Clean, MementosBuilder, Original};
 use refused_calls::{Tried, insist, share};
 use std::alloc::Global;
 use std::sync::Arc;
@@ -249,40 +249,41 @@ const SHARING: [Copying; 7] = [
     Copying::ServiceTryClone,
 ];
 
+fn clean(alloc: Global) -> Option<Clean> {
+    Clean::new(alloc, URI).ok()
+}
+
+fn copy_memento(alloc: Global) -> Option<bool> {
+    let list = mementos(alloc, FIRST_DAY, URI).ok()?;
+    Some(list.first()?.try_clone().is_ok())
+}
+
 fn copy(alloc: Global, call: Copying) -> Option<Tried> {
-    let clean = Clean::new(alloc, URI).ok()?;
     let is_answered = match call {
-        Copying::OctetsTryClone => Octets::of(Vec::from_slice(alloc, URI).ok()?)
-            .try_clone()
-            .is_ok(),
+        Copying::OctetsTryClone => octets(alloc, URI).ok()?.try_clone().is_ok(),
         Copying::CleanPacked | Copying::CleanPart | Copying::OriginalPart => {
-            return copy_part(alloc, call);
+            copy_part(alloc, call)?
         }
-        Copying::CleanTryClone => clean.try_clone().is_ok(),
-        Copying::CleanWithoutFragment => clean.without_fragment().is_ok(),
+        Copying::CleanTryClone => clean(alloc)?.try_clone().is_ok(),
+        Copying::CleanWithoutFragment => clean(alloc)?.without_fragment().is_ok(),
         Copying::OriginalTryClone => original(alloc).ok()?.try_clone().is_ok(),
-        Copying::MementoTryClone => mementos(alloc, FIRST_DAY, URI)
-            .ok()?
-            .first()?
-            .try_clone()
-            .is_ok(),
+        Copying::MementoTryClone => copy_memento(alloc)?,
         Copying::ServiceTryClone => service(alloc).ok()?.try_clone().is_ok(),
     };
     Some(Tried::of(is_answered))
 }
 
-fn copy_part(alloc: Global, call: Copying) -> Option<Tried> {
+fn copy_part(alloc: Global, call: Copying) -> Option<bool> {
     let text = Vec::from_slice(alloc, URI).ok()?;
     let buffer = Arc::new(alloc, text).ok()?;
     if buffer.len() < 4 {
         return None;
     }
-    let is_answered = match call {
+    Some(match call {
         Copying::CleanPacked => Clean::part(&buffer, 0, 4).ok()?.packed(alloc).is_ok(),
         Copying::CleanPart => Clean::part(&buffer, 0, 4).is_ok(),
         _ => Original::part(&buffer, 0, 4).is_ok(),
-    };
-    Some(Tried::of(is_answered))
+    })
 }
 
 /// Makes each call, and names it.

@@ -1,10 +1,11 @@
 //! A walk over three pages of a TimeMap, of which a fourth is lost, and rounds of such walks.
+use crate::makers::octets;
 use anyhow::{Context, Result, bail};
 use harvester::{
     Answer, Fetch, Job, MAX_WORKERS, MemoryFetch, Outcome, WalkFault, have_first_urls, run_round,
     walk,
 };
-use memento_time::{ArchiveName, Clean, Items, Octets, Original};
+use memento_time::{ArchiveName, Clean, Items, Original};
 use refused_calls::Tried;
 use std::alloc::{AllocGlobal, Global};
 use std::io::Write;
@@ -25,34 +26,49 @@ pub(crate) struct Archive {
 
 /// An archive whose first page lists three further ones, the last of which doesn't answer.
 pub(crate) fn make_archive(alloc: Global) -> Result<Archive> {
-    let mut fetch = MemoryFetch::new(alloc);
-    add(
-        &mut fetch,
-        alloc,
+    Ok(Archive {
+        fetch: fetch(alloc)?,
+        job: job(alloc, b"http://arc.example/i#top")?,
+        jobs: jobs(alloc)?,
+    })
+}
+
+/// The pages by their URLs.
+const PAGES: [(&[u8], &[u8]); 3] = [
+    (
         b"http://arc.example/i",
         b"</p1>;rel=timemap,</p2>;rel=timemap,</p3>;rel=timemap",
-    )?;
-    add(
-        &mut fetch,
-        alloc,
+    ),
+    (
         b"http://arc.example/p1",
         b"</2>;rel=memento;datetime=\"Mon, 03 Jan 2000 00:00:00 GMT\"",
-    )?;
-    add(
-        &mut fetch,
-        alloc,
+    ),
+    (
         b"http://arc.example/p2",
         b"</1>;rel=memento;datetime=\"Sat, 01 Jan 2000 00:00:00 GMT\",</p1>;rel=timemap",
-    )?;
-    Ok(Archive {
-        fetch,
-        job: job(alloc, b"http://arc.example/i#top")?,
-        jobs: vec![in alloc;
-            job(alloc, b"http://arc.example/i")?,
-            job(alloc, b"http://arc.example/p2")?,
-            job(alloc, b"http://arc.example/other")?,
-        ]?,
-    })
+    ),
+];
+
+fn fetch(alloc: Global) -> Result<MemoryFetch> {
+    let mut fetch = MemoryFetch::new(alloc);
+    for (url, body) in PAGES {
+        add(&mut fetch, alloc, url, body)?;
+    }
+    Ok(fetch)
+}
+
+const FIRST_URLS: [&[u8]; 3] = [
+    b"http://arc.example/i",
+    b"http://arc.example/p2",
+    b"http://arc.example/other",
+];
+
+fn jobs(alloc: Global) -> Result<Vec<Job>> {
+    let mut jobs = Vec::new(alloc);
+    for first in FIRST_URLS {
+        jobs.push(job(alloc, first)?)?;
+    }
+    Ok(jobs)
 }
 
 fn job(alloc: Global, first: &[u8]) -> Result<Job> {
@@ -64,16 +80,19 @@ fn job(alloc: Global, first: &[u8]) -> Result<Job> {
     })
 }
 
-fn add(fetch: &mut MemoryFetch, alloc: Global, url: &[u8], body: &[u8]) -> Result<()> {
-    let url = Clean::new(alloc, url)?;
-    let identity = Octets::of(Vec::from_slice(alloc, b"identity")?);
-    let answer = Answer {
+/// An answer with this body, of which it is said that it isn't coded.
+fn answer(alloc: Global, body: &[u8]) -> Result<Answer> {
+    let identity = octets(alloc, b"identity")?;
+    Ok(Answer {
         status: 200,
         encoding: Items::of(vec![in alloc; identity]?),
         retry_after: Items::of(Vec::new(alloc)),
-        body: Octets::of(Vec::from_slice(alloc, body)?),
-    };
-    fetch.add(url, answer)?;
+        body: octets(alloc, body)?,
+    })
+}
+
+fn add(fetch: &mut MemoryFetch, alloc: Global, url: &[u8], body: &[u8]) -> Result<()> {
+    fetch.add(Clean::new(alloc, url)?, answer(alloc, body)?)?;
     Ok(())
 }
 

@@ -76,10 +76,9 @@ fn fault_is_503(rt: HostRuntime) -> Result<()> {
         move || serve_one(rt, &port_to),
         move || fetch_at(rt, &port_from),
     );
-    assert_eq!(rt; served, Some(0));
+    assert!(rt; served == Some(0));
     let answer = fetched.context("no answer")?;
-    assert_eq!(rt; answer.status, 503);
-    assert_eq!(rt; answer.body.as_slice().len(), 0);
+    assert!(rt; answer.status == 503 && answer.body.as_slice().is_empty());
     Ok(())
 }
 
@@ -150,16 +149,10 @@ fn a_gate_answers_once_it_is_ready(rt: HostRuntime) -> Result<()> {
     let request = get(alloc, b"/timegate/http://a.example/")?;
     let readiness = Readiness::new(alloc)?;
     let mut gate = ReadyGate::new(Steady { alloc }, readiness.share()?);
-    assert_eq!(rt;
-        (readiness.is_set(), status_of(&mut gate, &request)),
-        (false, None)
-    );
+    assert!(rt; !readiness.is_set() && status_of(&mut gate, &request).is_none());
     let other = readiness.share()?;
     thread::join(&rt, move || other.set(), || ());
-    assert_eq!(rt;
-        (readiness.is_set(), status_of(&mut gate, &request)),
-        (true, Some(404))
-    );
+    assert!(rt; readiness.is_set() && status_of(&mut gate, &request) == Some(404));
     Ok(())
 }
 
@@ -223,16 +216,21 @@ fn limited(limits: Limits) -> CarefulFetch<'static> {
 fn agents_are_sent(rt: HostRuntime) -> Result<()> {
     let text = "Maplewrench (+mailto:you@example.org)";
     let agent = Agent::new(rt.alloc(), text)?.context("no agent")?;
-    assert_eq!(rt; agent.as_str(), text);
+    assert!(rt; agent.as_str() == text);
     let nameless = limited(Limits::default());
-    assert_eq!(rt; agent_seen(&rt, nameless)?.as_slice(), b"".as_slice());
+    assert!(rt; agent_seen(&rt, nameless)?.as_slice().is_empty());
     let named = CarefulFetch {
         patience: Patience::of_seconds(1),
         hosts: None,
         limits: Limits::default(),
         agent: Some(&agent),
     };
-    assert_eq!(rt; agent_seen(&rt, named)?.as_slice(), text.as_bytes());
+    assert!(rt; agent_seen(&rt, named)?.as_slice() == text.as_bytes());
+    Ok(())
+}
+
+#[test]
+fn agents_are_visible_texts(rt: HostRuntime) -> Result<()> {
     for other in ["", " ", " a", "a ", "a\nb", "é"] {
         assert!(rt; Agent::new(rt.alloc(), other)?.is_none(), "{other}");
     }

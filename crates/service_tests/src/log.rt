@@ -10,7 +10,7 @@ const NAME: &[u8] = b"arc.example";
 #[test]
 fn a_line_is_written_behind_its_mark(rt: HostRuntime) -> Result<()> {
     let name = ArchiveName::new(NAME).context("no name")?;
-    assert_eq!(rt; name_text(&name), "arc.example");
+    assert!(rt; name_text(&name) == "arc.example");
     let counts = Counts {
         walks: 3,
         failed: 2,
@@ -29,10 +29,10 @@ fn a_line_is_written_behind_its_mark(rt: HostRuntime) -> Result<()> {
     write_line(rt.alloc(), line, &mut log)?;
     let told =
         "log: round 7: archive arc.example: 2 of 3 walks failed, the first: status 503 from http://arc.example/list\n";
-    assert_eq!(rt; log.as_slice(), told.as_bytes());
+    assert!(rt; log.as_slice() == told.as_bytes());
     write_line(rt.alloc(), Line::Output, &mut log)?;
     let more = "log: standard output fails: no further round is made\n";
-    assert_eq!(rt; &log[told.len()..], more.as_bytes());
+    assert!(rt; log.strip_prefix(told.as_bytes()) == Some(more.as_bytes()));
     Ok(())
 }
 
@@ -50,6 +50,6 @@ fn walks_are_counted_by_their_ends(rt: HostRuntime) -> Result<()> {
         failed: 1,
         parts: 1,
     };
-    assert_eq!(rt; counts, expected);
+    assert!(rt; counts == expected);
     Ok(())
 }

@@ -3,6 +3,7 @@
 use service_settings::{
     Holding, Key, SettingsFault, bad_original, read_settings, shown, unknown_keys,
 };
+use std::alloc::Global;
 use std::test::Fail;
 
 /// All that must stand in settings, behind the originals.
@@ -17,31 +18,44 @@ peers = ["http://127.0.0.1:9080/"]
 archives = [{ name = "arc.example", timemap = "http://127.0.0.1:8100/list/" }]
 "#;
 
+/// The settings with these originals.
+fn settings(alloc: Global, originals: &str) -> Result<String, Fail> {
+    Ok(format!(in alloc; "originals = [{originals}]{REST}")?)
+}
+
+fn fault_of(alloc: Global, text: &str) -> Option<SettingsFault> {
+    read_settings(alloc, text).err()
+}
+
 #[test]
 fn settings_are_read(rt: HostRuntime) -> Result<(), Fail> {
     let alloc = rt.alloc();
-    let text = format!(in alloc; "originals = [\"http://a.example/\"]{REST}")?;
-    assert_eq!(rt; read_settings(alloc, text.as_str()).err(), None);
-    assert_eq!(rt; bad_original(alloc, text.as_str()), None);
+    let text = settings(alloc, "\"http://a.example/\"")?;
+    assert!(rt; fault_of(alloc, &text).is_none() && bad_original(alloc, &text).is_none());
     Ok(())
 }
 
 #[test]
 fn the_first_fault_is_told(rt: HostRuntime) -> Result<(), Fail> {
+    for (text, fault) in [
+        ("base = 1", SettingsFault::Key(Key::Base)),
+        ("base", SettingsFault::Text),
+    ] {
+        assert!(rt; fault_of(rt.alloc(), text) == Some(fault), "{text}");
+    }
+    assert!(rt; Key::Base.name() == "base" && Key::Gates.limits() == (1, 64));
+    Ok(())
+}
+
+/// A bad original is told by its number where a key stands there by which more is told than what is specified.
+#[test]
+fn a_bad_original_is_told_by_its_number(rt: HostRuntime) -> Result<(), Fail> {
     let alloc = rt.alloc();
-    let text = format!(in alloc; "originals = [\"http://a.example/\", \"ftp\"]{REST}")?;
-    let fault = read_settings(alloc, text.as_str()).err();
-    assert_eq!(rt; fault, Some(SettingsFault::Key(Key::Originals)));
-    assert_eq!(rt; bad_original(alloc, text.as_str()), None, "as specified");
+    let text = settings(alloc, "\"http://a.example/\", \"ftp\"")?;
+    assert!(rt; fault_of(alloc, &text) == Some(SettingsFault::Key(Key::Originals)));
+    assert!(rt; bad_original(alloc, &text).is_none(), "as specified");
     let text = format!(in alloc; "again = 60\n{text}")?;
-    assert_eq!(rt; bad_original(alloc, text.as_str()), Some(2));
-    let fault = read_settings(alloc, "base = 1").err();
-    assert_eq!(rt; fault, Some(SettingsFault::Key(Key::Base)));
-    assert_eq!(rt;
-        read_settings(alloc, "base").err(),
-        Some(SettingsFault::Text)
-    );
-    assert_eq!(rt; (Key::Base.name(), Key::Gates.limits()), ("base", (1, 64)));
+    assert!(rt; bad_original(alloc, &text) == Some(2));
     Ok(())
 }
 
