@@ -56,31 +56,32 @@ check_ending() {
     echo "$name: $count requests for memory refused in turn, $unneeded without an effect"
 }
 
-# A command that calls again whatever was refused: check_calls EXPECTED COMMAND..
+# A command that calls again whatever was refused: check_calls NAME EXPECTED COMMAND..
 check_calls() {
-    local expected=$1 number count
-    shift
+    local name=$1 expected=$2 number count
+    shift 2
     count=$(requests_of "$@")
     for number in $(seq "$count"); do
         run_refused "$number" "$@" && cmp "$work/out" "$expected" || {
-            echo "$(basename "$1"): request $number refused: $(cat "$work/err")" >&2
+            echo "$name: request $number refused: another answer, or none in a minute; $(cat "$work/err")" >&2
             exit 1
         }
     done
     total=$((total + count))
-    echo "$(basename "$1"): $count requests for memory refused in turn, each time the same answers at the next call"
+    echo "$name: $count requests for memory refused in turn, each time the same answers at the next call"
 }
 
 # Makes public calls one by one, refuses each request in turn, and counts the refusals of each call, which names itself where it
 # is refused. What other calls here ask for is refused too, and isn't counted. A call that says that it asks for none fails if it
-# is refused. The calls of several programs: refuse_calls COMMAND.. notes those of one, and count_calls tells of all.
+# is refused. The calls of several programs: refuse_calls NAME COMMAND.. notes those of one, and count_calls tells of all.
 refuse_calls() {
-    local number count
+    local name=$1 number count
+    shift
     count=$(requests_of "$@")
     "$@" >"$work/expected"
     for number in $(seq "$count"); do
         run_refused "$number" "$@" && cmp "$work/out" "$work/expected" || {
-            echo "$(basename "$1"): request $number refused: $(cat "$work/err")" >&2
+            echo "$name: request $number refused: another answer, or none in a minute; $(cat "$work/err")" >&2
             exit 1
         }
         cat "$work/err" >>"$work/refused"
@@ -147,11 +148,11 @@ grep -qx "list: line 2 is no original" "$work/settings" || { echo "a bad line is
 check_ending "check, with originals in a file" /dev/null "$work/settings" "$PROGRAM" check "$work/listed.toml"
 check_naming
 check_serving
-check_calls "$top/crates/refusal_probe/stdout" "$REFUSALS"
-check_calls "$top/tests/memory/gates.expected" "$PROBE" refusals
+check_calls refusal_probe "$top/crates/refusal_probe/stdout" "$REFUSALS"
+check_calls 'gate_probe refusals' "$top/tests/memory/gates.expected" "$PROBE" refusals
 echo 'each client got its reply, or a refusal and the next its reply' >"$work/replies.expected"
-check_calls "$work/replies.expected" "$PROBE" replies
-refuse_calls "$REFUSALS" calls
-refuse_calls "$SERVICES"
+check_calls 'gate_probe replies' "$work/replies.expected" "$PROBE" replies
+refuse_calls 'refusal_probe calls' "$REFUSALS" calls
+refuse_calls service_refusal_probe "$SERVICES"
 count_calls
 echo "$total requests for memory were refused in turn, and none changed an answer"
