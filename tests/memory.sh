@@ -135,6 +135,27 @@ check_naming() {
     echo "a bad entry: $count requests for memory refused in turn"
 }
 
+# Settings that can't be read: where a request for the name of their file is refused, the name isn't told.
+check_unread() {
+    local number count status unnamed=0
+    COUNT=$work/count LD_PRELOAD=$work/refuse.so "$PROGRAM" check "$work/none" 2>"$work/whole" || true
+    count=$(cat "$work/count")
+    for number in $(seq "$count"); do
+        status=0
+        run_refused "$number" "$PROGRAM" check "$work/none" || status=$?
+        case "$status $(cat "$work/err")" in
+            "3 no memory") ;;
+            "3 device fault") unnamed=$((unnamed + 1)) ;;
+            "3 $(cat "$work/whole")") ;;
+            *) echo "no file: request $number refused: status $status, $(cat "$work/err")" >&2; exit 1 ;;
+        esac
+    done
+    grep -qxF "can't be read: $work/none" "$work/whole" || { echo "a file that can't be read isn't named" >&2; exit 1; }
+    [ "$unnamed" -gt 0 ] || { echo "nothing is refused where a file is named" >&2; exit 1; }
+    total=$((total + count))
+    echo "no file: $count requests for memory refused in turn"
+}
+
 total=0
 for script in "$top"/examples/*.replay "$top"/tests/scripts/*.replay; do
     check_ending "$(basename "$script")" "$script" "${script%.replay}.expected" "$PROGRAM" replay
@@ -147,6 +168,7 @@ sed "/^originals = /a originals_file = \"$work/list\"" "$top/deploy/settings.tom
 grep -qx "list: line 2 is no original" "$work/settings" || { echo "a bad line isn't named" >&2; exit 1; }
 check_ending "check, with originals in a file" /dev/null "$work/settings" "$PROGRAM" check "$work/listed.toml"
 check_naming
+check_unread
 check_serving
 check_calls refusal_probe "$top/crates/refusal_probe/stdout" "$REFUSALS"
 check_calls 'gate_probe refusals' "$top/tests/memory/gates.expected" "$PROBE" refusals
