@@ -1,5 +1,6 @@
 #!/usr/bin/env python3
-"""What settings may hold: each key missing, each from both sides of its limits, and which key the program names then.
+"""What settings may hold: each key missing, each from both sides of its limits, and which key the program names then; and
+what it tells beside that: which entry is no original, what a key may hold, which keys aren't looked at.
 
     ./run --unproved && tests/settings.py
 
@@ -288,12 +289,13 @@ def expect_unknown():
 def expect_logged():
     """`serve` begins its log with the keys that aren't looked at, if there is one, and says nothing of them otherwise."""
     nowhere = '["192.0.2.1:8080"]'    # so that it ends at once
+    ended = "log: gate 1 (192.0.2.1:8080) ended: an address that can't be bound\n"
     with tempfile.TemporaryDirectory() as name:
         file = pathlib.Path(name) / "settings.toml"
         for what, changed, said in (
-            ("with a log", {"log": "true", "again": "60"}, "log: unknown key: other\nlog: archives: unknown key: evry\n"),
+            ("with a log", {"log": "true", "again": "60"}, f"log: unknown key: other\nlog: archives: unknown key: evry\n{ended}"),
             ("without one", {"log": "false", "again": "60"}, ""),
-            ("as it is specified", {"log": "true"}, ""),
+            ("as it is specified", {"log": "true"}, ended),
         ):
             file.write_text(text_with(gates=nowhere, archives=asked("evry = 1"), **changed))
             ran = subprocess.run([PROGRAM, "serve", file], capture_output=True, text=True, check=False)
@@ -357,7 +359,7 @@ def main():
     expect("of the last two the first", text_with(hosts="7", log="7"), fault_of("hosts"))
     keys = [*OWN, "agent", "ready", "snapshot", "snapshot_every", "formats", "status", "together"]
     for key, later in zip(keys, keys[1:]):
-        expect(f"of {key} and {later} the first", text_with(**{key: "{}", later: "{}"}), fault_of(key))
+        expect(f"of {key} and {later} the first", text_with(**{key: "{}", later: "{}"}), told_of(key) if {key, later} & TELLING else fault_of(key))
     expect("the specified keys before all others", text_with(log="7", at_once="0"), fault_of("log"))
     expect("no TOML", "base =", fault_of("text"))
     expect("a key twice", text_with() + "pause = 1\n", fault_of("text"))
