@@ -144,10 +144,12 @@ try_counts() {
     printf '#!/usr/bin/env bash\n# Has no end.\nsleep 1000\n' >tests/stays.sh
     chmod +x tests/fails.sh tests/lacks.sh tests/stays.sh
     printf '%s quick 1 -\n' fails lacks stays >>tests/list.txt
-    LIMIT=5 runs 1 tests/run pages fails lacks stays
+    runs 1 tests/run pages fails lacks
     has "a run says of each test what it did" "$said" "4 pages are read as expected" "fails: so it is" "fails: FAILED with status 1" \
-        "lacks: left out: needs luck" "stays: not done after 5 seconds"
-    same "and counts them" "$(tail -n 1 <<<"$said")" "1 passed, 2 failed, 1 skipped"
+        "lacks: left out: needs luck"
+    same "and counts them" "$(tail -n 1 <<<"$said")" "1 passed, 1 failed, 1 skipped"
+    LIMIT=2 runs 1 tests/run stays
+    has "a test without an end is ended, and fails" "$said" "stays: not done after" "0 passed, 1 failed, 0 skipped"
     runs 0 ./run test pages lacks
     same "./run test is that command" "$(tail -n 1 <<<"$said")" "1 passed, 0 failed, 1 skipped"
     runs 2 tests/run nosuch
