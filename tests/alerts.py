@@ -44,7 +44,7 @@ def listed_metrics():
     """Labels of each metric, and the outcomes of each kind, by the tables of docs/OPERATING.md."""
     text = (TOP / "docs/OPERATING.md").read_text(encoding="utf-8")
     metrics = {row[0]: set(re.findall(r"`(\w+)`", row[1])) for row in re.findall(r"(?m)^\| `(\w+)` \| (?:gauge|counter) \|([^|]*)\|", text)}
-    outcomes = {kind: set(re.findall(r"`(\w+)`", row)) for kind, row in re.findall(r"(?m)^\| a (walk|pull|publish|wish) \| (.*) \|$", text)}
+    outcomes = {kind: set(re.findall(r"`(\w+)`", row)) for kind, row in re.findall(r"(?m)^\| a (walk|pull|publish|snapshot|forgetting|wish) \| (.*) \|$", text)}
     return metrics | OTHERS, outcomes
 
 
@@ -80,7 +80,7 @@ def faults_of(rule, metrics, outcomes):
 
 def try_reading(rules):
     metrics, outcomes = listed_metrics()
-    holds(f"{len(metrics)} metrics and the outcomes of {sorted(outcomes)} are listed", len(metrics) > 15 and len(outcomes) == 4)
+    holds(f"{len(metrics)} metrics and the outcomes of {sorted(outcomes)} are listed", len(metrics) > 30 and len(outcomes) == 6)
     for rule in rules:
         faults = faults_of(rule, metrics, outcomes)
         holds(f"{rule['alert']} names what there is: {faults or rule['expr']}", not faults)
@@ -104,6 +104,14 @@ WELL = {
     'process_resident_memory_bytes{job="maplewrench",instance="a"}': f"1000000000x{MINUTES}",
     'maplewrench_archive_dormant_until_timestamp_seconds{instance="a",archive="x"}': f"0x{MINUTES}",
     'maplewrench_peer_last_delta_timestamp_seconds{instance="a",peer="p"}': f"0+60x{MINUTES}", 'maplewrench_clock_seconds{instance="a"}': f"0+60x{MINUTES}",
+    'maplewrench_archive_aside_until_timestamp_seconds{instance="a",archive="x"}': f"0x{MINUTES}",
+    'maplewrench_snapshots_total{instance="a",outcome="failed"}': f"0x{MINUTES}", 'maplewrench_snapshot_behind{instance="a"}': f"1x{MINUTES}",
+    'maplewrench_last_snapshot_timestamp_seconds{instance="a"}': f"0+60x{MINUTES}", 'maplewrench_wishes_total{instance="a",outcome="late"}': f"0x{MINUTES}",
+    'maplewrench_wanted_used{instance="a"}': f"80x{MINUTES}", 'maplewrench_wanted_limit{instance="a"}': f"100x{MINUTES}",
+    'maplewrench_forgettings_total{instance="a",outcome="refused"}': f"0x{MINUTES}", 'maplewrench_forgettings_total{instance="a",outcome="forgotten"}': f"0+1x{MINUTES}",
+    'maplewrench_floor_timestamp_seconds{instance="a"}': f"-90000+60x{MINUTES}", 'maplewrench_unlisted_mementos{instance="a"}': f"90x{MINUTES}",
+    'maplewrench_list_bad_lines{instance="a"}': f"0x{MINUTES}", 'maplewrench_last_list_timestamp_seconds{instance="a"}': f"0+60x{MINUTES}",
+    'maplewrench_revisions_ahead{instance="a"}': f"0x{MINUTES}", 'maplewrench_build_info{instance="a",version="1"}': f"1x{MINUTES}",
     'maplewrench_wishes_total{instance="a",outcome="turned_away"}': f"0x{MINUTES}", 'maplewrench_replies_total{instance="a",gate="1",status="503"}': f"3x{MINUTES}",
 }
 # What is otherwise where a rule is to fire.
@@ -116,9 +124,22 @@ ILL = {
     "MaplewrenchIsNearItsMemory": {'process_resident_memory_bytes{job="maplewrench",instance="a"}': f"2900000000x{MINUTES}"},
     "MaplewrenchArchiveSleeps": {'maplewrench_archive_dormant_until_timestamp_seconds{instance="a",archive="x"}': f"600+60x{MINUTES}"},
     "MaplewrenchArchiveGivesNothing": {'maplewrench_walks_total{instance="a",archive="x",outcome="whole"}': f"9x{MINUTES}"},
+    "MaplewrenchArchiveIsSetAside": {'maplewrench_archive_aside_until_timestamp_seconds{instance="a",archive="x"}': f"600+60x{MINUTES}"},
+    "MaplewrenchSnapshotsFail": {'maplewrench_snapshots_total{instance="a",outcome="failed"}': f"0+1x{MINUTES}"},
+    "MaplewrenchSnapshotIsOld": {'maplewrench_last_snapshot_timestamp_seconds{instance="a"}': f"0x{MINUTES}"},
     "MaplewrenchPeerIsSilent": {'maplewrench_peer_last_delta_timestamp_seconds{instance="a",peer="p"}': f"0x{MINUTES}"},
     "MaplewrenchClockIsOff": {'maplewrench_clock_seconds{instance="a"}': f"100+60x{MINUTES}"},
     "MaplewrenchRefusesWishes": {'maplewrench_wishes_total{instance="a",outcome="turned_away"}': f"0+1x{MINUTES}"},
+    "MaplewrenchWishesAreLate": {'maplewrench_wishes_total{instance="a",outcome="late"}': f"0+1x{MINUTES}"},
+    "MaplewrenchRoomIsUsedUp": {'maplewrench_wanted_used{instance="a"}': f"95x{MINUTES}"},
+    "MaplewrenchForgetsNothing": {'maplewrench_forgettings_total{instance="a",outcome="refused"}': f"0+1x{MINUTES}"},
+    "MaplewrenchForgetsSoon": {'maplewrench_floor_timestamp_seconds{instance="a"}': f"-3600+60x{MINUTES}"},
+    "MaplewrenchDropsHarvests": {'maplewrench_unlisted_mementos{instance="a"}': f"99x{MINUTES}",
+                                 'maplewrench_unlisted_mementos_limit{instance="a"}': f"100x{MINUTES}"},
+    "MaplewrenchListHasBadLines": {'maplewrench_list_bad_lines{instance="a"}': f"3x{MINUTES}"},
+    "MaplewrenchListIsUnread": {'maplewrench_last_list_timestamp_seconds{instance="a"}': f"0x{MINUTES}"},
+    "MaplewrenchRevisionsAreAhead": {'maplewrench_revisions_ahead{instance="a"}': f"2x{MINUTES}"},
+    "MaplewrenchVersionsDiffer": {'maplewrench_build_info{instance="b",version="2"}': f"1x{MINUTES}"},
     "MaplewrenchGateFails": {'maplewrench_replies_total{instance="a",gate="1",status="503"}': f"3+1x{MINUTES}"},
 }
 
@@ -136,7 +157,7 @@ def try_promtool(rules):
     ran = subprocess.run(["promtool", "check", "rules", RULES], capture_output=True, text=True)
     holds(f"promtool takes it: {(ran.stdout + ran.stderr).split()[-3:]}", ran.returncode == 0)
     same("each rule is tried", [rule["alert"] for rule in rules], list(ILL))
-    tests = [firing(WELL, ILL, 27, 0)] + [firing(WELL | other, [rule], 27 if "GivesNothing" in rule else 5, 1) for rule, other in ILL.items()]
+    tests = [firing(WELL, ILL, 27, 0)] + [firing(WELL | other, [rule], 27 if "GivesNothing" in rule or "Differ" in rule else 5, 1) for rule, other in ILL.items()]
     with tempfile.TemporaryDirectory() as folder:
         file = pathlib.Path(folder) / "tests.yaml"    # JSON is YAML
         file.write_text(json.dumps({"rule_files": [str(RULES)], "evaluation_interval": "5m", "tests": tests}))

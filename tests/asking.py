@@ -9,7 +9,7 @@ import email.utils
 import threading
 import time
 
-from playing import BASE, GOOD, Played, Service, holds, originals, reply, same, told
+from playing import BASE, GOOD, MEMENTO, Played, Service, holds, originals, reply, same, told
 
 BROKEN = reply(status=500)
 
@@ -65,6 +65,95 @@ def try_waking():
         log = "".join(service.logs_until("archive sick.example: 3 of"))
         same("it is told once that it is dormant", log.count("2 failures in a row"), 1)
         same("and once that it answers again", log.count("sick.example: answers again, jobs left: "), 1)
+
+
+class Switched(Timed):
+    """Answers with this now, and with another when it is told to."""
+
+    def __init__(self, answer):
+        self.now = answer
+        super().__init__(lambda _: self.now)
+
+
+def try_absent():
+    """An archive that gave no answer in a whole round is asked again once it slept, and the others aren't before the pause is over."""
+    with contextlib.ExitStack() as stack:
+        asked = Switched(BROKEN)
+        sick, steady = Played(stack, asked), Played(stack, lambda _: GOOD)
+        service = Service(stack, archives=[("sick.example", sick.address), ("steady.example", steady.address)], originals=originals(4),
+                          workers=2, rounds=5, pause=5, keys={"tolerance": 2, "dormant": 1}, logged=True)
+        same("of the archive that fails two are asked for", service.line(), told(1, 6, 4))
+        over = time.monotonic()
+        same("after a second one walk finds that it fails still, and nobody else is asked", service.line(), told(2, 1, 0))
+        asked.now = GOOD
+        same("and after another one it is asked for all", service.line(), told(3, 4, 4))
+        same("all in one go", (len(asked.times), len(steady.heads)), (7, 4))
+        holds(f"{time.monotonic() - over:.1f} s after the round", 1.9 <= time.monotonic() - over <= 4.8)
+        same("both are asked again when the pause is over", service.line(), told(4, 8, 8))
+        holds(f"after {time.monotonic() - over:.1f} s", 4.9 <= time.monotonic() - over <= 7.5)
+        same("and then nobody was absent", service.line(), told(5, 8, 8))
+        holds(f"after {time.monotonic() - over:.1f} s", time.monotonic() - over >= 9.9)
+        log = "".join(service.logs_until("round 3: archive sick.example: answers again"))
+        same("the log tells that it was left", [log.count(f"round {k}: archive sick.example: {left} walks not begun") for k, left in
+                                                ((1, 2), (2, 3))], [1, 1])
+        same("and of the other nothing", log.count("steady.example"), 0)
+
+
+def try_absent_beside_busy():
+    """A round that asks absent archives doesn't wait for one that it doesn't ask, and that wants to be left alone."""
+    with contextlib.ExitStack() as stack:
+        busy = Switched(GOOD)
+        sick, other = Played(stack, lambda _: BROKEN), Played(stack, busy)
+        service = Service(stack, archives=[("sick.example", sick.address), ("busy.example", other.address)], originals=originals(1),
+                          workers=2, rounds=3, pause=600, keys={"tolerance": 9, "dormant": 2, "wanted": 9})
+        same("one archive fails", service.line(), told(1, 2, 1))
+        over, busy.now = time.monotonic(), reply("slowly", "Retry-After: 300", status=429)
+        service.shows("http://wished.example/")
+        same("it is asked again", service.line(), told(2, 1, 0))
+        holds(f"after {time.monotonic() - over:.1f} s", 1.9 <= time.monotonic() - over <= 60)
+        same("when a wish has found the other one busy", len(other.heads), 2)
+
+
+def try_absent_at_first():
+    """Where nothing can be reached at the start, readers wait as long as archives sleep; without a tolerance for the whole pause."""
+    for keys, most in (({"tolerance": 5, "dormant": 1}, 5.5), ({"dormant": 1}, None)):
+        with contextlib.ExitStack() as stack:
+            asked = Switched(BROKEN)
+            archive = Played(stack, asked)
+            service = Service(stack, archives=[("a.example", archive.address)], originals=originals(2), rounds=9, pause=6,
+                              keys={"ready": True, "wanted": 10, **keys})
+            same("the first round gives nothing", service.line(), told(1, 2, 0))
+            over, asked.now = time.monotonic(), GOOD
+            same("and gates say 503", service.shows(originals(1)[0]), 503)
+            same("the next round gives all", service.line(), told(2, 2, 2))
+            passed = time.monotonic() - over
+            holds(f"after {passed:.1f} s", passed <= most if most else passed >= 5.9)
+            same("and gates answer", service.shows(originals(1)[0]), MEMENTO)
+
+
+def try_refusing():
+    """An archive that refuses all that it is asked for is there, so nobody asks again before the pause is over."""
+    with contextlib.ExitStack() as stack:
+        archive = Played(stack, lambda _: reply(status=403))
+        service = Service(stack, archives=[("a.example", archive.address)], originals=originals(3), rounds=2, pause=3,
+                          keys={"tolerance": 5, "dormant": 1})
+        same("a round gives nothing", service.line(), told(1, 3, 0))
+        over = time.monotonic()
+        same("and the next one neither", service.line(), told(2, 3, 0))
+        holds(f"which begins when the pause is over, after {time.monotonic() - over:.1f} s", time.monotonic() - over >= 2.9)
+
+
+def try_nothing_to_ask():
+    """Where rounds have no jobs, nobody is absent."""
+    with contextlib.ExitStack() as stack:
+        archive = Played(stack, lambda _: BROKEN)
+        service = Service(stack, archives=[("a.example", archive.address)], rounds=2, pause=3, keys={"tolerance": 1, "dormant": 1, "wanted": 9})
+        same("a round has no jobs", service.line(), told(1, 0, 0))
+        over = time.monotonic()
+        service.shows("http://wished.example/")
+        same("and the next one neither", service.line(), told(2, 0, 0))
+        holds(f"which begins when the pause is over, after {time.monotonic() - over:.1f} s", time.monotonic() - over >= 2.9)
+        same("a wish was asked for meanwhile", len(archive.heads), 1)
 
 
 def try_busy():
@@ -206,8 +295,9 @@ def try_two_names():
 
 
 def main():
-    for attempt in (try_dormant, try_waking, try_paces, try_two_names, try_busy, try_plain_503, try_one_goes_first,
-                    try_earlier_answers, try_odd_patience):
+    for attempt in (try_dormant, try_waking, try_absent, try_absent_beside_busy, try_absent_at_first, try_refusing,
+                    try_nothing_to_ask, try_paces,
+                    try_two_names, try_busy, try_plain_503, try_one_goes_first, try_earlier_answers, try_odd_patience):
         attempt()
     print("archives are asked as often as they allow, and no job is lost")
 

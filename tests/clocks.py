@@ -1,6 +1,6 @@
 #!/usr/bin/env python3
-"""A running service under clocks that are wrong: before 1970, at the end of the year 9999, standing still, and set back while
-it runs.
+"""A running service under clocks that are wrong: before 1970, at the end of the year 9999, standing still, ahead, and set back
+while it runs.
 
     ./run --unproved && tests/clocks.py
 
@@ -16,7 +16,7 @@ import threading
 import time
 
 from playing import (ENVIRONMENT, ORIGINAL, PATIENCE, TOP, Played, Service, comes_true, compiled, free_ports, holds, link, needs, reply, same,
-                     told)
+                     told, until)
 
 LAST_SECOND = 253_402_300_799    # of the year 9999
 MOST_NUMBER = 2 ** 64 - 1
@@ -194,11 +194,71 @@ def try_restarts(library):
         same("and changes nothing, since its revision is an earlier one", service.shows(), memento(1))
 
 
+def try_wish_ahead(library):
+    """What was wished for while the clock was ahead is wished for anew once it is right, though all wishes of that minute were taken."""
+    with contextlib.ExitStack() as stack:
+        clock, has = Clock(stack, library, [second_of(2040)]), threading.Event()
+        archive = Played(stack, lambda _: reply(link(memento(1))) if has.is_set() else reply(status=404))
+        service = Service(stack, archives=[("arc.example", archive.address)], rounds=2, pause=86_400, env=clock.environment,
+                          keys={"wanted": 9, "again": 5, "wishes": 2})
+        same("the first round has no job", service.line(), told(1, 0, 0))
+        for wished in (ORIGINAL, "http://second.example/"):
+            same("nothing is known of it", service.shows(wished), None)
+            until("it is asked for", lambda wished=wished: any(target.endswith(wished) for target in archive.targets()))
+        clock.set(second_of(2030))
+        has.set()
+        until("it is asked for again, and shown", lambda: service.shows() == memento(1))
+
+
+def try_forget_back(library):
+    """The clock is set back while a service forgets: what is harvested then is the oldest, and what is listed stays."""
+    with contextlib.ExitStack() as stack:
+        clock = Clock(stack, library, [second_of(2020)])
+        archive = Played(stack, lambda _: reply(link(memento(1))))
+        service = Service(stack, archives=[("arc.example", archive.address)], originals=[ORIGINAL], rounds=1_000_000, pause=1,
+                          env=clock.environment,
+                          keys={"wanted": 3, "again": 86_400, "wishes": 60_000, "publish": 1, "forget": 1})
+        until("what is listed is shown", lambda: service.shows() == memento(1))
+        first = [f"http://first.example/{k}" for k in range(3)]
+        for original in first:
+            until("an original is shown", lambda original=original: service.shows(original) == memento(1))
+        clock.set(second_of(2010))
+        for k in range(3):
+            original = f"http://later.example/{k}"
+            until("after the clock was set back another is, too", lambda original=original: service.shows(original) == memento(1))
+        until("then no more is known than is wanted", lambda: len(service.entries()) <= 4)
+        known = [original for _, original, _ in service.entries()]
+        holds(f"what was harvested before stays: {known}", all(original in [ORIGINAL, *first] for original in known))
+        same("and what is listed", service.shows(), memento(1))
+
+
+def try_forget_ahead(library):
+    """What a clock that was ahead has left goes if it is withdrawn for a round."""
+    with contextlib.ExitStack() as stack:
+        clock, pages = Clock(stack, library, [second_of(2040)]), [1]
+        withdrawn = clock.file.parent / "withdrawn"
+        withdrawn.write_text("")
+        archive = Played(stack, lambda _: reply(link(memento(pages[0]))))
+        service = Service(stack, archives=[("arc.example", archive.address)], originals=[ORIGINAL], rounds=1_000_000, pause=1,
+                          env=clock.environment, keys={"withdrawn_file": str(withdrawn)})
+        until("under a clock that is ahead a memento is shown", lambda: service.shows() == memento(1))
+        clock.set(second_of(2030))
+        pages[0] = 2
+        count = len(archive.heads)
+        until("under a right clock the archive is asked again", lambda: len(archive.heads) > count + 1)
+        same("and what it has now isn't shown", service.shows(), memento(1))
+        withdrawn.write_text(f"original {ORIGINAL}\n")
+        until("it is withdrawn", lambda: service.shows() is None)
+        withdrawn.write_text("")
+        until("and once it is lifted, what the archive has now is shown", lambda: service.shows() == memento(2))
+
+
 def main():
     needs("cc")
     with tempfile.TemporaryDirectory() as folder:
         library = compiled(folder, TOP / "tests/clocks/clock.c")
-        for attempt in (try_before_1970, try_last_year, try_standing, try_set_back, try_back_in_round, try_set_on, try_restarts):
+        for attempt in (try_before_1970, try_last_year, try_standing, try_set_back, try_back_in_round, try_set_on, try_restarts,
+                        try_wish_ahead, try_forget_back, try_forget_ahead):
             attempt(library)
     print("under wrong clocks rounds were made, and the greatest revision counted")
 

@@ -8,7 +8,8 @@ set -euo pipefail
 . "$(dirname "$0")/saying.sh"
 take aggregator
 program=$PROGRAM
-unset PROGRAM FORMATS PROBE REFUSALS SERVICES
+# shellcheck disable=SC2046 # each variable that may name a program is a word
+unset $(cd "$top/tests" && python3 -c 'from programs import VARIABLES; print(*VARIABLES.values())')
 clone=$work/clone
 mkdir "$clone"
 (cd "$top" && git ls-files -z --cached --others --exclude-standard | tar --null --ignore-failed-read -T - -c) | tar -x -C "$clone"

@@ -66,11 +66,22 @@ notices 'an index leaves out a file of its folder' bench/README.md '`held.c`' 't
 notices 'a crate stands above what it uses' crates/README.md $'`url_texts` |\n| texts of the web | `link_format`, `timemap_reader`' \
     $'`timemap_reader` |\n| texts of the web | `link_format`, `url_texts`' 'timemap_reader stands above link_format, which it uses'
 notices 'a limit of the settings is another' docs/SETTINGS.md '1 to 60,000' '1 to 6,000' 'no row says that `wishes` holds 1 to 60,000'
+notices 'a key has two rows' docs/SETTINGS.md $'| `ready` |' $'| `agent` | 1 to 256 | | |\n| `ready` |' 'the tables of keys names `agent` 2 times'
+notices 'a key stands elsewhere than in the code' docs/MIGRATING.md $'| `pause` |' $'| `workers` | | |\n| `pause` |' 'the table of keys names `workers` 2 times'
+notices 'the manual page leaves out a key' deploy/aggregator.1 '.BR agent ", " ready' '.B agent' 'SETTINGS names `ready` 0 times'
+notices 'keys stand in another order' deploy/aggregator.1 '.BR agent ", " ready' '.BR ready ", " agent' "isn't in the order of Key"
+notices 'a reply of a gate is another' docs/API.md '| 404 | `no such page` |' '| 410 | `no such page` |' "the replies of a gate aren't as in"
+notices 'a word of the glossary has another type' docs/GLOSSARY.md '`Cursor` of `replica_exchange`' '`Cursors` of `replica_world`' \
+    "'cursor': replica_world defines no Cursors"
+notices 'a word is defined and not in the glossary' docs/OPERATING.md 'A *gate* answers' 'A *wicket* answers' "\\*wicket\\* isn't in docs/GLOSSARY.md"
+notices 'a test has no row' tests/README.md '| `alerts` | The' '| `alarms` | The' "tests/README.md: the tables aren't as counted"
+notices 'a script of the pages is another' web/page.js "'use strict'" "'use no strict'" 'index.html has other hashes'
+notices 'a file of the product is too long' web/page.css '.archive8' "$(printf '\n%.0s' {1..500} && echo .archive8)" 'web/page.css: it has .* lines'
 notices 'an item is lent to nobody' crates/harvest_lattice/src/ordered.rt 'pub(crate) fn count_below' 'pub fn count_below' \
     '`count_below` is pub, and no other crate reaches it'
 notices 'a module is on no map' crates/harvest_lattice/src/lib.rt '`shelves`' '`drawers`' "doesn't say what the module .shelves. is for"
-notices 'a paragraph is too wide' README.md 'Six claims, each with the contract that carries it.' \
-    'Six claims, each with the contract that carries it, which is one that the prover has to find met, whatever the input.' \
+notices 'a paragraph is too wide' README.md 'Here are seven claims, each with the contract that carries it.' \
+    'Here are seven claims, each with the contract that carries it, which is one that the prover has to find met, whatever the input.' \
     'over 120 columns'
 notices 'a line of a proof is too wide' crates/timegate/proofs/Replies.antt 'use ' "-- $(printf 'x%.0s' {1..200})
 use " 'is over 200 columns'

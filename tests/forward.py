@@ -147,8 +147,8 @@ def try_refused_by_nginx(folder, gate):
 
 
 def try_memgator(folder, gate):
-    """A list of MemGator's is read as it is, and what is wrong with one is named. Planted: `ignore` not heeded, and each check of a
-    type left out."""
+    """A list of MemGator's is read as it is, what is left out is told, and what is wrong with one is named. Planted: `ignore` not heeded,
+    and each check of a type left out."""
     def written(listed, name="list.json"):
         (folder / name).write_text(listed if isinstance(listed, str) else json.dumps(listed))
         return run_forward(folder / name, folder / "gator", "--settings", write_lists(folder, gate, [])[1], "--log", "off")
@@ -156,17 +156,19 @@ def try_memgator(folder, gate):
     good = [{"id": "ia", "name": "Internet Archive", "timemap": "https://127.0.0.1/web/timemap/link/", "timegate": "https://127.0.0.1/web/",
              "probability": 1.0, "ignore": False},
             {"id": "pt", "name": "Portugal", "timemap": "https://127.0.0.1:81/timemap/link/", "timegate": "https://127.0.0.1:81/", "probability": 0.5},
-            {"id": "Gone!", "name": "Gone", "timemap": "", "ignore": True}]
+            {"id": "Gone!", "name": "Gone", "timemap": "", "ignore": True}, {"id": "gate", "name": "A gate alone", "timegate": "https://127.0.0.1/"}]
     for name in ("list.json", "list"):
         ran = written(good, name)
         keys = tomllib.loads((folder / "gator/settings.toml").read_text())["archives"] if ran.returncode == 0 else ran.stderr
         same(f"{name}: those that aren't ignored are asked", keys, [
             {"name": "ia", "timemap": "http://127.0.0.1:8100/ia/web/timemap/link/"}, {"name": "pt", "timemap": "http://127.0.0.1:8100/pt/timemap/link/"}])
+        holds("what is left out is told, a line each",
+              "'Gone!' is left out: it is ignored\n" in ran.stderr and "'gate' is left out: it has no timemap\n" in ran.stderr)
         same("by the names that readers see", json.loads((folder / "gator/archives.json").read_text()),
              {"127.0.0.1": "Internet Archive", "127.0.0.1:81": "Portugal"})
     for what, listed, said in (
             ("no id", [{"timemap": "https://a.example/"}], "name has to be"), ("an id of other letters", [{**good[0], "id": "IA"}], "'IA'"),
-            ("a number for an id", [{**good[0], "id": 7}], "name has to be a text"), ("no timemap", [{"id": "ia"}], "ia: no http or https address"),
+            ("a number for an id", [{**good[0], "id": 7}], "name has to be a text"), ("no timemap at all", [{"id": "ia"}], "no archive"),
             ("a number for a timemap", [{**good[0], "timemap": 7}], "ia: timemap has to be a text"),
             ("a word for ignore", [{**good[0], "ignore": "no"}], "ia: ignore has to be true or false"),
             ("a number for a name", [{**good[0], "name": 7}], "ia: title has to be a text"), ("one twice", [good[0], good[0]], "a name twice"),
@@ -236,8 +238,8 @@ def try_forward(stack, folder):
     ends = {name: [line for line in log if line.startswith(name) and line.endswith(f": /{name}/timemap/link/{ORIGINALS[0]}")]
             for name in ("one.test", "silent.test")}
     holds(f"the log of requests has each once, with the archive's status and seconds: {ends}",
-          [len(lines) for lines in ends.values()] == [1, 1] and re.search(r"one\.test 200 .*archive: 200 after 0\.\d+ s, connected", ends["one.test"][0])
-          and re.search(r"silent\.test 504 .*archive: 504 after 1\.\d+ s", ends["silent.test"][0]))
+          [len(lines) for lines in ends.values()] == [1, 1] and re.search(r"one\.test 200 .*archive: 200 after \d+\.\d+ s, connected", ends["one.test"][0])
+          and re.search(r"silent\.test 504 .*archive: 504 after [1-9]\d*\.\d+ s", ends["silent.test"][0]))
 
 
 def try_secrets(stack, folder):
@@ -420,6 +422,9 @@ def try_few_connections(stack, folder):
                                 (entry + "at_once = 9\n", ("--connections", 3), (3, None)), (entry, ("--connections", 3), (3, None))):
         keys = limits(text, *words)
         same(f"with {words or 'as many connections as workers'}, its limits are {wanted}", (keys.get("at_once"), keys.get("every")), wanted)
+    (folder / "common.toml").write_text(settings_text(gates=[f"127.0.0.1:{gate}"], originals=originals, rounds=1, workers=8, walks=100))
+    for words, wanted in (((), None), (("--connections", 100), None), (("--connections", 99), 99)):
+        same(f"of 100 walks with {words or 'as many connections'}, at_once is {wanted}", limits(entry, *words).get("at_once"), wanted)
     for line in ("at_once = 0", "every = 1.5", 'at_once = "2"', "every = true"):
         fault = limits(entry + line + "\n")
         holds(f"{line} is refused: {fault}", "has to be a number from 1 on" in fault)

@@ -16,7 +16,7 @@ import subprocess
 import tempfile
 import time
 
-from playing import ORIGINAL, PATIENCE, QUICK, TEMPORARY, TOP, Played, ask, children, dead_ports, free_ports, holds, needs, nginx, nginx_of_shards, reply, same, start_nginx
+from playing import ORIGINAL, PATIENCE, QUICK, TEMPORARY, TOP, Played, ask, children, comes_true, dead_ports, free_ports, holds, needs, nginx, nginx_of_shards, reply, same, start_nginx
 import sharding
 
 DATETIME = "Mon, 04 Mar 2001 05:06:07 GMT"
@@ -208,7 +208,7 @@ def try_unknown(stack):
     same("twelve replies to one reader are 404", first, [404] * 12)
     later = [one.ask() for _ in range(5)]
     took = time.monotonic() - begun
-    holds(f"and come in {early:.1f} s, and five more in {took - early:.1f} s", early < 2 and took > 1.5)
+    holds(f"and come in {early:.1f} s, and five more in {took - early:.1f} s", early < 5 and took > 1.5)
     same("as a gate says it, and when to ask again", [(status, body, fields["vary"], fields["retry-after"]) for status, fields, body in later],
          [(404, "no memento\n", "accept-datetime", "3")] * 5)
     same("by TimeMaps and dates, too", [ask(port, target + "http://nobody.example/x", source="127.0.0.8")[::2] for target in (
@@ -216,7 +216,7 @@ def try_unknown(stack):
     begun = time.monotonic()
     same("another reader's come at once meanwhile", [other.ask()[0] for _ in range(10)], [404] * 10)
     same("and what is known to the first", [ask(port, "/timegate/" + ORIGINAL, source="127.0.0.5")[0] for _ in range(20)], [302] * 20)
-    holds("all of that within two seconds", time.monotonic() - begun < 2)
+    holds("all of that before they would, if they were counted", time.monotonic() - begun < 4.5)
     begun, before = time.monotonic(), len(gate.heads)
     while time.monotonic() - begun < 6:
         gone.leave()
@@ -331,6 +331,8 @@ def try_beside(stack):
     same("beside another site readers are led on", [ask(ours, "/timegate/" + original)[0] for original in (ORIGINAL, secret)], [302, 404])
     same("to the byte", gate.targets()[-1], "/timegate/" + secret)
     same("and the other site is served", [ask(theirs, target)[::2] for target in ("/", "//index.html")], [(200, "another site")] * 2)
+    # A line is written once its reply is on the way.
+    comes_true(lambda: (folder / "access.log").read_text().count("\n") == 2)
     written = {file.name: file.read_text() for file in folder.iterdir() if file.suffix == ".log"}
     same("its log has its own requests, and no log has ours",
          ([line.split('"')[1] for line in written["access.log"].splitlines()], [name for name, text in written.items() if "Miller" in text]),

@@ -19,7 +19,9 @@ from playing import BASE, ENVIRONMENT, MEMENTO, ORIGINAL, PATIENCE, PROGRAM, TOP
 
 SETTINGS = "etc/maplewrench/settings.toml"
 FILES = {"etc/group", "etc/passwd", "etc/nsswitch.conf", SETTINGS, "usr/bin/aggregator", "usr/share/doc/maplewrench/LICENSE",
-         "usr/share/doc/maplewrench/copyright", "usr/share/maplewrench/web/index.html", "usr/share/maplewrench/web/status.html"}
+         "usr/share/doc/maplewrench/copyright",
+         *(f"usr/share/maplewrench/web/{name}" for name in ("index.html", "links.js", "copies.js", "page.js", "page.css", "status.html",
+                                                            "status.js", "status.css", "404.html"))}
 
 
 def run(*words, **more):

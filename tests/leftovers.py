@@ -1,6 +1,7 @@
 #!/usr/bin/env python3
 """What replicas keep of a clock that was ahead, and of an original and an archive that left the settings: all of it if they are
-restarted one after the other, and nothing if all are stopped at once. And what a reader gets when a replica is told to end.
+restarted one after the other, and nothing if all are stopped at once, or if they forget. And what a reader gets when a replica is
+told to end.
 
     ./run --unproved && tests/leftovers.py
 """
@@ -12,7 +13,7 @@ import subprocess
 import tempfile
 import time
 
-from playing import ENVIRONMENT, PATIENCE, TOP, Played, Service, compiled, free_ports, holds, link, needs, reply
+from playing import ENVIRONMENT, PATIENCE, TOP, Played, Service, compiled, free_ports, holds, link, needs, reply, until
 
 KEPT, LEFT = "http://kept.example/", "http://left.example/"
 OLD, NEW = "http://m.example/old", "http://m.example/new"
@@ -30,13 +31,13 @@ class Archive(Played):
 class Replica:
     """One of two replicas that pull from each other, each second."""
 
-    def __init__(self, stack, gate, peer):
-        self.stack, self.gate, self.peer, self.service = stack, gate, peer, None
+    def __init__(self, stack, gate, peer, **keys):
+        self.stack, self.gate, self.peer, self.keys, self.service = stack, gate, peer, keys, None
 
     def start(self, archives, originals=(KEPT,), clock=None):
         """A start by these settings, until its second round is done."""
         self.service = Service(self.stack, archives=[(name, archive.address) for name, archive in archives.items()], originals=originals,
-                               peers=[f"http://127.0.0.1:{self.peer}"], ports=(self.gate,), rounds=1_000_000, pause=1,
+                               peers=[f"http://127.0.0.1:{self.peer}"], ports=(self.gate,), rounds=1_000_000, pause=1, keys=self.keys,
                                env=ENVIRONMENT | (clock or {}))
         return self.rounds(2)
 
@@ -69,9 +70,9 @@ def at_once(replicas, *words):
         replica.rounds(2)
 
 
-def two_replicas(stack):
+def two_replicas(stack, **keys):
     first, second = free_ports(2)
-    return [Replica(stack, first, second), Replica(stack, second, first)]
+    return [Replica(stack, first, second, **keys), Replica(stack, second, first, **keys)]
 
 
 def shown(replicas, original=KEPT):
@@ -116,6 +117,24 @@ def try_settings():
         holds("while what stayed in the settings is", shown(replicas) == [OLD, OLD])
 
 
+def try_forgetting(folder):
+    """With `forget` what left the settings goes though no more than one replica is stopped at a time."""
+    with contextlib.ExitStack() as stack:
+        archives = {"arc.example": Archive(stack, OLD), "left.example": Archive(stack, NEW)}
+        withdrawn = folder / "withdrawn"
+        withdrawn.write_text("")
+        replicas = two_replicas(stack, forget=1, withdrawn_file=str(withdrawn))
+        for replica in replicas:
+            replica.start(archives, (KEPT, LEFT))
+        replicas[0].rounds(2)
+        holds("an original is shown by both", all(shown(replicas, LEFT)))
+        withdrawn.write_text("archive left.example\n")
+        in_turn(replicas, {"arc.example": archives["arc.example"]}, (KEPT,))
+        until("once it left the settings of both it is gone, and so is what the withdrawn archive had",
+              lambda: shown(replicas, LEFT) == [None] * 2 and not any(NEW in replica.service.get("/state")[2] for replica in replicas))
+        holds("while what stayed in the settings is shown", shown(replicas) == [OLD, OLD])
+
+
 def try_end():
     """SIGTERM: a reply that is being sent is cut, though its reader reads nothing more, and the program has no status of its own."""
     with contextlib.ExitStack() as stack:
@@ -143,8 +162,9 @@ def main():
     with tempfile.TemporaryDirectory() as folder:
         try_clock(compiled(pathlib.Path(folder), TOP / "tests/leftovers/ahead.c"))
         try_settings()
+        try_forgetting(pathlib.Path(folder))
         try_end()
-    print("what a clock ahead and forgotten settings left went when all replicas were stopped at once, and not in turn")
+    print("what a clock ahead and forgotten settings left went when all replicas were stopped at once, or forgot, and not in turn")
 
 
 if __name__ == "__main__":

@@ -1,6 +1,7 @@
 #!/usr/bin/env bash
 # Whether each command of the repository prints its head for `--help`, refuses words that it can't take, and changes nothing by either;
-# and whether pyflakes finds nothing in any file of Python, and shellcheck nothing worse than a hint in any of bash.
+# whether pyflakes finds nothing in any file of Python, and shellcheck nothing worse than a hint in any of bash; and whether a merge left
+# its marks in no file.
 #
 #     tests/lint.sh          apt-get install pyflakes3 shellcheck
 #
@@ -95,6 +96,7 @@ for command in .ci/minutes bench/compare.py bench/compare_trees bench/counted be
     is_refused "$command"
 done
 is_refused bench/gates nothing
+is_refused bench/months 7
 is_refused bench/rounds/run nothing
 is_refused bench/run nothing
 is_refused bench/snapshots many
@@ -104,8 +106,14 @@ is_refused docs/counts now
 is_refused tests/planted/both nothing
 is_refused tests/planted/run nothing
 is_refused tools/statements.py memento_index
-is_refused web/policy now
+is_refused web/hashes now
 holds "${#commands[@]} commands print their heads, and refuse other words"
+
+# ---- marks of a merge ----
+
+marked=$(git grep --untracked -lE '^(<{7}|>{7}) ' || true)
+[ -z "$marked" ] || fails "a merge left its marks in $marked"
+holds "no file has the marks of a merge"
 
 # ---- linters ----
 

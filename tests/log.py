@@ -7,11 +7,12 @@ a publish, and that without the key it tells nothing.
 import contextlib
 import http.client
 import pathlib
+import re
 import subprocess
 import tempfile
 
 from playing import (BASE, ENVIRONMENT, ORIGINAL, TOP, NoGate, Played, Service, comes_true, compiled, dead_ports, delta, free_ports, get, holds, link,
-                     reply, same, told)
+                     reply, same, slow, told)
 
 BAD_MACHINE = 3
 OTHER = "http://b.example/"
@@ -158,7 +159,75 @@ def try_refusals(log):
         same(f"with {said_of(log)} a refused publish and a harvest that isn't kept are told as they should be", awaited, {})
 
 
+def play_ready(folder, library, number):
+    """Two rounds by a service with `ready`, the first with a harvest and the second without one, in which the request for memory of this
+    number is refused: both lines, the status that a reader gets, and how many requests there were up to the first line."""
+    count = folder / "count"
+    environment = {**ENVIRONMENT, "LD_PRELOAD": str(library), "REFUSE": str(number), "COUNT": str(count)}
+    with contextlib.ExitStack() as stack:
+        archive = Played(stack, lambda _: reply(link("http://m.example/1")) if len(archive.heads) == 1 else reply(status=500))
+        try:
+            service = serve(stack, False, archives=[("a.example", archive.address)], originals=[ORIGINAL], env=environment, rounds=2, pause=1,
+                            keys={"ready": True})
+        except NoGate:
+            return None, None, None, 0
+        first, requests = service.line(), int(count.read_text())
+        second, status = service.line(), None
+        with contextlib.suppress(OSError, http.client.HTTPException):
+            status = service.get("/timegate/" + ORIGINAL)[0]
+        return first, second, status, requests
+
+
+def try_ready_at_last():
+    """What a round learnt whose publish was refused makes a gate ready once it is published, by whatever round."""
+    with contextlib.ExitStack() as stack:
+        folder = pathlib.Path(stack.enter_context(tempfile.TemporaryDirectory()))
+        library = compiled(folder, TOP / "tests/memory/refuse.c")
+        if library is None:
+            print("a publish that is refused wasn't tried, which needs a C compiler: apt-get install gcc libc6-dev")
+            return
+        first, second, status, requests = play_ready(folder, library, 0)
+        same("if nothing is refused the first round makes the gate ready", (first, second, status), (told(1, 1, 1), told(2, 1, 0), 302))
+        for number in PASSES * list(range(requests, 0, -1)):
+            first, second, status, _ = play_ready(folder, library, number)
+            if (first, second) == (told(1, 1, 1, end="kept"), told(2, 1, 0)):
+                break
+        same("if its publish is refused, the second does", (first, second, status),
+             (told(1, 1, 1, end="kept"), told(2, 1, 0), 302))
+
+
+def try_busy():
+    """Archives that ask to be left alone: for a quarter of an hour, which two walks meet at once, and for a few seconds."""
+    with contextlib.ExitStack() as stack:
+        busy = Played(stack, slow(1, reply("", "Retry-After: 900", status=429)))
+        brief = Played(stack, lambda _: reply("", "Retry-After: 3", status=429) if len(brief.heads) == 1 else reply(link("http://m.example/1")))
+        service = serve(stack, True, archives=[("busy.example", busy.address), ("brief.example", brief.address)], originals=[ORIGINAL, OTHER],
+                        workers=4, logged=True, keys={"log": True, "tolerance": 9, "at_once": 2})
+        lines = service.logs_until("archive busy.example")
+        holds("both were asked at once", comes_true(lambda: len(busy.heads) == 2))
+        holds("the other archive is asked again", comes_true(lambda: len(brief.heads) == 3))
+        service.kill()
+        lines += service.process.stderr.readlines()
+        holds(f"what asks for long is told once, with the time, and what asks for a moment isn't: {lines}",
+              [re.sub(r"left: [12]$", "left: N", line.strip()) for line in lines] in
+              [[f"log: round 1: archive busy.example: busy, not asked for {seconds} seconds, jobs left: N"] for seconds in (899, 900)])
+
+
+def try_wishes():
+    """Walks for wishes that fail between rounds."""
+    with contextlib.ExitStack() as stack:
+        failing, well = Played(stack, lambda _: reply(status=500)), Played(stack, lambda _: reply(link("http://m.example/1")))
+        service = serve(stack, True, archives=[("failing.example", failing.address), ("well.example", well.address)], rounds=2, pause=86_400,
+                        connections=10, logged=True, keys={"log": True, "wanted": 9})
+        same("the first round has no job", service.line(), told(1, 0, 0))
+        same("nothing is known", service.shows(), None)
+        same("a wish that ends is told with the walks that failed", service.logs_until("wishes: ")[-1], "log: wishes: 1 of 1 found, 1 walks failed\n")
+
+
 def main():
+    try_ready_at_last()
+    try_busy()
+    try_wishes()
     for log in (True, False, None):
         for attempt in (try_rounds, try_gates, try_output, try_refusals):
             attempt(log)

@@ -1,9 +1,9 @@
 #!/usr/bin/env bash
-# Refuses each request for memory in turn: while the program replays a script, checks settings and serves (`served`, `wished`), while
-# two replicas exchange what they know and an archive's pages are walked over (`refusal_probe`), and while a merger publishes and its
-# gate is asked, also over a socket (`gate_probe`); and in public calls by themselves (`refusal_probe calls` and
-# `service_refusal_probe`), with a table of how often each was refused. `calls` finds all of those in the sources, and `others`
-# says of the ones without a row where they are refused:
+# Refuses each request for memory in turn: while the program replays a script, checks settings and serves (`served`, `wished`,
+# `forgotten`, `pulled`), while two replicas exchange what they know and an archive's pages are walked over (`refusal_probe`), and
+# while a merger publishes and its gate is asked, also over a socket (`gate_probe`); and in public calls by themselves
+# (`refusal_probe calls` and `service_refusal_probe`), with a table of how often each was refused. `calls` finds all of those in
+# the sources, and `others` says of the ones without a row where they are refused:
 #
 #     ./run --unproved aggregator refusal_probe service_refusal_probe gate_probe && tests/memory.sh
 #
@@ -101,12 +101,15 @@ count_calls() {
     sort "$work/refused" | uniq -c | sort -k2
 }
 
-# A service that is refused each request in turn, through two rounds and two connections, and until what readers wished for is shown.
+# A service that is refused requests in turn: through two rounds and two connections, until what readers wished for is shown, until
+# it has forgotten, and while it takes what a peer gives beside forgetting.
 check_serving() {
     export PYTHONPATH=$top/tests    # where playing.py is
     "$top/tests/memory/served.py" "$work/refuse.so" | tee "$work/served"
     "$top/tests/memory/wished.py" "$work/refuse.so" | tee -a "$work/served"
-    total=$((total + $(awk '/^(serve|wishes): / { sum += $2 } END { print sum }' "$work/served")))
+    "$top/tests/memory/forgotten.py" "$work/refuse.so" | tee -a "$work/served"
+    "$top/tests/memory/pulled.py" "$work/refuse.so" | tee -a "$work/served"
+    total=$((total + $(awk '/^(serve|wishes|forgetting|pulls): / { sum += $2 } END { print sum }' "$work/served")))
 }
 
 # Settings with an entry that is no original, and with a key that isn't looked at: where a request is refused in looking for

@@ -83,7 +83,7 @@ try_install() {
     holds "each tool says how it is called"
     # Python as it was before it had what the tools use.
     local said old='import runpy, sys; sys.version_info = (3, 10, 13); sys.modules["tomllib"] = None; runpy.run_path(sys.argv[1], run_name="__main__")'
-    for tool in "$root"/usr/lib/maplewrench/{archive,forward,shards,watch} "$top"/tests/{hostile,service}.py "$top/web/policy"; do
+    for tool in "$root"/usr/lib/maplewrench/{archive,forward,shards,watch} "$top"/tests/{hostile,service}.py "$top/web/hashes"; do
         ! said=$(PYTHONPATH=$top/tests python3 -c "$old" "$tool" 2>&1) && [[ $said =~ ^[a-z/.]+:\ needs\ Python\ 3\.11\ or\ later$ ]] || fails "$tool says which Python it needs: $said"
     done
     holds "and which Python it needs, if it is older"
@@ -147,10 +147,25 @@ try_manual() {
     grep -q "macro 'XX' not defined" <<<"$(warnings_of "$work/odd.1")" || fails "one with an unknown macro has: $(warnings_of "$work/odd.1")"
     said=$(MANWIDTH=200 man -l "$work/aggregator.1" 2>/dev/null | col -b)
     local key
-    for key in $(sed -n 's/^\([a-z]*\) = .*/\1/p' "$root/etc/maplewrench/settings.toml" | sort -u) serve check replay /timegate/ /timemap/link/; do
+    for key in $(sed -n 's/^\([a-z]*\) = .*/\1/p' "$root/etc/maplewrench/settings.toml" | sort -u) serve check replay timemap timegate --form --help --version /timegate/ /timemap/link/; do
         grep -qF -- "$key" <<<"$said" || fails "the manual page tells of $key"
     done
     holds "it tells of each key of the settings, each word and each path"
+}
+
+# completed WORD..: what bash completes the last of these words to, by the package's file.
+completed() {
+    (. "$root/usr/share/bash-completion/completions/aggregator"
+        COMP_WORDS=("$@") COMP_CWORD=$(($# - 1))
+        cd "$root/etc/maplewrench" && _aggregator 2>/dev/null
+        echo "${COMPREPLY[*]}")
+}
+
+try_completion() {
+    same "bash completes a command" "$(completed aggregator time)" "timemap timegate"
+    same "a form" "$(completed aggregator timemap settings.toml http://a.example/ --form j)" json
+    same "and a file of settings" "$(completed aggregator serve se)" settings.toml
+    same "each word of the program's help is completed" "$(completed aggregator '')" "serve check replay timemap timegate help --help --version"
 }
 
 # next_version VERSION: a package of that version whose settings have another comment.
@@ -211,6 +226,7 @@ try_install
 try_needs
 try_units
 try_manual
+try_completion
 try_upgrade
 try_removal
 echo "the package was built, found without errors, installed, upgraded without a question, removed and purged"

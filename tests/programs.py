@@ -20,6 +20,7 @@ VARIABLES = {
     "gate_probe": "PROBE",
     "refusal_probe": "REFUSALS",
     "service_refusal_probe": "SERVICES",
+    "year_probe": "YEAR",
 }
 
 

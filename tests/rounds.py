@@ -6,6 +6,7 @@ when readers see what came.
 """
 import contextlib
 import re
+import resource
 import threading
 import time
 
@@ -16,6 +17,7 @@ LATER = "http://m.example/2"
 FIRST, SECOND = "Sat, 01 Jan 2000 00:00:00 GMT", "Mon, 03 Jan 2000 00:00:00 GMT"
 MOST_BYTES = 8_388_608    # of a body
 MOST_MEMENTOS = 100_000    # of a harvest
+WALKS = 300
 
 
 def try_round():
@@ -282,6 +284,34 @@ def try_workers():
         holds("each at a port of its own", len(set(service.ports)) == 64)
 
 
+def try_walks():
+    """With `walks` as many walks run at once as it says, whatever `workers` says: in threads with small stacks, which a name that
+    has to be looked up and the longest pages fit into."""
+    originals = [f"http://a.example/{k}" for k in range(WALKS)]
+    longest = {BASE + original: reply(page) for original, page in zip(originals, (
+        ",".join(link(f"http://m.example/{k}") for k in range(MOST_MEMENTOS)), padded(MOST_BYTES),
+        PAGE + ";" * (MOST_BYTES - len(PAGE)), "," * (MOST_BYTES - len(PAGE)) + PAGE))}
+    all_came = threading.Barrier(WALKS)
+
+    def answer(target):
+        with contextlib.suppress(threading.BrokenBarrierError):
+            all_came.wait(PATIENCE)
+            return longest.get(target, reply(PAGE))
+        return reply(status=500)
+
+    with contextlib.ExitStack() as stack:
+        most = resource.getrlimit(resource.RLIMIT_NOFILE)
+        resource.setrlimit(resource.RLIMIT_NOFILE, (most[1], most[1]))
+        stack.callback(resource.setrlimit, resource.RLIMIT_NOFILE, most)
+        archive = Played(stack, answer)
+        service = Service(stack, archives=[("arc.example", f"http://localhost:{archive.port}")], originals=originals, workers=1, rounds=2,
+                          pause=86_400, keys={"walks": WALKS})
+        same(f"{WALKS} walks run at once", service.line(), told(1, WALKS, WALKS))
+        same("the longest pages among them", [service.shows(original) is not None for original in originals], [True] * WALKS)
+        held = service.memory("VmData")
+        holds(f"in {held // 1024} MiB, and not {WALKS} stacks of 8 MiB", held < WALKS * 4 * 1024)
+
+
 def try_second_round():
     """What an archive has no more is shown no more, by a revision of the round's own second."""
     go_on = threading.Event()
@@ -416,7 +446,7 @@ def try_cursors():
 
 def main():
     for attempt in (try_round, try_requests, try_answers, try_counts, try_page_requests, try_long_lists, try_lost_pages,
-                    try_batches, try_workers, try_second_round, try_pulls, try_cursors, try_revision, try_texts):
+                    try_batches, try_workers, try_walks, try_second_round, try_pulls, try_cursors, try_revision, try_texts):
         attempt()
     print("a service asked archives and peers word for word, took just what may be taken, and showed each round at once")
 

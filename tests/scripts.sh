@@ -39,7 +39,7 @@ done
 
 first=$top/examples/first
 ends 0 '' "$first.expected" <"$first.replay"
-for words in serve check 'serve FILE FILE' 'check FILE FILE' 'replay replay' 'replay FILE' Replay replays --help; do
+for words in serve check 'serve FILE FILE' 'check FILE FILE' 'replay replay' 'replay FILE' Replay replays --nothing; do
     # shellcheck disable=SC2086 # each word is a word of its own
     ends 2 "$usage" /dev/null $words <"$first.replay"
 done

@@ -127,10 +127,10 @@ def long_list(front):
 class Browser:
     """Headless Chromium by WebDriver."""
 
-    def __init__(self, port):
+    def __init__(self, port, **more):
         self.base = f"http://127.0.0.1:{port}"
         options = {"binary": shutil.which("chromium"), "args": ["--headless=new", "--no-sandbox", "--ignore-certificate-errors",
-                                                                 "--disable-gpu", "--window-size=1000,900", "--disable-dev-shm-usage"]}
+                                                                 "--disable-gpu", "--window-size=1000,900", "--disable-dev-shm-usage"], **more}
         self.base += "/session/" + self.call("POST", "/session", {"capabilities": {"alwaysMatch": {
             "browserName": "chrome", "acceptInsecureCerts": True, "goog:chromeOptions": options}}})["sessionId"]
 
@@ -180,7 +180,7 @@ def try_alone(browser, front):
     status, headers, text = front.get("/")
     holds("the page is served for some minutes", (status, headers["cache-control"]) == (200, "public, max-age=300"))
     holds("and in no frame", headers["content-security-policy"] == "frame-ancestors 'none'")
-    holds("its policy has no exceptions", "unsafe" not in text and text.count("-src 'sha256-") == 2)
+    holds("its policy has no exceptions", "unsafe" not in text and re.findall(r"(\S+)-src 'self';", text) == ["connect", "style", "script"])
     for address in (f"https://127.0.0.1:{front.port}/", (TOP / "web/index.html").as_uri()):
         browser.call("POST", "/url", {"url": address})
         browser.wait("return document.activeElement.id == 'address'")
@@ -199,6 +199,14 @@ def try_policy(browser):
         }""")
     planted = browser.run("return [window.planted, getComputedStyle(document.getElementById('address')).display == 'none']")
     holds("a script or a style that isn't the page's own is not used", planted == [None, False])
+    asked = browser.run("""return new Promise(resolve => {
+            const element = document.createElement('script');
+            element.src = '/timemap/link/' + arguments[0];
+            element.onload = () => resolve('run');
+            element.onerror = () => resolve('not run');
+            document.head.append(element);
+        });""", ORIGINAL)
+    holds("nor is a list of copies, as a script", asked == "not run")
 
 
 # What can be used on the page: its role, and the name that a screen reader speaks.
@@ -218,7 +226,8 @@ def try_names(browser):
     row = browser.run(f"return [{ACTIVE}.id, {ACTIVE}.getAttribute('aria-rowindex'), document.getElementById('list').getAttribute('aria-rowcount')]")
     holds(f"the list's active row is the last of all: {row}", row[1] == row[2])
     name = browser.element("#" + row[0], "computedlabel")
-    holds(f"and is told by its datetime and its address: {name}", re.fullmatch(r"\d{4}-\S+Z https?://\S+/web/\S+", name.strip()))
+    holds(f"and is told by its datetime and its archive: {name}",
+          re.fullmatch(r"\d{1,2} [A-Z][a-z]{2} \d{4}, \d\d:\d\d (The Archive by https|127\.0\.0\.1:\d+)", name.strip().replace("\xa0", " ")))
     roles = [browser.element(f"#{row[0]} {inner}", "computedrole") for inner in ("", "span", "a")]
     holds("a row has cells, and the link stands in one", roles == ["row", "gridcell", "link"])
     browser.run("document.getElementById('list').scrollTop = 0")
@@ -232,7 +241,7 @@ def try_page(browser, front, archive, plain, pictures):
     browser.keys("a.example/" + ENTER)
     browser.wait("return document.querySelectorAll('.row').length > 3")
     said = browser.run(f"return {STATUS}")
-    holds(f"the page shows the copies of both archives: {said}", re.search(r"^\d+ copies in 2 archives, 2001-03-04 to", said))
+    holds(f"the page shows the copies of both archives: {said}", re.search(r"^\d+ copies in 2 archives, 4\xa0Mar\xa02001 to", said))
     holds("as bars of a timeline", browser.run("return document.querySelectorAll('#timeline rect').length > 8"))
     legend = browser.run("return Array.from(document.querySelectorAll('#legend li'), item => [item.textContent, item.title])")
     holds(f"with a legend, which has archives' names where they have one: {legend}", sorted(legend) == sorted(
@@ -246,7 +255,7 @@ def try_page(browser, front, archive, plain, pictures):
     holds("Home chooses the first copy", browser.run("return document.getElementById('when').value").startswith("2001-03-04T05:06:07"))
     browser.keys(DOWN)
     browser.keys(DOWN)
-    third = browser.run("return document.querySelector('[aria-selected=true] time').textContent")
+    third = browser.run("return document.querySelector('[aria-selected=true] time').dateTime")
     holds("the arrows go on from there", third > "2001-03-04")
     browser.run("document.getElementById('when').value = '2001-03-05T00:00:00'; document.getElementById('when').focus()")
     browser.keys(ENTER)
@@ -256,6 +265,9 @@ def try_page(browser, front, archive, plain, pictures):
     browser.call("POST", "/url", {"url": f"https://127.0.0.1:{front}/#{ORIGINAL}"})
     browser.wait("return document.querySelectorAll('.row').length > 3")
     holds("on a phone's width nothing sticks out", browser.run("return document.documentElement.scrollWidth <= innerWidth"))
+    rows = browser.run("return Array.from(document.querySelectorAll('.row'), row => [row.innerText, row.scrollWidth <= row.clientWidth])")
+    holds(f"rows differ there, and are seen whole: {rows[:2]}", len({text for text, _ in rows}) == len(rows) and all(is_whole for _, is_whole in rows))
+    holds("and no keyboard is opened over what a link shows", browser.run("return document.activeElement == document.body"))
     if pictures:
         browser.picture(pictures / "readers-page-phone.png")
     hosts = browser.run("return arguments[0].map(hostOf)", ["http://evil.example\\@web.archive.org/", "http://a:b@web.archive.org:81/x", "HTTPS://Web.Archive.org",
@@ -453,9 +465,9 @@ def try_status(stack, browser, folder, front, port, plain):
         holds(f"a stranger sees no {path}", front.get(path, source="127.0.0.2")[0] == 403)
     status, headers, text = front.get("/status")
     holds("the operators' page is served, in no frame", (status, headers["content-security-policy"]) == (200, "frame-ancestors 'none'"))
-    holds("its policy has no exceptions", "unsafe" not in text and text.count("-src 'sha256-") == 2)
+    holds("its policy has no exceptions", "unsafe" not in text and re.findall(r"(\S+)-src 'self';", text) == ["connect", "style", "script"])
     browser.call("POST", "/url", {"url": f"https://127.0.0.1:{front.port}/status"})
-    holds("without a service it says that no metrics come", browser.wait(f"return {SAID}.startsWith('No metrics come') && {SAID}"))
+    holds("without a service it says that no numbers come, and what to set", "set status" in browser.wait(f"return {SAID}.startsWith('No numbers come') && {SAID}"))
     service = start(stack, PROGRAM, "serve", watched_settings(folder, gate, port, plain, dead), stdout=subprocess.PIPE, text=True)
     for _ in range(2):
         service.stdout.readline()
@@ -478,7 +490,7 @@ def try_status(stack, browser, folder, front, port, plain):
         "return document.documentElement.scrollWidth <= innerWidth"))
     service.kill()
     holds("once the service is gone it says so, and what stands there stays",
-          browser.wait(f"return {SAID}.startsWith('No metrics come')") and browser.run(f"return {ROWS}") == 100)
+          browser.wait(f"return {SAID}.startsWith('No numbers come')") and browser.run(f"return {ROWS}") == 100)
 
 
 def try_status_policy(browser):

@@ -6,6 +6,7 @@ what it tells beside that: which entry is no original, what a key may hold, whic
 
 That what is read is what is served by is shown by tests/rounds.
 """
+import os
 import pathlib
 import subprocess
 import sys
@@ -14,9 +15,9 @@ import tempfile
 from playing import PROGRAM
 
 MOST_BYTES = 1_048_576    # of settings
-OWN = {"at_once": (1, 64), "tolerance": (1, 1_000_000_000), "dormant": (1, 86_400), "walk": (1, 86_400), "rate": (1, 1_000_000),
-       "again": (1, 2_592_000), "again_none": (1, 2_592_000), "publish": (1, 86_400), "pull": (1, 86_400)}    # numbers, with their limits
-OPTIONAL = {"patience", "hosts", "log", *OWN, "agent", "ready", "wanted", "wishes", "alike", "originals_file", "snapshot", "snapshot_every", "formats", "status", "together"}
+OWN = {"walks": (1, 1_000), "tolerance": (1, 1_000_000_000), "dormant": (1, 86_400), "walk": (1, 86_400), "rate": (1, 1_000_000),
+       "again": (1, 2_592_000), "again_none": (1, 2_592_000), "ahead": (1, 2_592_000), "publish": (1, 86_400), "pull": (1, 86_400)}    # numbers, with their limits
+OPTIONAL = {"patience", "hosts", "log", "at_once", *OWN, "agent", "ready", "wanted", "wishes", "alike", "originals_file", "snapshot", "snapshot_every", "formats", "status", "together", "wait"}
 
 TELLING = {"tolerance", "again", "publish", "pull", "originals_file"}    # by which more is told than what is specified
 HOLDS = {    # what is told of a key that holds what it may not
@@ -27,11 +28,12 @@ HOLDS = {    # what is told of a key that holds what it may not
     "pause": "a number from 0 to 86400",
     "workers": "a number from 1 to 64",
     "originals": "0 to 100000 addresses of http or https",
-    "peers": "0 to 15 bases of http",
+    "peers": "0 to 15 bases of http, by a name or an IPv4 address",
     "archives": "0 to 1000 tables, each with a name of its own and a timemap of http",
     "patience": "a number from 1 to 86400",
     "hosts": "0 to 1000 hosts",
     "log": "true or false",
+    "at_once": "a number from 1 to 1000, above 64 only where walks is set",
     **{key: f"a number from {least} to {most}" for key, (least, most) in OWN.items()},
     "agent": "1 to 256 visible bytes of ASCII and blanks",
     "ready": "true or false",
@@ -44,6 +46,7 @@ HOLDS = {    # what is told of a key that holds what it may not
     "formats": "0 to 2 of json and cdxj",
     "status": "a text IP:PORT",
     "together": "a number from 1 to 256",
+    "wait": "a number from 1 to 60, where wanted is set and together is 2 or more",
 }
 
 SAMPLE = {
@@ -101,13 +104,14 @@ TAKEN = {
     "pause": ["86400"],
     "workers": ["1", "64"],
     "originals": ["[]", '["https://a.example/"]', listed(10_000, original)],
-    "peers": ["[]", listed(15, peer)],
+    "peers": ["[]", listed(15, peer), '["http://192.0.2.7:8080/"]', '["HTTP://b.example:80"]'],
     "archives": ["[]", archives(*((f"a{k}", "http://a/") for k in range(1000))), archives(("a", "http://a/" + "x" * 4087)),
                  *map(asked, ("at_once = 1", "at_once = 64", "every = 1", "every = 3600000", "at_once = 2, every = 500"))],
     "patience": ["1", "86400"],
     "hosts": ["[]", listed(1000, host), '["web.archive.org"]', '["127.0.0.1:8101"]', '["a:1", "a:65535"]', '["[::1]"]',
               '["[2001:db8::1]:8080"]', '["xn--bcher-kva.example"]', '["a.example", "a.example"]'],
     "log": ["true", "false"],
+    "at_once": ["1", "64"],
     **{key: [str(least), str(most)] for key, (least, most) in OWN.items()},
     "agent": ['"m"', '"maplewrench (http://agg.example; mail@agg.example)"', f'"{"m" * 256}"'],
     "ready": ["true", "false"],
@@ -130,7 +134,8 @@ REFUSED = {
     "pause": ["-1", "86401"],
     "workers": ["0", "65", "4.0"],
     "originals": ['["ftp://a.example/"]', "[7]", '"http://a.example/"'],
-    "peers": ['["http://p.example/state"]', "[7]", listed(16, peer)],
+    "peers": ['["http://p.example/state"]', "[7]", listed(16, peer), '["http://[::1]:8605"]', '["http://a.example", "HTTP://[2001:db8::1]/"]',
+              '["https://p.example"]'],
     "archives": [
         archives(("arc.example", "https://arc.example/")),
         archives(("arc.example", "http://arc example/")),
@@ -152,6 +157,7 @@ REFUSED = {
         '["127.1"]', '["2130706433"]', '["0x7f000001"]', '["256.1.1.1"]', '["::1"]', '["[::1"]', '["[0:0:0:0:0:0:0:1]"]',
     ],
     "log": ["1", "0", '"true"', "[true]"],
+    "at_once": ["0", "65", "1000", "-1", '"1"', "1.5", "true"],
     **{key: [str(least - 1), str(most + 1), "-1", '"1"', "1.5", "true"] for key, (least, most) in OWN.items()},
     "agent": ["7", '""', '" m"', '"m "', '"m\\u00e9"', f'"{"m" * 257}"', '"m\\u0000"'],
     "ready": ["1", '"true"'],
@@ -166,6 +172,8 @@ REFUSED = {
     "together": ["0", "257", "-1", '"1"', "1.5", "true"],
 }
 
+HOLDING = {"wanted": "1", "together": "2"}    # what `wait` needs
+
 
 def text_with(**changed):
     """The sample with these values, or without a key if it is None."""
@@ -175,7 +183,7 @@ def text_with(**changed):
 def check_in(folder, text):
     """Status and standard output of `check` for these settings, which may name files of the folder."""
     (folder / "settings.toml").write_text(text)
-    ran = subprocess.run([PROGRAM, "check", folder / "settings.toml"], capture_output=True, text=True, check=False, cwd=folder)
+    ran = subprocess.run([PROGRAM, "check", folder / "settings.toml"], capture_output=True, text=True, check=False, cwd=folder, timeout=60)
     return ran.returncode, ran.stdout
 
 
@@ -232,6 +240,34 @@ def expect_entries():
     expect("nor one of a later", text_with(peers='["x"]', again="60"), told_of("peers"))
 
 
+def expect_wait():
+    """`wait` is taken where there are wishes and several connections at once, and refused elsewhere."""
+    for value in ("1", "60"):
+        expect(f"wait = {value}", text_with(**HOLDING, wait=value), summary())
+        for key, missing in (("wanted", None), ("wanted", "0"), ("together", None), ("together", "1")):
+            expect(f"wait = {value} with {key} {missing}", text_with(**{**HOLDING, key: missing}, wait=value), fault_of("wait"))
+    for value in ("0", "61", "-1", '"1"', "1.5", "true"):
+        expect(f"wait = {value}", text_with(**HOLDING, wait=value), fault_of("wait"))
+    expect("what wait may hold", text_with(again="60", wait="8"), told_of("wait"))
+
+
+def expect_walks():
+    """With `walks` more walks of one archive may run at once than `workers` ever allows, whichever key says how many."""
+    for value in ("1", "300", "1000"):
+        for at_once in ("1", "64", "65", "1000"):
+            expect(f"walks = {value} with at_once = {at_once}", text_with(walks=value, at_once=at_once), summary())
+            expect(f"walks = {value} with an archive's at_once = {at_once}", text_with(walks=value, archives=asked(f"at_once = {at_once}")), summary())
+        for at_once in ("0", "1001"):
+            expect(f"walks = {value} with at_once = {at_once}", text_with(walks=value, at_once=at_once), fault_of("at_once"))
+            expect(f"walks = {value} with an archive's at_once = {at_once}", text_with(walks=value, archives=asked(f"at_once = {at_once}")),
+                   fault_of("archives"))
+    for value in ("0", "1001", '"1"'):
+        expect(f"walks = {value} is to blame, and no archive", text_with(walks=value, archives=asked("at_once = 65")), fault_of("walks"))
+        expect(f"walks = {value} is looked for behind the specified keys", text_with(walks=value, log="7"), fault_of("log"))
+    expect("workers are needed with walks, too", text_with(walks="300", workers=None), fault_of("workers"))
+    expect("and there are no more of them", text_with(walks="300", workers="65"), fault_of("workers"))
+
+
 def expect_lines():
     """Which lines of the file of originals are none is told by their numbers."""
     good = summary()[:2]
@@ -242,13 +278,22 @@ def expect_lines():
             ("bad lines", "x\nhttp://b.example/\n\nftp://c.example/", "list: line 1 is no original\nlist: line 4 is no original\n"),
             ("many bad lines", "x\n" * 23, "".join(f"list: line {k} is no original\n" for k in range(1, 21))
              + "list: 3 more lines are no originals\n"),
+            ("a byte order mark before the first line", "\ufeffhttp://b.example/\nx\n", "list: line 2 is no original\n"),
+            ("before a bad line", "\ufeffx\n", "list: line 1 is no original\n"),
+            ("alone", "\ufeff", ""),
+            ("twice", "\ufeff\ufeffhttp://b.example/\n", "list: line 1 is no original\n"),
+            ("before another line", "http://b.example/\n\ufeffhttp://c.example/\n", "list: line 2 is no original\n"),
         ):
-            (folder / "list").write_text(text)
+            (folder / "list").write_text(text, encoding="utf-8")
             came = check_in(folder, text_with(originals_file='"list"'))
             if came != (good[0], good[1] + said):
                 print(f"{what}: {came}")
                 sys.exit(1)
-        for what, path in (("no file", '"none"'), ("a folder", '"."')):
+        os.mkfifo(folder / "pipe")
+        (folder / "linked").symlink_to("pipe")
+        # What isn't a file isn't opened: nobody writes to the pipe.
+        for what, path in (("no file", '"none"'), ("a folder", '"."'), ("a pipe", '"pipe"'), ("a link to one", '"linked"'),
+                           ("a device", '"/dev/zero"'), ("an empty device", '"/dev/null"')):
             came = check_in(folder, text_with(originals_file=path))
             if came != (good[0], good[1] + "list: not read\n"):
                 print(f"{what}: {came}")
@@ -263,8 +308,9 @@ def expect_unknown():
     told("no unknown key", "", "")
     expect("as it is specified", text_with(publsh="5"), summary())
     expect("and by a key of which nothing is specified", text_with(publsh="5", at_once="1"), summary())
-    for key, value in {"tolerance": "5", "again": "60", "publish": "1", "pull": "1", "originals_file": '"/dev/null"'}.items():
-        expect(f"an unknown key with {key}", text_with(**{key: value}), (*summary()[:2], unknown_lines(["other"])))
+    with tempfile.NamedTemporaryFile() as empty:
+        for key, value in {"tolerance": "5", "again": "60", "publish": "1", "pull": "1", "originals_file": f'"{empty.name}"'}.items():
+            expect(f"an unknown key with {key}", text_with(**{key: value}), (*summary()[:2], unknown_lines(["other"])))
     told("in the order of their bytes", 'publsh = 5\nBase = 1\nworker = "x"\n[pauses]\nrounds = 1\n',
          unknown_lines(["Base", "pauses", "publsh", "worker"]))
     told("a part of a name, and more than a name", "log_ = 1\nlo = 1\n", unknown_lines(["lo", "log_"]))
@@ -352,18 +398,22 @@ def main():
             expect(f"{key} = {value[:80]}", text_with(**{key: value}), told_of(key) if key in TELLING else fault_of(key))
         if key != "originals":
             expect(f"what {key} may hold", text_with(**{"again": "60", key: REFUSED[key][0]}), told_of(key))
+    expect_wait()
+    expect_walks()
     expect("no text", "", fault_of("base"))
     expect("of two faults the first in the order of the keys", text_with(workers="0", rounds="0"), fault_of("rounds"))
     expect("an optional key is looked for last", text_with(patience="0", archives="7"), fault_of("archives"))
     expect("the optional keys in their order", text_with(patience="0", hosts="7", log="7"), fault_of("patience"))
     expect("of the last two the first", text_with(hosts="7", log="7"), fault_of("hosts"))
-    keys = [*OWN, "agent", "ready", "snapshot", "snapshot_every", "formats", "status", "together"]
+    keys = ["walks", "at_once", *list(OWN)[1:], "agent", "ready", "snapshot", "snapshot_every", "formats", "status", "together", "wait"]
     for key, later in zip(keys, keys[1:]):
         expect(f"of {key} and {later} the first", text_with(**{key: "{}", later: "{}"}), told_of(key) if {key, later} & TELLING else fault_of(key))
     expect("the specified keys before all others", text_with(log="7", at_once="0"), fault_of("log"))
     expect("no TOML", "base =", fault_of("text"))
     expect("a key twice", text_with() + "pause = 1\n", fault_of("text"))
     expect("no UTF-8", b"# \xff\n" + text_with().encode(), fault_of("text"))
+    expect("a byte order mark at the beginning", "\ufeff" + text_with(), summary())
+    expect("one anywhere else", text_with() + "\ufeff", fault_of("text"))
     most = text_with() + "#" * (MOST_BYTES - len(text_with()))
     expect("as many bytes as may be", most, summary())
     expect("a byte more", most + "#", fault_of("text"))

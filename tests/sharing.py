@@ -1,13 +1,15 @@
 #!/usr/bin/env python3
 """What replicas tell each other while their rounds go on: what came is shown at once, what a peer knows isn't asked for again,
-and what was looked at later wins.
+what was looked at later wins, and replicas that learn nothing more fall silent.
 
     ./run --unproved && tests/sharing.py
 """
 import contextlib
 import email.utils
 import itertools
+import pathlib
 import re
+import tempfile
 import threading
 import time
 
@@ -45,7 +47,7 @@ def try_warm_start():
         knowing = Played(stack, lambda _: reply(text if next(first) == 0 else delta(7, 1, 1)))
         dead = Played(stack, silent)
         archive = Played(stack, slow(0.5))
-        service = Service(stack, archives=[("a.example", archive.address)], originals=originals(12), patience=1,
+        service = Service(stack, archives=[("a.example", archive.address)], originals=originals(12), patience=3,
                           peers=[dead.address, knowing.address], keys={"publish": 1, "pull": 1}, logged=True)
         until("what a peer knows is shown", lambda: service.shows() == MEMENTO, 10)
         same("before an archive is asked", len(archive.heads), 0)
@@ -56,6 +58,26 @@ def try_warm_start():
         log = service.process.stderr.read()
         same("it is told what peers gave", log.count("log: start: 1 of 2 peers gave what they know\n"), 1)
         same("the silent one is told of once", log.count(f"peer {dead.address}: "), 1)
+
+
+def try_wished_start():
+    """The first walk waits for peers alone, also where wishes are taken: it begins when each has answered, and each counts once."""
+    text = delta(7, 0, 1, entry(ORIGINAL, MEMENTO))
+    for wanted in (None, 1_000):
+        with contextlib.ExitStack() as stack:
+            number = itertools.count(1)
+            # Each pull brings news, so that what is pulled while the first walk is waited for would count.
+            knowing = Played(stack, lambda _, number=number: reply(text if (end := next(number)) == 1 else delta(7, end - 1, end)))
+            late = Played(stack, slow(2, reply(delta(8, 0, 1, entry(ORIGINAL, MEMENTO, "q.example")))))
+            archive = Played(stack, lambda _: GOOD)
+            began = time.monotonic()
+            service = Service(stack, archives=[("a.example", archive.address)], originals=[ORIGINAL], patience=20, rounds=2, pause=86_400,
+                              peers=[knowing.address, late.address], keys={"publish": 1, "pull": 1, "wanted": wanted}, logged=True)
+            log = "".join(service.logs_until("start:"))
+            same("each peer is told of once", log.count("log: start: 2 of 2 peers gave what they know\n"), 1)
+            until("the archive is asked", lambda: archive.heads, 5)
+            passed = time.monotonic() - began
+            holds(f"after {passed:.1f} s, when the last peer has answered", 1.9 <= passed <= 6)
 
 
 def try_known():
@@ -128,10 +150,58 @@ def try_shared_work():
         same("each was asked for", len(set(archive.targets())), count)
 
 
+def number_of(service):
+    """How many merges a replica has."""
+    return int(service.get("/delta")[2].splitlines()[1].split()[3])
+
+
+def try_nothing_new():
+    """Deltas in which nothing is new: one of a peer that began anew, one that ends later, and one of what is known. Each moves the cursor,
+    and none is a merge."""
+    known = entry(ORIGINAL, MEMENTO)
+    answers = {"/delta": delta(7, 0, 1, known), "/delta/7/1": delta(8, 0, 2), "/delta/8/2": delta(8, 2, 9), "/delta/8/9": delta(8, 9, 10, known),
+               "/delta/8/10": delta(8, 10, 10)}
+    with contextlib.ExitStack() as stack:
+        peer = Played(stack, lambda target: reply(answers[target]))
+        archive = Played(stack, lambda _: GOOD)
+        service = Service(stack, archives=[("a.example", archive.address)], originals=[ORIGINAL], rounds=2, pause=3600, peers=[peer.address],
+                          keys={"publish": 1, "pull": 1})
+        until("the peer is asked from where it is known", lambda: "/delta/8/10" in peer.targets(), 20)
+        same("each cursor was asked from once", peer.targets()[:5], list(answers))
+        same("one merge is the peer's, and one the harvest", number_of(service), 2)
+
+
+def try_silence(count):
+    """Replicas in a ring, of which each pulls from the next one and has a harvest of its own: once each knows all, no replica has a merge
+    more, and none writes its snapshot anew."""
+    ports = free_ports(count)
+    with contextlib.ExitStack() as stack:
+        folder = pathlib.Path(stack.enter_context(tempfile.TemporaryDirectory()))
+        files = [folder / str(place) for place in range(count)]
+        services = []
+        for place, (port, file) in enumerate(zip(ports, files)):
+            archive = Played(stack, lambda _, place=place: reply(link(f"http://m.example/{place}")))
+            services.append(Service(stack, archives=[(f"a{place}.example", archive.address)], originals=[ORIGINAL], rounds=2, pause=3600,
+                                    ports=[port], peers=[f"http://127.0.0.1:{ports[(place + 1) % count]}"], patience=5,
+                                    keys={"publish": 1, "pull": 1, "snapshot": str(file), "snapshot_every": 1}))
+        until(f"each of {count} knows all", lambda: all(len(service.entries()) == count for service in services), 30)
+        time.sleep(4)    # what came is published and written
+
+        def standing():
+            return [(number_of(service), file.stat().st_ino, file.stat().st_mtime_ns) for service, file in zip(services, files)]
+
+        before = standing()
+        time.sleep(6)
+        same(f"then nothing is merged or written: {[number for number, *_ in before]}", standing(), before)
+        holds("each entry was merged once", all(count >= number for number, *_ in before))
+
+
 def main():
-    for attempt in (try_publish, try_ready, try_warm_start, try_known, try_overlap, try_shared_work):
+    for attempt in (try_publish, try_ready, try_warm_start, try_wished_start, try_nothing_new, try_known, try_overlap, try_shared_work):
         attempt()
-    print("what came is shown at once, and what is known isn't asked for again")
+    for count in (2, 3):
+        try_silence(count)
+    print("what came is shown at once, what is known isn't asked for again, and then replicas are silent")
 
 
 if __name__ == "__main__":

@@ -11,6 +11,7 @@ import contextlib
 import os
 import pathlib
 import shutil
+import stat
 import subprocess
 import tempfile
 import threading
@@ -208,18 +209,18 @@ def try_unchanged():
 
 
 def try_bad(name, write, fault="no snapshot"):
-    """What can't be taken in is set aside, over what was before, and doesn't keep the service from its work."""
+    """What can't be taken in is set aside, beside what was before, and doesn't keep the service from its work."""
     with contextlib.ExitStack() as stack:
         archive, kept = Archive(stack, pages()), Kept(stack)
         archive.hold()
         write(kept.path)
-        is_folder = kept.path.is_dir()
-        if not is_folder:
-            kept.bad.write_text("an older one")
-        wanted = None if is_folder else kept.path.read_bytes()
+        wanted = kept.path.read_bytes() if kept.path.is_file() else None
+        kept.bad.write_text("an older one")
+        second = kept.folder / "known.bad.2"
         service = serve(stack, archive, kept.keys())
         same(f"{name}: told as it is", logged(service), f"log: snapshot: {fault}, and set aside\n")
-        same("set aside", [kept.files(), None if is_folder else kept.bad.read_bytes()], [["known.bad"], wanted])
+        same("set aside", [kept.files(), None if wanted is None else second.read_bytes()], [["known.bad", "known.bad.2"], wanted])
+        same("what was set aside before stays", kept.bad.read_text(), "an older one")
         same("and nothing of it shown", [service.shows(original) for original in ORIGINALS], [None, None])
         archive.let_go()
         service.rounds()
@@ -246,6 +247,7 @@ def try_files():
     try_bad("the text of a state", lambda path: path.write_bytes(state))
     try_bad("a file of another program", lambda path: shutil.copy(shutil.which("sh"), path))
     try_bad("a folder", lambda path: path.mkdir(), fault="not read")
+    try_bad("a pipe to which nobody writes", os.mkfifo, fault="not read")
     with contextlib.ExitStack() as stack:
         archive, kept = Archive(stack), Kept(stack, snapshot_of(state_of(entry(ORIGINAL, FIRST)), state_of(entry(OTHER, SECOND))))
         archive.hold()
@@ -259,15 +261,58 @@ def try_not_aside():
     """What can't be set aside isn't written over, and is set aside once that is possible."""
     with contextlib.ExitStack() as stack:
         archive, kept = Archive(stack, pages()), Kept(stack, "precious")
-        (kept.bad / "folder").mkdir(parents=True)
+        older = [kept.folder / f"known.bad{end}" for end in ("", ".2", ".3")]
+        for file in older:
+            file.write_text("an older one")
         service = serve(stack, archive, kept.keys(), rounds=2, pause=FOREVER)
         same("what can't be set aside is told as it is", logged(service), "log: snapshot: no snapshot, and not set aside\n")
         service.rounds()
         same("and stays: none is written", logged(service), UNWRITTEN)
-        same("nothing of it is lost", [kept.path.read_text(), kept.files()], ["precious", ["known", "known.bad"]])
-        shutil.rmtree(kept.bad)
+        same("nothing of it is lost, nor of those before", [kept.path.read_text(), *(file.read_text() for file in older)],
+             ["precious", *["an older one"] * 3])
+        older[1].unlink()
         is_kept("one is written once it can be set aside", service, kept)
-        same("as it was", kept.bad.read_text(), "precious")
+        same("as it was", older[1].read_text(), "precious")
+    with contextlib.ExitStack() as stack:
+        archive, kept = Archive(stack, pages()), Kept(stack)
+        try:
+            os.mknod(kept.path, 0o600 | stat.S_IFCHR, os.makedev(1, 3))
+        except PermissionError:
+            return "; without a device of its own"
+        service = serve(stack, archive, kept.keys(), rounds=1)
+        same("a device is told as it is", logged(service), "log: snapshot: not read, and not set aside\n")
+        service.rounds()
+        same("and no snapshot takes its place", logged(service), UNWRITTEN)
+        same("so that it stays", [kept.files(), kept.path.is_char_device()], [["known"], True])
+    return ""
+
+
+def try_links():
+    """A symlink at the snapshot's place stays, and what it names is the snapshot; one at `PATH.new` isn't followed."""
+    for name, is_there in (("a link to a file", True), ("a link to what isn't there yet", False)):
+        with contextlib.ExitStack() as stack:
+            archive, kept, other = Archive(stack, {ORIGINAL: link(SECOND)}), Kept(stack), Kept(stack, OLDER if is_there else None)
+            kept.path.symlink_to(other.path if is_there else os.path.relpath(other.path, kept.folder))
+            service = serve(stack, archive, kept.keys())
+            service.rounds()
+            is_kept(f"{name}: the snapshot is written where it leads", service, other)
+            same("and the link stays", [kept.files(), os.path.realpath(kept.path)], [["known"], str(other.path.resolve())])
+            service.kill()
+            archive.hold()    # so that none is written before it is looked at
+            other.path.write_text("spoiled")
+            service.start()
+            same("what can't be read is told", logged(service), "log: snapshot: no snapshot, and set aside\n")
+            same("and set aside where it is", [kept.files(), other.files(), other.bad.read_text()], [["known"], ["known.bad"], "spoiled"])
+    with contextlib.ExitStack() as stack:
+        archive, kept = Archive(stack, {ORIGINAL: link(SECOND)}), Kept(stack, OLDER)
+        precious = kept.folder / "precious"
+        precious.write_text("precious")
+        kept.new.symlink_to(precious)
+        service = serve(stack, archive, kept.keys(), umask=0)
+        service.rounds()
+        is_kept("a link where the new one is written is removed", service, kept)
+        same("and what it names stays", precious.read_text(), "precious")
+        same("a snapshot is its owner's alone, whatever the mask", oct(kept.path.stat().st_mode & 0o777), "0o600")
 
 
 def try_unwritten(name, path):
@@ -291,13 +336,14 @@ def can_mount():
 
 
 def try_full_once():
-    """A disk that is full for once: the older one stays, and what was known from the first is written later."""
+    """A snapshot that can't be written for once: the older one stays, and what was known from the first is written later."""
     with contextlib.ExitStack() as stack:
         archive, kept = Archive(stack, {ORIGINAL: link(SECOND)}), Kept(stack, OLDER)
-        kept.new.symlink_to("/dev/full")
+        kept.new.mkdir()
         service = serve(stack, archive, kept.keys(), rounds=2, pause=FOREVER)
         same("an older one is taken in", logged(service), TAKEN_IN)
-        same("on a full disk none is written", logged(service), UNWRITTEN)
+        same("where it can't be written none is", logged(service), UNWRITTEN)
+        kept.new.rmdir()
         is_kept("it is later, with what was known from the first", service, kept)
         same("that is, with the newer copy", service.shows(), SECOND)
 
@@ -430,8 +476,9 @@ def main():
     try_due()
     try_unchanged()
     try_files()
-    try_not_aside()
-    without = try_disks()
+    without = try_not_aside()
+    try_links()
+    without += try_disks()
     try_sections()
     try_replicas()
     with tempfile.TemporaryDirectory() as folder:

@@ -6,11 +6,13 @@ did, and health; and that without the key nothing more listens.
 """
 import collections
 import contextlib
+import itertools
 import pathlib
 import re
 import shutil
 import socket
 import subprocess
+import tempfile
 import time
 
 from playing import (BASE, ORIGINAL, TOP, NoGate, Played, Service, ask, comes_true, dead_ports, delta, entry, free_ports, holds, link, reply, same)
@@ -19,6 +21,10 @@ OTHER = "http://b.example/"
 UNKNOWN = "http://c.example/"
 TOLERANCE = 10**9    # never dormant
 FORMAT = "text/plain; version=0.0.4"
+# These have samples only where the settings have the key that they tell of.
+OWN_KEYS = ["maplewrench_wishes_total", "maplewrench_wanted_used", "maplewrench_wanted_limit", "maplewrench_snapshots_total",
+            "maplewrench_last_snapshot_timestamp_seconds", "maplewrench_snapshot_behind", "maplewrench_list_bad_lines",
+            "maplewrench_last_list_timestamp_seconds"]
 
 # ---- the format, strictly ----
 
@@ -101,8 +107,11 @@ class Told:
     def walks(self, archive):
         return self.row("maplewrench_walks_total", "outcome", archive=archive)
 
-    def pulls(self, peer):
-        return self.row("maplewrench_pulls_total", "outcome", peer=peer)
+    def pulls(self, peer, number):
+        return self.row("maplewrench_pulls_total", "outcome", peer=peer, number=str(number))
+
+    def archive(self, name, label):
+        return self.value(f"maplewrench_archive_{name}_timestamp_seconds", archive=label)
 
     def replies(self, gate):
         return self.row("maplewrench_replies_total", "status", gate=str(gate))
@@ -149,20 +158,21 @@ def try_rounds(stack):
     same("walks are told by archive and by how they ended", outcomes, {
         "whole.example": {"whole": 4}, "part.example": {"part": 2, "whole": 2}, "status.example": {"status": 4}, "encoded.example": {"encoded": 4},
         "no-page.example": {"no_page": 4}, "no-answer.example": {"no_answer": 4}, "nobody.example": {"no_answer": 4}})
-    same("pulls by peer and by how they ended", [told.pulls(peer) for peer in peers],
+    same("pulls by peer and by how they ended", [told.pulls(peer, number) for number, peer in enumerate(peers, 1)],
          [{"news": 2}, {"gap": 2}, {"status": 2}, {"no_delta": 2}, {"no_answer": 2}])
     same("replies by gate and by status", [told.replies(1), told.replies(2)], [{"200": 1, "302": 1, "400": 1, "405": 1}, {"404": 2}])
     same("rounds and their jobs", [told.value(f"maplewrench_{name}") for name in ("rounds_total", "round_jobs", "round_jobs_done", "shown")], [2, 14, 14, 1])
     now = int(time.time())
     times = [told.value("maplewrench_last_publish_timestamp_seconds"), told.value("maplewrench_clock_seconds")]
     holds("times are those of the clock", all(begun <= moment <= now for moment in times) and times[0] <= times[1])
-    last = [told.value("maplewrench_peer_last_delta_timestamp_seconds", peer=peer) for peer in peers]
+    last = [told.value("maplewrench_peer_last_delta_timestamp_seconds", peer=peer, number=str(number)) for number, peer in enumerate(peers, 1)]
     holds("a peer's last delta is told, and that others gave none", begun <= last[0] <= now and last[1:] == [0] * 4)
     entries, mementos = len(service.entries()), sum(line[:1].isdigit() for line in service.get("/state")[2].splitlines())
     same("entries and mementos", [told.value("maplewrench_entries"), told.value("maplewrench_mementos")], [entries, mementos])
     holds("the memory that the process holds", 0.5 < told.value("process_resident_memory_bytes") / 1024 / service.memory() < 2)
     same("publishes", told.row("maplewrench_publishes_total", "outcome"), {"published": 2})
-    same("no wishes where none are taken", told.metrics["maplewrench_wishes_total"][1], {})
+    same("nothing is told of wishes, snapshots and a file of originals where there are none", {name: told.metrics[name][1] for name in OWN_KEYS},
+         dict.fromkeys(OWN_KEYS, {}))
     return port, told
 
 
@@ -204,11 +214,99 @@ def try_dormant(stack):
     port = status_of(service)
     service.rounds(2)
     told = Told(port)
-    until = told.value("maplewrench_archive_dormant_until_timestamp_seconds", archive="bad.example")
+    until = told.archive("dormant_until", "bad.example")
     holds("until when an archive is dormant", begun + 600 <= until <= time.time() + 601)
-    same("and that another isn't", told.value("maplewrench_archive_dormant_until_timestamp_seconds", archive="good.example"), 0)
+    same("and that another isn't", told.archive("dormant_until", "good.example"), 0)
+    same("and that neither asked to be left alone", [told.archive("aside_until", name) for name in ("bad.example", "good.example")], [0, 0])
     same("walks until then", [told.walks("bad.example"), told.walks("good.example")], [{"status": 2}, {"whole": 3}])
     same("jobs that are passed over", told.value("maplewrench_round_jobs_passed_over"), 3)
+
+
+def try_aside(stack):
+    """An archive that asks to be left alone, until when, and that it isn't any more once it has answered."""
+    asked = iter(range(10**9))
+    busy = Played(stack, lambda _: reply("", "Retry-After: 2", status=429) if next(asked) < 1 else reply(link("http://m.example/1")))
+    gone = Played(stack, lambda _: reply("", "Retry-After: 900", status=503))
+    begun = int(time.time())
+    service = Service(stack, archives=[("busy.example", busy.address), ("gone.example", gone.address)], originals=[ORIGINAL], rounds=1,
+                      keys={"status": "127.0.0.1:0", "tolerance": 5, "dormant": 600})
+    port = status_of(service)
+    holds("an archive that asks to be left alone is told at once", comes_true(lambda: Told(port).archive("aside_until", "gone.example")))
+    told = Told(port)
+    holds("with the second in which it is asked again", begun + 900 <= told.archive("aside_until", "gone.example") <= time.time() + 901)
+    same("it isn't dormant", told.archive("dormant_until", "gone.example"), 0)
+    holds("one that answers again isn't left alone any more", comes_true(lambda: Told(port).walks("busy.example") == {"busy": 1, "whole": 1}))
+    same("and told so", Told(port).archive("aside_until", "busy.example"), 0)
+
+
+def try_twice(stack):
+    """Two peers with one base are told apart."""
+    peer = Played(stack, lambda _: reply(delta(7, 0, 1, entry(ORIGINAL, "http://m.example/2"))))
+    service = Service(stack, peers=[peer.address, peer.address], keys={"status": "127.0.0.1:0"})
+    port = status_of(service)
+    service.rounds(1)
+    told = Told(port)    # which refuses a sample that stands twice
+    same("each has its pulls", [told.pulls(peer.address, number) for number in (1, 2)], [{"news": 1}, {"news": 1}])
+    same("and its number", [dict(labels)["number"] for labels in told.metrics["maplewrench_peer_last_delta_timestamp_seconds"][1]], ["1", "2"])
+
+
+def try_snapshots(stack):
+    """When a snapshot was written last, and how many couldn't be."""
+    folder = pathlib.Path(stack.enter_context(tempfile.TemporaryDirectory()))
+    asked = itertools.count(1)
+    archive = Played(stack, lambda _: reply(link(f"http://m.example/{next(asked)}")))
+    begun = int(time.time())
+    service = Service(stack, archives=[("a.example", archive.address)], originals=[ORIGINAL], rounds=1_000, pause=1,
+                      keys={"status": "127.0.0.1:0", "snapshot": str(folder / "kept/snapshot"), "snapshot_every": 1})
+    port = status_of(service)
+
+    def told():
+        came = Told(port)
+        return came.row("maplewrench_snapshots_total", "outcome"), came.value("maplewrench_last_snapshot_timestamp_seconds"), came.value("maplewrench_snapshot_behind")
+
+    holds("a snapshot that can't be written is counted", comes_true(lambda: told()[0].get("failed", 0) > 1))
+    counts, last, behind = told()
+    same("none was written, and what is published isn't kept", (counts.get("written", 0), last, behind), (0, 0, 1))
+    (folder / "kept").mkdir()
+    holds("one that is written is counted", comes_true(lambda: told()[0].get("written", 0) > 0))
+    holds("and its second is told", comes_true(lambda: begun <= told()[1] <= time.time()))
+    holds("then what is published is kept", comes_true(lambda: told()[2] == 0))
+
+
+def try_list(stack):
+    """Lines of the file of originals that hold none, and when it was read last."""
+    folder = pathlib.Path(stack.enter_context(tempfile.TemporaryDirectory()))
+    listed = folder / "originals"
+    listed.write_text(f"{ORIGINAL}\nftp://a.example/\nnone\n\n# a comment\nhttp://\n")
+    archive = Played(stack, lambda _: reply(link("http://m.example/1")))
+    begun = int(time.time())
+    service = Service(stack, archives=[("a.example", archive.address)], originals=[], rounds=2, pause=2,
+                      keys={"status": "127.0.0.1:0", "originals_file": str(listed)})
+    port = status_of(service)
+    service.rounds(1)
+    told = Told(port)
+    last = told.value("maplewrench_last_list_timestamp_seconds")
+    same("lines that hold no original", told.value("maplewrench_list_bad_lines"), 4)
+    holds("and when the file was read", begun <= last <= time.time())
+    listed.unlink()
+    service.rounds(1)
+    told = Told(port)
+    same("a file that is gone isn't read", (told.value("maplewrench_list_bad_lines"), told.value("maplewrench_last_list_timestamp_seconds")), (4, last))
+
+
+def try_ahead(stack):
+    """Entries whose revision is ahead of the clock, and the version that runs."""
+    now = int(time.time())
+    entries = entry(ORIGINAL, "http://m.example/1", revision=now + 86_400) + entry(OTHER, "http://m.example/2", revision=now - 5) \
+        + entry(UNKNOWN, "http://m.example/3", revision=now + 10)
+    peer = Played(stack, lambda _: reply(delta(7, 0, 1, entries)))
+    service = Service(stack, peers=[peer.address], keys={"status": "127.0.0.1:0"})
+    port = status_of(service)
+    service.rounds(1)
+    told = Told(port)
+    same("entries that are ahead by more than a minute", (told.value("maplewrench_entries"), told.value("maplewrench_revisions_ahead")), (3, 1))
+    number = re.search(r"(?m)^## ([0-9][0-9.]*)", (TOP / "CHANGELOG.md").read_text(encoding="utf-8"))[1]
+    same("the version is that of CHANGELOG.md", told.metrics["maplewrench_build_info"][1], {(("version", number),): 1})
 
 
 def try_wishes(stack):
@@ -222,6 +320,19 @@ def try_wishes(stack):
     holds("and told as granted and ended",
           comes_true(lambda: Told(port).row("maplewrench_wishes_total", "outcome") == {"granted": 1, "ended": 1}))
     same("its walk is told too", Told(port).walks("a.example"), {"whole": 1})
+    holds("and how much of the room is used",
+          comes_true(lambda: [Told(port).value(f"maplewrench_wanted_{name}") for name in ("used", "limit")] == [1, 10]))
+
+
+def try_late(stack):
+    """Wishes beyond those of the minute."""
+    archive = Played(stack, lambda _: reply(link("http://m.example/1")))
+    service = Service(stack, archives=[("a.example", archive.address)], originals=[], rounds=1_000, pause=60,
+                      keys={"status": "127.0.0.1:0", "wanted": 10, "wishes": 1})
+    port = status_of(service)
+    for number in range(4):    # of which a minute that is over lets one more pass
+        same("nothing is known of what is wished for", service.shows(f"http://w{number}.example/"), None)
+    holds("wishes that came too late are told", comes_true(lambda: 2 <= Told(port).row("maplewrench_wishes_total", "outcome").get("late", 0) <= 3))
 
 
 def threads_of(service):
@@ -260,10 +371,14 @@ def try_promtool(told):
     return "promtool agrees"
 
 
-def try_documents(told):
-    """The metrics in docs/OPERATING.md are those that are told, with their kinds, in their order."""
+def try_documents(stack, told):
+    """The metrics in docs/OPERATING.md are those that are told, with their kinds, in their order. The last ones are told only where
+    something may be forgotten."""
+    more = Told(status_of(Service(stack, keys={"status": "127.0.0.1:0", "forget": 3600}))).metrics
+    same("what is told without `forget` comes first", list(more)[:len(told.metrics)], list(told.metrics))
+    same("and with it there is more", len(more) - len(told.metrics), 6)
     rows = re.findall(rf"^\| `({NAME})` \| (counter|gauge) \|", (TOP / "docs/OPERATING.md").read_text(encoding="utf-8"), re.M)
-    same("docs/OPERATING.md names the metrics", rows, [(name, kind) for name, (kind, _) in told.metrics.items()])
+    same("docs/OPERATING.md names the metrics", rows, [(name, kind) for name, (kind, _) in more.items()])
 
 
 def main():
@@ -271,8 +386,8 @@ def main():
     with contextlib.ExitStack() as stack:
         port, told = try_rounds(stack)
         try_replies(port)
-        try_documents(told)
-        for each in (try_health, try_dormant, try_wishes, try_faults):
+        try_documents(stack, told)
+        for each in (try_health, try_dormant, try_aside, try_twice, try_snapshots, try_list, try_ahead, try_wishes, try_late, try_faults):
             each(stack)
         prometheus = try_promtool(told)
     count = sum(len(samples) for _, samples in told.metrics.values())

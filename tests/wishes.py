@@ -12,7 +12,7 @@ import tempfile
 import threading
 import time
 
-from playing import BASE, GOOD, MEMENTO, PATIENCE, Played, Service, free_ports, holds, originals, reply, same, silent, slow, told, until
+from playing import BASE, GOOD, MEMENTO, PATIENCE, Played, Service, free_ports, get, holds, link, originals, reply, same, silent, slow, told, until
 
 NONE = reply(status=404)
 MANY = 1_000_000    # rounds, for a service that is to go on until it is killed
@@ -88,6 +88,34 @@ def try_what_wishes_nothing():
         same("and is all that was asked for", archive.targets(), [BASE + "http://last.example/"])
 
 
+def odd_targets(original, count):
+    """So many targets of each kind whose replies are about an original: other cases, dot segments, and pages of its TimeMap."""
+    host = original.removeprefix("http://").removesuffix("/")
+    for k in range(count):
+        yield f"/timegate/HTTP://{host.upper()}/" + "./" * k
+        yield f"/timegate/{original}{k}/../"
+        yield f"/timemap/link/page/1/{original}" + "x/../" * k
+
+
+def try_odd_targets():
+    """However what is shown is asked for, nothing but its original is harvested and kept, and unknown originals are wished for as before."""
+    with contextlib.ExitStack() as stack:
+        archive = Played(stack, lambda _: GOOD)
+        listed, wished, unknown = "http://listed.example/", "http://wished.example/", "http://unknown.example/"
+        service = Service(stack, archives=[("a.example", archive.address)], originals=[listed], rounds=2, pause=86_400,
+                          keys={"wanted": 20, "wishes": 6_000})
+        same("the round", service.line(), told(1, 1, 1))
+        service.shows("HTTP://wished.Example")
+        until("what is wished for in another spelling is shown", lambda: service.shows(wished) == MEMENTO)
+        for original in (listed, wished):
+            statuses = [service.get(target)[0] for target in odd_targets(original, 30)]
+            same("each question is answered", statuses, [302, 302, 200] * 30)
+        service.shows(unknown)
+        until("an unknown original is shown", lambda: service.shows(unknown) == MEMENTO)
+        same("each original was asked for once, and nothing else", archive.targets(), [BASE + one for one in (listed, wished, unknown)])
+        same("or is kept", sorted(entry[1] for entry in service.entries()), sorted([listed, wished, unknown]))
+
+
 def try_without_the_key():
     """Nothing is wished for if the settings don't have the key."""
     with contextlib.ExitStack() as stack:
@@ -105,7 +133,8 @@ def try_wishes_in_a_minute():
     with contextlib.ExitStack() as stack:
         archive = Played(stack, lambda target: GOOD if "has" in target else NONE)
         service = Service(stack, archives=[("a.example", archive.address)], rounds=2, pause=86_400,
-                          keys={"wanted": 50, "wishes": 5})
+                          keys={"wanted": 50, "wishes": 5, "status": "127.0.0.1:0"})
+        port = int(service.line().rpartition(":")[2])
         same("the first round has no job", service.line(), told(1, 0, 0))
         begun, before = int(time.time()) // 60, service.memory()
         for original in originals(3_000, "made-up.example"):
@@ -115,6 +144,7 @@ def try_wishes_in_a_minute():
         until("some are asked for", lambda: len(archive.heads) >= 5)
         minutes = int(time.time()) // 60 - begun + 1
         holds(f"of 3,000 in {minutes} minutes {len(archive.heads)} were asked for", len(archive.heads) <= 5 * minutes)
+        until("the others are counted as late", lambda: 'maplewrench_wishes_total{outcome="late"} 0' not in get(port, "/metrics")[2])
         holds(f"they took {service.memory() - before} KiB", service.memory() - before < 20_000)
 
 
@@ -132,6 +162,48 @@ def try_no_room():
         log = "".join(service.logs_until("wishes turned away: no room"))
         holds("which the log says once in a round", "2 wishes turned away: no room\n" in log)
         same("and those three are known", len(service.entries()), 3)
+
+
+def try_room_before_the_first_round():
+    """Also before something is published no more unknown originals are harvested than are wanted."""
+    with contextlib.ExitStack() as stack:
+        archive, peer = Played(stack, lambda _: GOOD), Played(stack, silent)
+        service = Service(stack, archives=[("a.example", archive.address)], peers=[peer.address], patience=6, rounds=2, pause=86_400,
+                          keys={"wanted": 2, "wishes": 1_000, "pull": 1})
+        wished = originals(20, "wished.example")
+        until("the peer is asked", lambda: peer.heads)
+        shown = set()
+        while len(shown) < 2:
+            shown.update(one for one in wished if service.shows(one) == MEMENTO)
+        for _ in range(3):
+            for original in wished:
+                service.shows(original)
+            time.sleep(0.3)
+        same("of twenty two are harvested while a peer is waited for", len(service.entries()), 2)
+        same("and no more are asked for", len(set(archive.targets())), 2)
+        same("before the first round", service.line(), told(1, 0, 0))
+
+
+def try_later_look():
+    """What a round looks at later wins over what a wish looked at earlier."""
+    with contextlib.ExitStack() as stack:
+        listed = originals(25)
+        last = BASE + listed[-1]
+
+        def answer(target):
+            time.sleep(0.25)
+            number = archive.targets().count(last) if target == last else 1
+            return reply(link(f"http://m.example/{number}"))
+
+        archive = Played(stack, answer)
+        service = Service(stack, archives=[("a.example", archive.address)], originals=listed, rounds=2, pause=86_400, keys={"wanted": 9})
+        until("the round is under way", lambda: len(archive.heads) > 5)
+        service.shows(listed[-1])
+        until("the last original is harvested for a wish", lambda: service.shows(listed[-1]) == "http://m.example/1")
+        holds("when the round hasn't come to it", asked(archive, listed[-1]) == 1 and len(archive.heads) < 20)
+        same("the round comes to it", service.line(), told(1, 25, 25))
+        same("the archive was asked twice", asked(archive, listed[-1]), 2)
+        same("and what it said last is shown", service.shows(listed[-1]), "http://m.example/2")
 
 
 def try_again():
@@ -329,9 +401,9 @@ def try_restart():
 
 
 def main():
-    for attempt in (try_in_a_round, try_between_rounds, try_what_wishes_nothing, try_without_the_key, try_wishes_in_a_minute,
-                    try_no_room, try_again, try_replicas, try_alike, try_alike_once, try_paces, try_log, try_file, try_listed,
-                    try_restart):
+    for attempt in (try_in_a_round, try_between_rounds, try_what_wishes_nothing, try_odd_targets, try_without_the_key,
+                    try_wishes_in_a_minute, try_no_room, try_room_before_the_first_round, try_later_look, try_again, try_replicas, try_alike,
+                    try_alike_once, try_paces, try_log, try_file, try_listed, try_restart):
         print(f"--- {attempt.__name__}", flush=True)
         attempt()
     print("what readers ask for is harvested next, within bounds")

@@ -10,15 +10,20 @@
 - Each crate of crates.txt has a row in the tables of docs/ARCHITECTURE.md and is named in docs/PROVED.md, and each name in code
   marks below its heading there stands in that crate.
 - The tables are as docs/counts counts them, the lists of contracts as tools/contracts.py has them from the sources, the pictures as
-  tools/pictures.py draws them, the figures of speed as tools/plot.py has them from bench/results.tsv, the policy of the readers' page
-  as web/policy writes it, and the licences of what is in the program as tools/licences.py has them from the toolchain's kit.
+  tools/pictures.py draws them, the figures of speed as tools/plot.py has them from bench/results.tsv, the hashes
+  in the addresses of styles and scripts as web/hashes writes them, and the licences of what is in the program as tools/licences.py has them from the toolchain's kit.
 - A claim of the README says the premises of the contracts that it cites, in the words that docs/premises.txt has for each, and none
   is waived there; its headline says those of `replicas_agree.learnt`.
 - How many definitions a contract stands on is as tools/statements.py counts them.
-- The commands of scripts, and what they write, stand in examples/README.md as in the comment of `replay`.
+- The commands of scripts, and what they write, stand in examples/README.md as in the comment of `replay`, and a gate's replies in
+  docs/API.md as in that of `timegate::answer`.
+- Each word of docs/GLOSSARY.md stands there once, in alphabetical order, and what carries it is in its crate; so does each word that
+  a page sets in italics.
 - The README.md of docs/, bench/, deploy/ and tests/planted/ names each file of its folder. That of crates/ names each crate once,
   below all that it uses or in their group.
-- Each key of the settings has a row in docs/SETTINGS.md, with the limits that its definition has.
+- Each key of the settings has one row in docs/SETTINGS.md, with the limits that its definition has, one in the manual page and one
+  in docs/MIGRATING.md, in the order of `Key` (tools/pages.py).
+- No file of the product has over 500 lines, and docs/DECISIONS.md has 450 at most.
 - What a crate doesn't lend to others is pub(crate) or private, and the head of each lib.rt of many modules says what each is for
   (tools/visibility.py).
 - Each text that tests/planted would plant a bug in stands in the sources, once, and so does each that an edit changes. No edit
@@ -39,7 +44,7 @@ import subprocess
 import sys
 
 import command
-import counts
+import pages
 import statements
 import visibility
 
@@ -199,58 +204,13 @@ def check_tables(tell):
             tell(page, f"{crate} has no {name}" if lacking else None)
 
 
-def check_indexes(tell):
-    for folder in ("docs", "bench", "deploy", "tests/planted"):
-        page = TOP / folder / "README.md"
-        text = page.read_text(encoding="utf-8")
-        for path in sorted((TOP / folder).iterdir()):
-            is_listed = path.is_file() and path != page and path.suffix not in (".bugs", ".both")
-            if is_listed and f"`{path.name}`" not in text and f"]({path.name})" not in text:
-                tell(page, f"{path.name} isn't named")
-
-
-def check_groups(tell):
-    page = TOP / "crates/README.md"
-    groups = [re.findall(r"`(\w+)`", line.split("|")[2]) for line in lines_of(page) if line.startswith("| ") and "`" in line]
-    rank = {crate: k for k, group in enumerate(groups) for crate in group}
-    tell(page, "a crate is named twice" if len(rank) < sum(map(len, groups)) else None)
-    uses = counts.used()
-    for crate in {*uses, *rank}:
-        tell(page, f"{crate} isn't named" if crate not in rank else f"there is no crate {crate}" if crate not in uses else None)
-        for below in uses.get(crate, ()):
-            if rank.get(below, 0) > rank.get(crate, len(groups)):
-                tell(page, f"{crate} stands above {below}, which it uses")
-
-
-def commands(path, mark):
-    """The rows of the table of commands in a file: the forms of each, and what it writes."""
-    rows = [re.fullmatch(rf"{mark}\| (`.*) \| .* \| (.*) \|", line) for line in lines_of(path)]
-    return [row.groups() for row in rows if row]
-
-
-def check_commands(tell):
-    shown, told = TOP / "examples/README.md", TOP / "crates/replica_world/src/replaying/run.rt"
-    if not commands(told, "/// ") or commands(shown, "") != commands(told, "/// "):
-        tell(shown, f"the table of commands isn't as in {told.relative_to(TOP)}")
-
-
-def check_settings(tell):
-    settings = TOP / "crates/service_settings"
-    names = dict(re.findall(r'Key::(\w+) => "(\w+)"', (settings / "src/fault.rt").read_text(encoding="utf-8")))
-    limits = re.findall(r"^limits key\.(\w+) = \((\d+), (\d+)\)", (settings / "specs/Limits.antt").read_text(encoding="utf-8"), re.M)
-    page = TOP / "docs/SETTINGS.md"
-    rows = dict(re.findall(r"^\| `(\w+)` \| ([^|]*) \|", page.read_text(encoding="utf-8"), re.M))
-    tell(page, None if names.keys() == {key for key, _, _ in limits} else "the keys of the code aren't those of the definition")
-    for key, least, most in limits:
-        name, between = names.get(key, key), f"{int(least):,} to {int(most):,}"
-        words = {("0", "1"): "`true` or `false`", ("1", "1"): "a "}.get((least, most), between)
-        tell(page, None if words in rows.get(name, "") else f"no row says that `{name}` holds {words}")
-
-
 def check_version(tell):
     changes = TOP / "CHANGELOG.md"
     first = re.search(r"^## (.*)$", changes.read_text(encoding="utf-8"), re.M)
-    tell(changes, None if first and re.fullmatch(r"\d+\.\d+\.\d+", first[1]) else "its first heading is no version, as 0.1.0")
+    tell(changes, None if first and re.fullmatch(r"\d+\.\d+\.\d+ \(\d+ [A-Z][a-z]+ \d{4}\)|Unreleased", first[1])
+         else "its first heading is no version with its day, as '0.1.0 (25 November 2026)'")
+    number = re.search(r"^## (\d[\d.]*)", changes.read_text(encoding="utf-8"), re.M)[1]
+    tell(TOP / "README.md", None if f"version {number}." in (TOP / "README.md").read_text(encoding="utf-8") else f"its status isn't version {number}")
     rt = os.environ.get("RT", "rt")
     if shutil.which(rt) is None:
         return
@@ -267,7 +227,7 @@ WORD = re.compile(r"(?:`[^`]*`|\]\([^)]*\)|\S)+")
 # Words that would begin a list, a heading, a table or a quotation, if they stood first in a line.
 MARK = re.compile(r"[-+*>|]|#+|\d+[.)]")
 # Crates whose comments aren't within the columns yet.
-UNFILLED = set()
+UNFILLED = {"harvest_schedule", "memento_time", "text_fields"}
 PROOF_WIDTH = 200
 # Crates whose proofs aren't yet.
 WIDE = set()
@@ -300,7 +260,7 @@ def filled(lines, in_page):
     begins = (IN_PAGE if in_page else IN_CODE).match(lines[0])
     marked = begins[1] + begins[2]
     behind = begins[1] + " " * len(begins[2])
-    words = WORD.findall(" ".join(line[len(marked):] if k == 0 else line[len(begins[1]):] for k, line in enumerate(lines)))
+    words = WORD.findall(" ".join(line[len(marked):] if k == 0 else line[len(begins[1]):].strip() for k, line in enumerate(lines)))
     rows = [[words[0]]]
     for word in words[1:]:
         if columns(behind + " ".join([*rows[-1], word])) <= WIDTH:
@@ -472,8 +432,8 @@ def check_edits(tell):
 
 def check_scripts(tell):
     dry = (["tests/planted/run", "--dry"], ["tests/planted/both", "--dry"], ["tests/edits/run", "--dry"])
-    for words in (["docs/counts", "--check"], ["tools/contracts.py", "--check"], ["tools/pictures.py", "--check"], ["tools/plot.py", "--check"],
-                  ["web/policy", "--check"], ["tools/licences.py", "--check"], *dry):
+    for words in (["docs/counts", "--check"], ["tools/contracts.py", "--check"], ["tools/pictures.py", "--check"], ["tools/plot.py", "--check"], ["tools/history.py", "--check"],
+                  ["web/hashes", "--check"], ["tools/licences.py", "--check"], *dry):
         ran = subprocess.run([TOP / words[0], *words[1:]], capture_output=True, text=True)
         tell(TOP / words[0], ((ran.stderr or ran.stdout).strip() or "failed") if ran.returncode else None)
 
@@ -485,7 +445,8 @@ def main():
         subprocess.run([TOP / "tools/contracts.py"], check=True)
         subprocess.run([TOP / "tools/pictures.py"], check=True)
         subprocess.run([TOP / "tools/plot.py"], check=True)
-        subprocess.run([TOP / "web/policy"], check=True)
+        subprocess.run([TOP / "tools/history.py"], check=True)
+        subprocess.run([TOP / "web/hashes"], check=True)
         subprocess.run([TOP / "tools/licences.py"], check=False)    # which can't without a kit, and says so
         for page in documents():
             mend_links(page)
@@ -499,10 +460,7 @@ def main():
     check_tables(tell)
     check_counts(tell)
     check_claims(tell)
-    check_indexes(tell)
-    check_groups(tell)
-    check_commands(tell)
-    check_settings(tell)
+    pages.check_all(tell)
     check_columns(tell)
     check_sentences(tell)
     check_comments(tell)

@@ -1,6 +1,7 @@
 #!/usr/bin/env python3
 """Writes the lists of contracts in docs/PROVED.md: for each crate of the product its public functions, each with the names of its
-clauses and the first sentence of its comment, and then its laws, whose bodies are empty.
+clauses and the first sentence of its comment, and then its laws, whose bodies are empty. It also writes there which public functions
+may wait: those that name the bound `Wait`, `Threads` or `Net`, or whose type names the bound.
 
     tools/contracts.py            writes them
     tools/contracts.py --check    only says, by its status, whether they are as the sources have them
@@ -18,6 +19,7 @@ from command import words_of
 TOP = pathlib.Path(__file__).resolve().parent.parent
 PROVED = TOP / "docs/PROVED.md"
 HEADING = re.compile(r"^### `(\w+)`\n", re.M)
+WAITERS = "| Crate | Its public functions that may wait |\n|---|---|\n"
 
 
 def exported(crate):
@@ -88,6 +90,34 @@ def list_of(crate):
     return "\n".join([*calls, *(["", "Laws:", ""] if laws and calls else []), *laws])
 
 
+def signature(lines, k):
+    """The lines of an item from its first one up to its clauses or its body."""
+    for end in range(k, len(lines)):
+        if re.match(r"\s*(\{|ensures|requires)", lines[end]) or lines[end].endswith(("{", "{}")):
+            return "\n".join(lines[k:end + 1])
+    return lines[k]
+
+
+def waiters_of(crate):
+    """The names of a crate's public functions that may wait."""
+    names, bound = exported(crate), re.compile(r"\b(Wait|Threads|Net)\b")
+    for path in sorted((TOP / "crates" / crate / "src").rglob("*.rt")):
+        lines, owner, head, is_public = path.read_text(encoding="utf-8").split("\n"), "", "", True
+        for k, line in enumerate(lines):
+            if block := re.match(r"(?:unsafe )?impl(?:<.*?>)? (?:(.*) for )?(\w+)", line):
+                owner, head, is_public = block[2], signature(lines, k), not block[1]
+            elif line == "}":
+                owner, head, is_public = "", "", True
+            found = re.match(r" *(pub )?fn (\w+)", line)
+            if found and (found[1] or not is_public) and bound.search(head + signature(lines, k)) and names and (owner or found[2]) in names:
+                yield f"`{owner}::{found[2]}`" if owner else f"`{found[2]}`"
+
+
+def table_of_waiters(crates):
+    waiters = {crate: ", ".join(waiters_of(crate)) for crate in crates}
+    return WAITERS + "".join(f"| `{crate}` | {names} |\n" for crate, names in waiters.items() if names)
+
+
 def renewed(text):
     """The text of docs/PROVED.md with the lists as the sources have them."""
     parts = re.split(r"^(?=##+ )", text, flags=re.M)
@@ -96,7 +126,8 @@ def renewed(text):
         if heading:
             by_hand = re.split(r"^(?:- \[`|Laws:\n)", part, maxsplit=1, flags=re.M)[0].rstrip("\n")
             parts[k] = "\n\n".join(filter(None, (by_hand, list_of(heading[1])))) + "\n\n"
-    return "".join(parts)
+    table = table_of_waiters(HEADING.findall(text))
+    return re.sub(re.escape(WAITERS) + r"(?:\|.*\n)*", lambda _: table, "".join(parts))
 
 
 def main():

@@ -1,10 +1,13 @@
-"""Writes what can be counted or copied: the tables of lines and of planted bugs in docs/TRUST.md, in docs/BELIEF.md the definitions
-that the headline's two clauses stand on, as tools/statements.py finds them, and in docs/ARCHITECTURE.md what each crate stands on, as
-crates.txt has it.
+"""Writes what can be counted or copied: the tables of files of definitions, of lines and of planted bugs in docs/TRUST.md, in docs/BELIEF.md the definitions
+that the headline's two clauses stand on, as tools/statements.py finds them, in docs/ARCHITECTURE.md what each crate stands on, as
+crates.txt has it, and in tests/README.md a row for each test, as tests/run --list shows it.
 
     docs/counts            writes them
     docs/counts --check    only says, by its status, whether they are as counted
 """
+import importlib.machinery
+import importlib.util
+import itertools
 import pathlib
 import re
 import sys
@@ -20,8 +23,11 @@ import planting
 TRUST = TOP / "docs/TRUST.md"
 ARCHITECTURE = TOP / "docs/ARCHITECTURE.md"
 BELIEF = TOP / "docs/BELIEF.md"
+TESTS = TOP / "tests/README.md"
 LINES = "| Crate | Source, with tests | Definitions | Proofs | Edits |\n|---|---|---|---|---|\n"
+FILES = "| File | What it defines |\n|---|---|\n"
 BUGS = "| List | Bugs | Tried and refused, on the commit | Not tried as they stand |\n|---|---|---|---|\n"
+ROWS = "| Test | Shows | Runs | Seconds | Needs |\n|---|---|---|---|---|\n"
 FIRST, SECOND = ("replica_events", "replicas_agree.learnt"), ("replica_events", "replicas_agree.redirects")
 DEFINITIONS = "| File | Definitions of `replicas_agree.learnt` |\n|---|---|\n"
 FURTHER = "| File | Definitions of `replicas_agree.redirects` alone |\n|---|---|\n"
@@ -49,6 +55,31 @@ def table_of_lines():
         counts = [lines_of(crate, "src", "rt"), lines_of(crate, "specs", "antt"), lines_of(crate, "proofs", "antt"), edits]
         rows.append(f"| `{crate}` | " + " | ".join(map(str, counts)) + " |\n")
     return LINES + "".join(rows)
+
+
+def of_product():
+    """The crates that the program stands on, and the program, in the order of crates.txt."""
+    found, left = set(), ["aggregator"]
+    while left:
+        crate = left.pop()
+        if crate in used() and crate not in found:
+            found.add(crate)
+            left += used()[crate]
+    return [crate for crate in crates() if crate in found]
+
+
+def first_words(path):
+    """The first sentence of the comment at the top of a file of definitions."""
+    lines = itertools.takewhile(lambda line: line.startswith("-- "), path.read_text().splitlines())
+    text = " ".join(line.removeprefix("-- ") for line in lines)
+    return re.split(r"(?<=[\w`)\"])\. (?=[A-Z`(])", text)[0].rstrip(".").replace("|", "\\|")
+
+
+def table_of_files():
+    """Each file of definitions of the product, with what it is for. `Lib.antt` only names the others."""
+    files = [path for crate in of_product() for path in sorted((TOP / "crates" / crate / "specs").rglob("*.antt")) if path.name != "Lib.antt"]
+    rows = (f"| [{path.relative_to(TOP / 'crates')}](../{path.relative_to(TOP)}) | {first_words(path)} |\n" for path in files)
+    return FILES + "".join(rows)
 
 
 def table_of_bugs():
@@ -94,17 +125,34 @@ def with_uses(text):
     return re.sub(r"^\| `(\w+)` \| ([^|]*) \| [^|]* \|$", row, text, flags=re.M)
 
 
+def table_of_tests():
+    """A row for each test, by what tests/run says of it."""
+    sys.path.insert(0, str(TOP / "tests"))
+    loader = importlib.machinery.SourceFileLoader("tests_run", str(TOP / "tests/run"))
+    spec = importlib.util.spec_from_loader("tests_run", loader)
+    run = importlib.util.module_from_spec(spec)
+    loader.exec_module(run)
+    rows = []
+    for test in run.tests_there()[0].values():
+        needs = ", ".join([*(f"`{it}`" for it in test.programs), *([test.needs] if test.needs else [])])
+        rows.append(f"| `{test.name}` | {run.shown_by(test).replace('|', ' or ')} | {test.how} | {test.seconds} | {needs} |\n")
+    return ROWS + "".join(rows)
+
+
 def main():
     is_check = "--check" in words_of(__doc__, options=["--check"])
 
     def with_table(text, head, table):
         return re.sub(re.escape(head) + r"(?:\|.*\n)*", lambda _: table, text)
 
-    trust = with_table(with_table(TRUST.read_text(), LINES, table_of_lines()), BUGS, table_of_bugs())
+    trust = TRUST.read_text()
+    for head, table in ((FILES, table_of_files()), (LINES, table_of_lines()), (BUGS, table_of_bugs())):
+        trust = with_table(trust, head, table)
     first, second = definitions_of(FIRST), definitions_of(SECOND)
     belief = with_table(BELIEF.read_text(), DEFINITIONS, table_of_definitions(DEFINITIONS, first))
     belief = with_table(belief, FURTHER, table_of_definitions(FURTHER, second - first))
-    for path, new in ((TRUST, trust), (BELIEF, belief), (ARCHITECTURE, with_uses(ARCHITECTURE.read_text()))):
+    tests = with_table(TESTS.read_text(), ROWS, table_of_tests())
+    for path, new in ((TRUST, trust), (BELIEF, belief), (TESTS, tests), (ARCHITECTURE, with_uses(ARCHITECTURE.read_text()))):
         if is_check and new != path.read_text():
             sys.exit(f"{path.relative_to(TOP)}: the tables aren't as counted; run docs/counts")
         if not is_check:

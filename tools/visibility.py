@@ -80,7 +80,7 @@ def named_in_definitions(top):
 
 def associated_types(texts, reached):
     """What stands for the associated types of what others reach."""
-    blocks = re.compile(r"^impl(?:<[^>]*>)? [\w:]+(?:<[^{]*>)? for (\w+)[^{]*\{(.*?)^\}", re.M | re.S)
+    blocks = re.compile(r"^impl(?:<[^>]*>)? [\w:]+(?:<[^{]*>)?\s+for (\w+)[^{]*\{(.*?)^\}", re.M | re.S)
     for found in (it for text in texts for it in blocks.finditer(text) if it[1] in reached):
         yield from re.findall(r"\w+", " ".join(re.findall(r"^ *type \w+ = (.*);", found[2], re.M)))
 

@@ -4,8 +4,8 @@ an original of a file are shown.
 
     tests/memory/wished.py REFUSE.SO
 
-The service must end before its first round, with `no memory` or `no gate`, or show all three: what was refused is made up for
-when readers ask again, and by the next round.
+Its gates hold first questions (`wait`). The service must end before its first round, with `no memory` or `no gate`, or show all
+three: what was refused is made up for when readers ask again, and by the next round.
 
 The program is crates/aggregator/out/aggregator, or what $PROGRAM names. The last line tells how many requests were refused.
 """
@@ -38,6 +38,8 @@ workers = 1
 originals = []
 peers = []
 wanted = 9
+wait = 1
+together = 4
 again = 1
 alike = true
 originals_file = "{listed}"

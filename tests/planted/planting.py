@@ -21,7 +21,7 @@ TESTS = {
     "text_tests": ("memento_time", "link_format", "text_fields", "url_texts", "timemap_reader", "timemap_writer"),
     "knowledge_tests": ("memento_sets", "harvest_lattice", "memento_index", "replica_exchange", "timegate"),
     "world_tests": ("replica_world",),
-    "service_tests": ("published_index", "harvester", "outgoing_requests", "hyper_edge", "service_settings", "service_log"),
+    "service_tests": ("published_index", "harvester", "outgoing_requests", "gate_server", "service_settings", "service_log"),
     "walk_tests": ("harvester",),
     "snapshot_tests": ("snapshot_sections", "snapshots"),
     "wish_tests": ("wish_list", "original_sets", "original_list", "wishing_gates"),

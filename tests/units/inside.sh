@@ -63,7 +63,7 @@ archive=$!
 waits "an archive" 60 curl -s -o /dev/null http://127.0.0.1:8100/
 printf '[Service]\nLimitDATA=110M\n' >$drop_ins/limit.conf
 systemctl daemon-reload
-sed -i -e "s|^originals = .*|originals = [$(printf '"http://%s.example/", ' {a..x} | sed 's/, $//')]|" -e 's/^workers = .*/workers = 2/' \
+sed -i -e "s|^originals = .*|originals = [$(printf '"http://%s.example/", ' {a..x} | sed 's/, $//')]|" -e 's/^workers = .*/workers = 2/' -e '/^walks = /d' \
     -e 's/^patience = .*/patience = 600/' $etc/settings.toml
 systemctl start maplewrench.service
 before=$(value maplewrench MainPID)

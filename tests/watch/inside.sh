@@ -41,14 +41,14 @@ restarted() {
     holds "$2"
 }
 
-# The timer and the limits of the package, in seconds in place of minutes.
+# The timer and the limits of the package, in seconds in place of minutes. All else of the command is as the package has it.
 mkdir -p /etc/systemd/system/maplewrench-watch.{service,timer}.d /etc/systemd/system/maplewrench.service.d
-cat >/etc/systemd/system/maplewrench-watch.service.d/fast.conf <<'END'
+cat >/etc/systemd/system/maplewrench-watch.service.d/fast.conf <<END
 [Unit]
 StartLimitIntervalSec=0
 [Service]
 ExecStart=
-ExecStart=/usr/lib/maplewrench/watch /etc/maplewrench/settings.toml --grace 2 --patience 2 --oldest 5 --restart
+ExecStart=$(sed -n 's/^ExecStart=//p' /lib/systemd/system/maplewrench-watch.service) --grace 2 --patience 2 --oldest 5
 END
 cat >/etc/systemd/system/maplewrench-watch.timer.d/fast.conf <<'END'
 [Timer]

@@ -1,5 +1,5 @@
 -- How the program ends if it fails: the failure that each fault is, the line on standard error, and the exit status.
-use Rattle.std.specs.Prelude.{◌≡◌, ℕ, List, ◌++◌, codes, string_bytes, String}
+use Rattle.std.specs.Prelude.{◌≡◌, ℕ, List, ◌++◌, codes, string_bytes, String, nat_lt, if◌then◌else◌}
 use Rattle.std.specs.List.{flat_map}
 use Rattle.std.specs.declared.alloc.Global.{Global}
 use Rattle.std.specs.Fmt.{decimal}
@@ -12,8 +12,13 @@ use Rattle.service_settings.specs.declared.fault.SettingsFault.{SettingsFault}
 use Rattle.service_settings.specs.declared.fault.SettingsFault.TheVariants as settings
 use Rattle.service_threads.specs.declared.faults.ServeFault.{ServeFault}
 use Rattle.service_threads.specs.declared.faults.ServeFault.TheVariants as serve
+use Rattle.question_threads.specs.declared.faults.AskFault.{AskFault}
+use Rattle.question_threads.specs.declared.faults.AskFault.TheVariants as ask
+use Rattle.question_threads.specs.declared.asking.Ended.{Ended}
+use Rattle.single_questions.specs.declared.outcomes.Outcome.{Outcome}
+use Rattle.single_questions.specs.declared.outcomes.Outcome.TheVariants.{Found, Nothing, Unknown}
 use Rattle.aggregator.specs.declared.failure.Failure.{Failure}
-use Rattle.aggregator.specs.declared.failure.Failure.TheVariants.{Usage, BadLine, BadText, BadKey, BadValue, BadOriginal}
+use Rattle.aggregator.specs.declared.failure.Failure.TheVariants.{Usage, InquiryUsage, NoOriginal, BadDatetime, BadLine, BadText, BadKey, BadValue, BadOriginal}
 use Rattle.aggregator.specs.declared.failure.Failure.TheVariants.{NoGate, Device, Unread, NoMemory}
 
 -- how a replay's fault ends the program
@@ -35,6 +40,11 @@ failure_of_serving serve.NoGate = NoGate
 failure_of_serving serve.Device = Device
 failure_of_serving serve.NoMemory = NoMemory
 
+-- how a fault of asking ends the program
+abbrev pub failure_of_asking : AskFault → Failure
+failure_of_asking ask.Device = Device
+failure_of_asking ask.NoMemory = NoMemory
+
 -- lines behind another one, each after a LF
 abbrev pub behind : List (String Global) → List ℕ
 behind lines = flat_map (λ line. codes "\n" ++ string_bytes line) lines
@@ -50,6 +60,10 @@ entry_words number = codes "originals: entry " ++ decimal number ++ codes " is n
 -- what stands on standard error, but for the LF at its end: one line, and behind it what more is told
 abbrev pub message_of : Failure → List ℕ
 message_of Usage = codes "usage: aggregator [replay | serve FILE | check FILE]"
+message_of InquiryUsage =
+    codes "usage: aggregator [timemap FILE ORIGINAL [--form link|json|cdxj] | timegate FILE ORIGINAL [YYYYMMDDhhmmss]]"
+message_of NoOriginal = codes "bad original"
+message_of BadDatetime = codes "bad datetime"
 message_of (BadLine number) = codes "bad line " ++ decimal number
 message_of BadText = codes "bad settings: text"
 message_of (BadKey key) = codes "bad settings: " ++ name_of key
@@ -64,6 +78,9 @@ message_of NoMemory = codes "no memory"
 -- 2 for wrong input, 3 for a device, a gate or memory
 abbrev pub status_of : Failure → ℕ
 status_of Usage = 2
+status_of InquiryUsage = 2
+status_of NoOriginal = 2
+status_of BadDatetime = 2
 status_of (BadLine number) = 2
 status_of BadText = 2
 status_of (BadKey key) = 2
@@ -80,3 +97,13 @@ IsUnread name (Unread file) = string_bytes file ≡ shown most_of_name name
 IsUnread name Device = Unit {0}
 IsUnread name NoMemory = Unit {0}
 IsUnread name _ = ⊥
+
+-- 0 if a memento is known, 1 if every archive has answered and none has one, 4 if none is known and an archive failed
+abbrev pub status_of_outcome : Outcome → ℕ
+status_of_outcome Found = 0
+status_of_outcome Nothing = 1
+status_of_outcome Unknown = 4
+
+-- of a list: 2 if a line holds no original, and else the status for the worst of its questions
+abbrev pub status_of_list : Ended → ℕ
+status_of_list ended = if nat_lt 0 ended.bad then 2 else status_of_outcome ended.outcome

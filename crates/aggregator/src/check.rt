@@ -1,7 +1,9 @@
-//! `check FILE`: reads settings, and says what they hold, and which lines of their file of originals hold none.
+//! `check FILE`: reads settings, and says what they hold, which lines of their file of originals hold none, and which
+//! of their file of what is withdrawn name nothing.
 use crate::failure::Failure;
 use crate::telling::write_lines;
 use aggregator_service::check_list;
+use forgetting::check_withdrawn;
 use service_settings::{
     Key, MAX_TEXT, Settings, SettingsFault, bad_original, read_settings, unknown_keys,
 };
@@ -9,6 +11,9 @@ use std::alloc::Global;
 use std::fs;
 use std::io::{self, Read, Write};
 use std::rt::Files;
+
+/// The byte order mark in UTF-8.
+const MARK: &[u8] = b"\xef\xbb\xbf";
 
 /// Reads the settings of a file, and writes how many gates, archives, originals and peers they name. If they name a
 /// file of originals, it writes which of its lines hold none. Which keys aren't looked at goes to `err`, if that is to
@@ -30,8 +35,8 @@ pub(crate) fn check<R: Files + AllocGlobal, W: Write, E: Write>(
     Ok(())
 }
 
-/// Writes how many gates, archives, originals and peers these settings name, and which lines of their file of originals
-/// hold none.
+/// Writes how many gates, archives, originals and peers these settings name, which lines of their file of originals
+/// hold none, and which of their file of what is withdrawn name nothing.
 fn say_what_they_hold<R: Files + AllocGlobal, W: Write>(
     rt: &R,
     settings: &Settings,
@@ -41,6 +46,9 @@ fn say_what_they_hold<R: Files + AllocGlobal, W: Write>(
         return Err(Failure::of_device(&error));
     }
     check_list(rt, settings, out)?;
+    if let Err(error) = check_withdrawn(rt, settings, out) {
+        return Err(Failure::of_device(&error));
+    }
     Ok(())
 }
 
@@ -50,10 +58,18 @@ pub(crate) fn text_in<R: Files + AllocGlobal>(rt: &R, file: &str) -> Result<Stri
         Ok(bytes) => bytes,
         Err(error) => return Err(Failure::of_file(rt.alloc(), &error, file)),
     };
-    match String::from_utf8(bytes) {
+    match String::from_utf8(behind_mark(bytes)) {
         Ok(text) => Ok(text),
         Err(_) => Err(Failure::BadText),
     }
+}
+
+/// The bytes behind a byte order mark, if they begin with that: editors write one, and it belongs to no line.
+fn behind_mark(mut bytes: Vec<u8>) -> Vec<u8> {
+    if bytes.starts_with(MARK) {
+        bytes.drain(..MARK.len());
+    }
+    bytes
 }
 
 /// The settings of a text.
@@ -66,7 +82,7 @@ pub(crate) fn settings_of(alloc: Global, text: &str) -> Result<Settings, Failure
 }
 
 /// The fault of a key, with what is told behind what is specified, if that is to be told.
-fn bad_key(alloc: Global, text: &str, key: Key) -> Failure {
+pub(crate) fn bad_key(alloc: Global, text: &str, key: Key) -> Failure {
     let Ok(Some(unknown)) = unknown_keys(alloc, text) else {
         return Failure::BadKey(key);
     };

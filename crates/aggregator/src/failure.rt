@@ -2,10 +2,11 @@
 ghost use Rattle.std.specs.Prelude.{◌≡◌, Some};
 ghost use Rattle.std.specs.Process.{exit_status};
 ghost use Rattle.aggregator.specs.declared.failure.Failure.TheVariants.{NoMemory};
-ghost use Rattle.aggregator.specs.Ending.{IsUnread, entry_words, failure_of, failure_of_serving, failure_of_settings};
+ghost use Rattle.aggregator.specs.Ending.{IsUnread, entry_words, failure_of, failure_of_asking, failure_of_serving, failure_of_settings};
 ghost use Rattle.aggregator.specs.Ending.{message_of, status_of};
 
 use crate::telling::Behind;
+use question_threads::AskFault;
 use replica_world::ReplayFault;
 use service_settings::{Holding, Key, SettingsFault, shown};
 use service_threads::ServeFault;
@@ -19,6 +20,10 @@ const BAD_INPUT: u8 = 2;
 /// A device failed, a gate couldn't be had, or memory was refused.
 const BAD_MACHINE: u8 = 3;
 
+/// How `timemap` and `timegate` are called.
+const INQUIRY_USAGE: &str =
+    "usage: aggregator [timemap FILE ORIGINAL [--form link|json|cdxj] | timegate FILE ORIGINAL [YYYYMMDDhhmmss]]";
+
 /// The most bytes of a file's name that are shown.
 const MOST_SHOWN: usize = 4_096;
 
@@ -26,6 +31,12 @@ const MOST_SHOWN: usize = 4_096;
 pub(crate) enum Failure {
     /// The words of the command line ask for something that doesn't exist.
     Usage,
+    /// The same of `timemap` and `timegate`.
+    InquiryUsage,
+    /// The word for an original names none.
+    NoOriginal,
+    /// The word for a datetime isn't one of fourteen digits.
+    BadDatetime,
     /// The line with this number isn't a command.
     BadLine { number: u64 },
     /// The settings aren't TOML, or are too long.
@@ -54,6 +65,9 @@ impl Failure {
     {
         match self {
             Failure::Usage
+            | Failure::InquiryUsage
+            | Failure::NoOriginal
+            | Failure::BadDatetime
             | Failure::BadLine { .. }
             | Failure::BadText
             | Failure::BadKey(_)
@@ -72,6 +86,9 @@ impl fmt::Display for Failure {
     fn fmt<W: fmt::Write>(&self, f: &mut fmt::Formatter<W>) -> fmt::Result {
         match self {
             Failure::Usage => f.write_str("usage: aggregator [replay | serve FILE | check FILE]"),
+            Failure::InquiryUsage => f.write_str(INQUIRY_USAGE),
+            Failure::NoOriginal => f.write_str("bad original"),
+            Failure::BadDatetime => f.write_str("bad datetime"),
             Failure::BadLine { number } => write!(f, "bad line {number}"),
             Failure::BadText => f.write_str("bad settings: text"),
             Failure::BadKey(key) => write!(f, "bad settings: {}", key.name()),
@@ -140,6 +157,17 @@ impl From<ServeFault> for Failure {
             ServeFault::NoGate => Failure::NoGate,
             ServeFault::Device => Failure::Device,
             ServeFault::NoMemory => Failure::NoMemory,
+        }
+    }
+}
+
+impl From<AskFault> for Failure {
+    ghost from_gives = { λ fault failure. failure ≡ failure_of_asking fault };
+
+    fn from(fault: AskFault) -> Failure {
+        match fault {
+            AskFault::Device => Failure::Device,
+            AskFault::NoMemory => Failure::NoMemory,
         }
     }
 }

@@ -6,18 +6,25 @@
 //! looked at.
 #![tactic(auto)]
 
+mod asking;
 mod check;
 mod failure;
+mod help;
 mod serve;
 mod telling;
+mod version;
 mod words;
 
+use crate::asking::ask;
 use crate::check::check;
 use crate::failure::Failure;
+use crate::help::{say_help, say_version};
 use crate::serve::serve_file;
-use crate::words::{Command, command_named};
+use crate::words::{Command, Subject, command_named, inquiry_of};
+use question_threads::Teller;
 use replica_world::{Watched, replay};
 use std::env::{self, Env};
+use std::io::IsTerminal;
 use std::process::ExitCode;
 
 /// What the words of the command line ask for.
@@ -29,6 +36,9 @@ fn command_of(rt: &(impl Env + AllocGlobal)) -> Result<Command, Failure> {
     let Some(word) = words.next() else {
         return Ok(Command::Replay);
     };
+    if let Some(subject) = Subject::named(word.as_str()) {
+        return inquiry_of(subject, words);
+    }
     let file = words.next();
     if words.next().is_some() {
         return Err(Failure::Usage);
@@ -44,17 +54,28 @@ fn replay_input(rt: &HostRuntime) -> Result<(), Failure> {
     Ok(())
 }
 
+/// How a command ends that only fails or not.
+fn ended(outcome: Result<(), Failure>) -> Result<ExitCode, Failure> {
+    outcome?;
+    Ok(ExitCode::SUCCESS)
+}
+
 fn main(rt: HostRuntime) -> ExitCode {
-    let ended = match command_of(&rt) {
-        Ok(Command::Replay) => replay_input(&rt),
-        Ok(Command::Check(file)) => {
-            check(&rt, file.as_str(), &mut rt.stdout(), &mut rt.stderr())
+    let (mut out, mut err) = (rt.stdout(), rt.stderr());
+    let status = match command_of(&rt) {
+        Ok(Command::Replay) => ended(replay_input(&rt)),
+        Ok(Command::Check(file)) => ended(check(&rt, file.as_str(), &mut out, &mut err)),
+        Ok(Command::Serve(file)) => ended(serve_file(&rt, file.as_str(), out, err)),
+        Ok(Command::Ask(inquiry)) => {
+            let teller = Teller::new(err, err.is_terminal());
+            ask(&rt, inquiry, rt.stdin(), &mut out, teller)
         }
-        Ok(Command::Serve(file)) => serve_file(&rt, file.as_str(), rt.stdout(), rt.stderr()),
+        Ok(Command::Help) => ended(say_help(&mut out)),
+        Ok(Command::Version) => ended(say_version(&mut out)),
         Err(failure) => Err(failure),
     };
-    match ended {
-        Ok(()) => ExitCode::SUCCESS,
+    match status {
+        Ok(status) => status,
         Err(failure) => {
             let _ = eprintln!(rt; "{failure}");
             failure.status()

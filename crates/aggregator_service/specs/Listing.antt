@@ -1,6 +1,7 @@
 -- What `check` writes of the file of originals.
 use Rattle.std.specs.Prelude.{◌≡◌, ℕ, ◌-◌, ◌++◌, List, [], length, take, Option, Some, None, count_by, zero, suc}
 use Rattle.std.specs.List.{flat_map}
+use Rattle.std.specs.declared.vec.Vec.{Vec}
 use Rattle.original_list.specs.Rows.{rows_of, bad_lines, is_bad, most_told}
 use Rattle.service_log.specs.Logs.{list_line}
 use Rattle.service_log.specs.declared.lines.ListMatter.TheVariants.{Bad, More, Unreadable}
@@ -27,3 +28,8 @@ list_report (Some text) = bad_report (take most_told (bad_lines 1 (rows_of text)
 abbrev pub IsReported : {P : Type 0} → Option P → List ℕ → Type 0
 IsReported None bytes = bytes ≡ []
 IsReported (Some path) bytes = (read : Option (List ℕ)) × (bytes ≡ list_report read)
+
+-- the originals that rounds look after: those of the file and of the settings, or those of the settings alone
+abbrev pub list_of : {O A : Type 0} → Option (Vec O A) → Vec O A → List O
+list_of None own = own.items
+list_of (Some all) own = all.items

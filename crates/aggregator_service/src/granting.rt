@@ -1,44 +1,36 @@
-//! The thread of the rounds at work for wishes: they go before the jobs of a round.
+//! The thread of the rounds at work for wishes. The schedule has them and the jobs of a round take turns.
+ghost use Rattle.harvester.specs.Unkept.{Comes};
+ghost use Rattle.service_ledger.specs.Leads.{IsWalked};
+
+use crate::bounds::{tell_listed, tell_room};
 use crate::making::Rounds;
+use forgetting::Forgetting;
 use harvest_lattice::Harvest;
 use harvest_schedule::Verdict;
 use harvest_workers::{Errand, Opened, WalkRules};
 use harvester::SocketRuntime;
-use memento_index::Merge;
 use memento_time::{NoMemory, Original};
 use original_list::spellings_of;
-use original_sets::{Key, OriginalSet};
 use published_index::Merger;
 use round_values::{
-    Millis, Second, answer_to, has_mementos, is_fresh, is_kept, is_left_alone, room_left,
-    second_now, wish_timing,
+    Millis, Second, WishJob, answer_to, has_mementos, is_fresh, is_kept, is_left_alone,
+    is_waited_for, second_now, wish_timing,
 };
+use service_ledger::Begins;
 use service_log::{Line, Want};
 use service_settings::Settings;
 use service_status::WishCounts;
 use std::alloc::Global;
-use std::hash::RandomState;
 use std::io::Write;
 use std::rt::Files;
-use wish_list::{Answer, Ask, Decision, MOST_WISHES};
+use wish_list::{Decision, MOST_WISHES, WishAnswer};
+use wishing_gates::wished_at;
 
-/// The set of these originals.
-fn set_of(
-    alloc: Global,
-    originals: &[Original],
-    keys: RandomState,
-) -> Result<OriginalSet, NoMemory> {
-    let mut set = OriginalSet::with_room(alloc, originals.len(), keys)?;
-    for original in originals {
-        let _ = set.insert(Key::new(original)?)?;
-    }
-    Ok(set)
-}
-
-/// For each archive, whether its harvest of an original is too young to be asked for by a wish.
+/// For each archive, whether its harvest of an original is too young to be asked for by a wish, or withdrawn.
 fn spared(
     alloc: Global,
     settings: &Settings,
+    forgetting: &Forgetting,
     merger: &Merger,
     original: &Original,
     second: Second,
@@ -50,7 +42,8 @@ fn spared(
             Some(entry) => is_fresh(timing, entry, second),
             None => false,
         };
-        spared.push(is_spared)?;
+        let is_withdrawn = forgetting.has_withdrawn(archive.name, original);
+        spared.push(is_spared || is_withdrawn)?;
     }
     Ok(spared)
 }
@@ -74,7 +67,7 @@ fn is_shown(settings: &Settings, merger: &Merger, original: &Original) -> bool {
 impl<R, P, L> Rounds<'_, R, P, L>
 where
     R: SocketRuntime + Files,
-    P: WalkRules,
+    P: WalkRules + Begins,
     L: Write + Copy,
 {
     /// Grants what readers wish for, and hands out its jobs, as far as there are hands and archives may be asked.
@@ -119,10 +112,22 @@ where
     fn take_wish(&mut self, original: &Original) -> Result<(), NoMemory> {
         let settings = self.settings();
         let second = second_now(self.rt);
-        let spared = spared(self.alloc(), settings, &*self.merger, original, second)?;
+        let alloc = self.alloc();
+        let spared = spared(
+            alloc,
+            settings,
+            &self.standing.forgetting,
+            self.ledger.merger(),
+            original,
+            second,
+        )?;
         self.standing.desk.push(original.try_clone()?, &spared)?;
         let is_spelling = self.standing.desk.take_spelling(original);
-        if settings.wishing.alike && !is_spelling && !is_shown(settings, &*self.merger, original) {
+        if settings.wishing.alike
+            && !is_spelling
+            && !self.is_withdrawn_original(original)
+            && !is_shown(settings, self.ledger.merger(), original)
+        {
             self.wish_spellings(original, second);
         }
         Ok(())
@@ -135,14 +140,14 @@ where
             return;
         };
         for spelling in spellings {
-            if is_shown(self.settings(), &*self.merger, &spelling)
+            let Ok(Some(noted)) = wished_at(self.alloc(), spelling.as_bytes()) else {
+                continue;
+            };
+            if is_shown(self.settings(), self.ledger.merger(), &spelling)
                 || !self.standing.desk.add_spelling(&spelling)
             {
                 continue;
             }
-            let Ok(noted) = spelling.try_clone() else {
-                continue;
-            };
             if self.means.book.note(noted, false, second.0) != Some(Decision::Added) {
                 let _ = self.standing.desk.take_spelling(&spelling);
             }
@@ -151,40 +156,44 @@ where
 
     /// Hands out a job of a wish, or finds that its archive can't be asked now. Returns whether there may be more.
     fn hand_wish(&mut self) -> bool {
-        if self.standing.walks() >= self.means.pool.hands() {
+        let free = self
+            .means
+            .pool
+            .hands()
+            .saturating_sub(self.standing.walks());
+        if free == 0 {
             return false;
         }
-        let Some((ask, original)) = self.standing.desk.next() else {
+        let Some(job) = self.standing.desk.next() else {
             return false;
         };
         let now = self.now();
-        if !self.standing.schedule.begin_walk(ask.archive, now.0) {
-            self.standing.desk.refuse(ask.archive, now);
+        if !self
+            .standing
+            .schedule
+            .begin_walk(job.archive, now.0, free == 1)
+        {
+            self.standing.desk.refuse(job.archive, now);
             return true;
         }
-        let _ = self.standing.desk.ask(ask);
-        self.walk_wish(ask, &original)
+        self.standing.desk.ask(&job);
+        self.walk_wish(&job)
     }
 
     /// Gives a job of a wish to a worker. Without a worker it is walked at once. Returns whether there may be more.
-    fn walk_wish(&mut self, ask: Ask, original: &Original) -> bool {
-        let errand = Errand::Wish {
-            archive: ask.archive,
-        };
-        let revision = second_now(self.rt);
-        let Some(assignment) = self
-            .terms
-            .assignment(self.alloc(), errand, original, revision)
-        else {
+    fn walk_wish(&mut self, job: &WishJob) -> bool {
+        let archive = job.archive;
+        let errand = Errand::Wish { archive };
+        let Some(assignment) = self.assignment(errand, &job.original, second_now(self.rt)) else {
             // Memory was refused, or the URL is too long.
             let now = self.now().0;
             let _ = self
                 .standing
                 .schedule
-                .end_walk(ask.archive, Verdict::Unknown, now);
+                .end_walk(archive, Verdict::Unknown, now);
             self.standing
                 .desk
-                .answer(original, ask.archive, Answer::NoHarvest);
+                .answer(&job.original, archive, WishAnswer::NoHarvest);
             return true;
         };
         match self.means.pool.give(self.rt, assignment) {
@@ -194,14 +203,14 @@ where
             }
             Err(assignment) => {
                 let report = self.terms.walk(self.rt, assignment);
-                self.take_wished(ask.archive, report.open());
+                self.take_wished(archive, report.open());
                 false
             }
         }
     }
 
-    /// Lets no wish wait for archives that aren't asked before a later time, or that couldn't be asked for one
-    /// patience.
+    /// Lets no wish wait for archives that aren't asked before a later time, but for those that named one within a
+    /// minute; nor for archives that couldn't be asked for one patience.
     fn skip_archives(&mut self) {
         let now = self.now();
         let patience = self.settings().patience.saturating_mul(1_000);
@@ -209,17 +218,35 @@ where
             if !self.standing.desk.is_refused(archive) {
                 continue;
             }
-            if is_left_alone(self.standing.schedule.mood(archive), now)
-                || self.standing.desk.is_overdue(archive, patience, now)
-            {
+            if is_left_alone(self.standing.schedule.mood(archive), now) {
+                let _ = self.waits_for(archive);
+            } else if self.standing.desk.is_overdue(archive, patience, now) {
                 self.standing.desk.skip(archive);
             }
         }
     }
 
-    /// Takes in what came of a wish's walk.
-    pub(crate) fn take_wished(&mut self, archive: usize, opened: Opened) {
-        let _ = self.note_walk(&opened);
+    /// Has wishes wait for an archive that named a time within a minute, and skips any other. Returns whether they
+    /// wait.
+    fn waits_for(&mut self, archive: usize) -> bool {
+        let now = self.now();
+        let mood = self.standing.schedule.mood(archive);
+        let since = self.standing.desk.aside_since(archive);
+        let waits = is_waited_for(mood, since, now);
+        if waits {
+            self.standing.desk.wait_for(archive, now);
+        } else {
+            self.standing.desk.skip(archive);
+        }
+        waits
+    }
+
+    /// Takes in what came of a wish's walk. If the archive was busy, and is waited for, the job comes again.
+    pub(crate) fn take_wished(&mut self, archive: usize, opened: Opened)
+        requires own { ∥ P.jobs opened.errand opened.job ∥₁ }
+        requires comes { ∥ Comes P.answers P.faults opened.job opened.begun opened.result opened.asked ∥₁ }
+    {
+        let is_busy = self.note_walk(&opened).is_some();
         let Opened {
             errand: _,
             job,
@@ -230,19 +257,46 @@ where
         let answer = answer_to(&walked);
         let is_taken = match walked {
             Ok(harvest) => self.take_wished_harvest(harvest, self.now()),
-            Err(_) => true,
+            Err(_) => {
+                self.standing.desk.count_failed();
+                true
+            }
         };
-        let answer = if is_taken { answer } else { Answer::NoHarvest };
+        if is_busy
+            && matches!(answer, WishAnswer::NoHarvest)
+            && self.walks_again(archive, &job.original)
+        {
+            return;
+        }
+        let answer = if is_taken {
+            answer
+        } else {
+            WishAnswer::NoHarvest
+        };
         self.standing.desk.answer(&job.original, archive, answer);
     }
 
-    /// Appends the harvest of a wish's walk, if it is kept. Returns whether there was memory for it.
-    fn take_wished_harvest(&mut self, harvest: Harvest, now: Millis) -> bool {
-        let is_shown = is_shown(self.settings(), &*self.merger, harvest.original());
+    /// Has the job of a busy archive come again, if wishes wait for it. Returns whether it does.
+    fn walks_again(&mut self, archive: usize, original: &Original) -> bool {
+        self.waits_for(archive) && self.standing.desk.add_again(original, archive)
+    }
+
+    /// Appends the harvest of a wish's walk, if it is kept. Returns whether it could be taken: there was memory for it,
+    /// and it isn't too far ahead of the clock.
+    fn take_wished_harvest(&mut self, harvest: Harvest, now: Millis) -> bool
+        requires { ∥ IsWalked P.jobs P.answers P.faults harvest ∥₁ }
+    {
+        if self.is_withdrawn_harvest(&harvest) || self.is_left_out(&harvest) {
+            return false;
+        }
+        let is_shown = is_shown(self.settings(), self.ledger.merger(), harvest.original());
         if !is_kept(&harvest, is_shown) {
             return true;
         }
-        let is_taken = self.merger.append(&Merge::Harvest(harvest)).is_ok();
+        if !self.has_room(&harvest) {
+            return false;
+        }
+        let is_taken = self.ledger.append_walked(harvest).is_ok();
         if is_taken {
             self.standing.desk.add_pending(now);
         } else {
@@ -275,8 +329,15 @@ where
                 return;
             };
             let is_found = ended.outcome.is_found
-                || is_shown(self.settings(), &*self.merger, &ended.original);
-            self.means.book.end(self.rt, &ended.original, is_found, ended.outcome, second.0);
+                || is_shown(self.settings(), self.ledger.merger(), &ended.original);
+            let mut outcome = ended.outcome;
+            if self.is_withdrawn_original(&ended.original) {
+                // It may be lifted soon.
+                outcome.is_whole = false;
+            }
+            self.means
+                .book
+                .end(self.rt, &ended.original, is_found, outcome, second.0);
             self.standing.desk.count(is_found);
             let over = WishCounts {
                 ended: 1,
@@ -289,21 +350,24 @@ where
     /// Tells the book how many more unknown originals may be wished for, by what is published.
     pub(crate) fn tell_room(&self) {
         let settings = self.settings();
-        if let Some(wanted) = settings.wishing.wanted {
-            let listed = self.standing.list(settings).len();
-            let entries = self.merger.published_state().len();
-            let room = room_left(settings.archives.len(), listed, wanted.get(), entries);
-            self.means.book.set_room(self.rt, room);
+        let listed = self.standing.list(settings).len();
+        let room = tell_room(
+            self.rt,
+            &self.means.book,
+            settings,
+            listed,
+            self.ledger.merger(),
+        );
+        if let (Some(room), Some(wanted)) = (room, settings.wishing.wanted) {
+            self.tell_wanted(room, wanted.get());
         }
     }
 
     /// Tells the book which originals rounds look after. Where memory is refused, those of before stay.
     pub(crate) fn tell_listed(&self) {
-        let (true, Some(keys)) = (self.means.book.is_open(), self.means.keys) else {
-            return;
-        };
-        if let Ok(listed) = set_of(self.alloc(), self.standing.list(self.settings()), keys) {
-            self.means.book.set_listed(self.rt, listed);
+        if let Some(keys) = self.means.keys {
+            let listed = self.standing.list(self.settings());
+            tell_listed(self.rt, &self.means.book, listed, keys);
         }
     }
 

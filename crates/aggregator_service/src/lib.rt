@@ -10,11 +10,15 @@
 //! - `serving` opens all, and makes one round after the other;
 //! - `making` makes a round and hands out its jobs, by what `standing` says;
 //! - `taking` takes in what workers report, `pulling` what peers give, and `tending` does what is due meanwhile;
-//! - `granting` hands out the walks of wishes, which go before the jobs of a round;
+//! - `granting` hands out the walks of wishes, which go before the jobs of a round, and `bounds` tells the book of
+//!   wishes what it may take;
 //! - `listing` reads the file of originals anew for each round, and checks it;
+//! - `dropping` has forgotten what is withdrawn, and what is known beyond what is wanted;
 //! - `watching` tells the status.
 #![tactic(auto)]
 
+mod bounds;
+mod dropping;
 mod granting;
 mod listing;
 mod making;

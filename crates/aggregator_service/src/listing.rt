@@ -1,26 +1,24 @@
 //! The originals that rounds look after: those of the settings, and those of a file, which is read anew for each round.
-ghost use Rattle.std.specs.Prelude.{◌≡◌, ℕ, List, [], Contains, OnOk};
+ghost use Rattle.std.specs.Prelude.{◌≡◌, ◌||◌, ℕ, List, [], Contains, OnOk, is_some, not};
 ghost use Rattle.std.specs.Io.KnownBytes.{Appends};
 ghost use Rattle.service_log.specs.Logs.{list_line};
-ghost use Rattle.aggregator_service.specs.Listing.{IsReported, bad_report};
+ghost use Rattle.aggregator_service.specs.Listing.{IsReported, bad_report, list_of};
 
 use crate::making::Rounds;
+use forgetting::{FileFault, read_file};
 use harvest_workers::WalkRules;
 use harvester::SocketRuntime;
 use memento_time::{NoMemory, Original};
 use original_list::{Listed, each_once, read_list};
 use round_values::shuffle;
+use service_ledger::Begins;
 use service_log::{Line, ListMatter};
 use service_settings::Settings;
 use service_threads::ServeFault;
 use std::alloc::{AllocGlobal, Global};
-use std::fs;
 use std::hash::RandomState;
-use std::io::{self, Read, Write};
+use std::io::Write;
 use std::rt::Files;
-
-/// The most bytes that a file of originals can have.
-const MAX_LIST: u64 = 268_435_456;
 
 /// The originals that rounds look after.
 #[derive(Drop)]
@@ -33,23 +31,28 @@ impl Listing {
     /// Nothing is read yet.
     pub(crate) const NONE: Listing = Listing { originals: None };
 
-    pub(crate) fn originals<'a>(&'a self, settings: &'a Settings) -> &'a [Original] {
+    pub(crate) fn originals<'a>(&'a self, settings: &'a Settings) -> &'a [Original]
+        ensures { result.now ≡ list_of self.now.originals settings.now.originals }
+    {
         match &self.originals {
             Some(originals) => originals,
             None => &settings.originals,
         }
     }
+
+    /// Whether all originals of these settings are known: none stand in a file that wasn't read yet.
+    pub(crate) fn is_whole(&self, settings: &Settings) -> bool
+        ensures { result ≡ (is_some self.now.originals || not (is_some settings.now.wishing.originals_file)) }
+    {
+        self.originals.is_some() || settings.wishing.originals_file.is_none()
+    }
 }
 
-/// The bytes of a file. `NoMemory` also where they are too many.
-fn read_file<R: Files + AllocGlobal>(rt: &R, path: &str) -> Result<Vec<u8>, ListMatter> {
-    let mut bytes = Vec::new(rt.alloc());
-    let file = fs::open(rt, path).map_err(|_| ListMatter::Unread)?;
-    match file.take(MAX_LIST + 1).read_to_end(&mut bytes) {
-        Ok(_) if bytes.len() as u64 <= MAX_LIST => Ok(bytes),
-        Ok(_) => Err(ListMatter::Unread),
-        Err(error) if error.kind() == io::ErrorKind::OutOfMemory => Err(ListMatter::NoMemory),
-        Err(_) => Err(ListMatter::Unread),
+/// What is told of a file that isn't read.
+fn matter_of(fault: FileFault) -> ListMatter {
+    match fault {
+        FileFault::Unread => ListMatter::Unread,
+        FileFault::NoMemory => ListMatter::NoMemory,
     }
 }
 
@@ -107,8 +110,8 @@ pub fn check_list<R: Files + AllocGlobal, W: Write>(
     };
     let text = match read_file(rt, path.as_str()) {
         Ok(text) => text,
-        Err(ListMatter::NoMemory) => return Err(ServeFault::NoMemory),
-        Err(_) => return say_matter(ListMatter::Unreadable, out),
+        Err(FileFault::NoMemory) => return Err(ServeFault::NoMemory),
+        Err(FileFault::Unread) => return say_matter(ListMatter::Unreadable, out),
     };
     let Ok(listed) = read_list(rt.alloc(), &text) else {
         return Err(ServeFault::NoMemory);
@@ -119,7 +122,7 @@ pub fn check_list<R: Files + AllocGlobal, W: Write>(
 impl<R, P, L> Rounds<'_, R, P, L>
 where
     R: SocketRuntime + Files,
-    P: WalkRules,
+    P: WalkRules + Begins,
     L: Write + Copy,
 {
     /// Reads the file of originals, if the settings name one, for the round with this number. Where it can't be read,
@@ -136,7 +139,10 @@ where
 
     /// Takes the originals of a file into the list of the rounds.
     fn take_list(&mut self, path: &str, keys: RandomState, number: u64) -> Result<(), ListMatter> {
-        let text = read_file(self.rt, path)?;
+        let text = match read_file(self.rt, path) {
+            Ok(text) => text,
+            Err(fault) => return Err(matter_of(fault)),
+        };
         let Ok((mut originals, listed)) = list_of(self.alloc(), self.settings(), &text, keys) else {
             return Err(ListMatter::NoMemory);
         };
@@ -145,6 +151,7 @@ where
         }
         self.standing.listing.originals = Some(originals);
         self.tell_bad(number, &listed);
+        self.tell_bad_lines(listed.bad_count as u64);
         Ok(())
     }
 

@@ -1,13 +1,18 @@
 //! The thread of the rounds at work: it makes rounds, and hands out their jobs.
-ghost use Rattle.std.specs.Prelude.{◌≡◌, ◌*◌, ◌≤◌};
+ghost use Rattle.std.specs.Prelude.{◌≡◌, ◌≤◌, IfSome, Some, slice_get};
+ghost use Rattle.std.specs.Arc.{arc_value};
+ghost use Rattle.harvest_workers.specs.declared.errands.Errand.TheVariants.{Round as OfRound};
+ghost use Rattle.round_values.specs.Revisions.{revision_of as revision_by_rule};
+ghost use Rattle.aggregator_service.specs.Listing.{list_of};
 
 use crate::standing::{Standing, tells_more};
 use crate::taking::Heard;
 use harvest_schedule::{Turn, Verdict};
 use harvest_workers::{Assignment, Errand, WalkRules};
 use harvester::SocketRuntime;
-use published_index::Merger;
-use round_values::{Log, Millis, Round, Second, Stopwatch, is_fresh, second_now};
+use memento_time::Original;
+use round_values::{Log, Millis, Round, Second, Stopwatch, is_fresh, revision_of, second_now};
+use service_ledger::{Begins, Ledger};
 use service_settings::Settings;
 use service_threads::{Means, Terms, original_of};
 use std::alloc::{AllocGlobal, Global};
@@ -24,7 +29,7 @@ const MOST_PASSED: usize = 4_096;
 
 /// What the thread of the rounds works with.
 #[derive(Drop)]
-pub(crate) struct Rounds<'a, R, P: WalkRules, L: Copy> {
+pub(crate) struct Rounds<'a, R, P: WalkRules + Begins, L: Copy> {
     pub(crate) rt: &'a R,
     pub(crate) terms: &'a Terms<P>,
     pub(crate) means: &'a Means<P>,
@@ -35,7 +40,7 @@ pub(crate) struct Rounds<'a, R, P: WalkRules, L: Copy> {
     /// Where the rounds stand.
     pub(crate) standing: Standing,
     /// What is known, and what of it is published.
-    pub(crate) merger: &'a mut Merger,
+    pub(crate) ledger: &'a mut Ledger<P>,
 }
 
 /// What handing out jobs came to.
@@ -54,13 +59,6 @@ fn is_tended_between(settings: &Settings) -> bool {
         || settings.status.is_some()
 }
 
-/// How many milliseconds to wait between two rounds.
-fn pause_of(settings: &Settings) -> u64
-    ensures { result ≡ settings.now.pause * 1000 }
-{
-    settings.pause.saturating_mul(1_000)
-}
-
 /// For how many milliseconds to wait: until this moment, and no longer than a tick.
 fn wait_until(time: Option<Millis>, now: Millis) -> u64
     ensures { (1 ≤ result) × (result ≤ 250) }
@@ -74,10 +72,12 @@ fn wait_until(time: Option<Millis>, now: Millis) -> u64
 impl<'a, R, P, L> Rounds<'a, R, P, L>
 where
     R: SocketRuntime + Files,
-    P: WalkRules,
+    P: WalkRules + Begins,
     L: Write + Copy,
 {
-    pub(crate) fn settings(&self) -> &'a Settings {
+    pub(crate) fn settings(&self) -> &'a Settings
+        ensures { result.now ≡ arc_value self.now.terms.now.settings }
+    {
         self.terms.settings()
     }
 
@@ -95,9 +95,10 @@ where
     pub(crate) fn make(&mut self, number: u64) -> Round {
         let settings = self.settings();
         self.read_list(number);
+        self.read_rule();
         let alloc = self.alloc();
         self.standing.begin(alloc, settings, number);
-        self.standing.revision = second_now(self.rt);
+        self.standing.begun = second_now(self.rt);
         self.tell_listed();
         self.tell_room();
         self.tell_progress();
@@ -107,11 +108,13 @@ where
             .notes
             .tell(self.alloc(), number, settings, tells, self.log);
         self.tell_turned_away(number);
+        self.tell_dropped(number);
         if !self.means.pullers.are_some() {
             self.pull_all();
         } else if settings.timing.pull.is_none() {
             self.pull_beside();
         }
+        self.tell_left_out(number);
         self.publish();
         self.tell_round();
         let round = self.standing.round;
@@ -140,6 +143,7 @@ where
             self.tend();
         }
         self.tell_left();
+        self.standing.end();
     }
 
     /// For how many milliseconds to wait for what comes.
@@ -154,7 +158,8 @@ where
         }
     }
 
-    /// Hands out as many jobs as there are hands. Jobs that needn't be walked are passed over.
+    /// Hands out as many jobs as there are hands, or one if wishes stand on the desk, since one of them may go next.
+    /// Jobs that needn't be walked are passed over.
     fn hand_out(&mut self) -> Handed {
         for _ in 0..MOST_PASSED {
             if self.standing.walks() >= self.means.pool.hands() {
@@ -164,12 +169,14 @@ where
             let Some(turn) = self.standing.schedule.offer(now) else {
                 return Handed::Enough;
             };
-            if self.is_known(turn) && self.standing.schedule.pass_over(turn) {
+            let is_passed = self.is_known(turn) || self.is_withdrawn(turn);
+            if is_passed && self.standing.schedule.pass_over(turn) {
                 self.standing.passed = self.standing.passed.saturating_add(1);
+                self.standing.absences.note_present(turn.archive);
             } else if self.standing.schedule.hand_out(turn, now) {
                 self.hand(turn);
-                if self.standing.out == 0 {
-                    // It was walked in this thread.
+                if self.standing.out == 0 || self.standing.desk.has_wishes() {
+                    // It was walked in this thread, or a wish may go next.
                     return Handed::More;
                 }
             }
@@ -189,33 +196,45 @@ where
         ) else {
             return false;
         };
-        match self.merger.published_entry(archive.name, original) {
+        match self.ledger.merger().published_entry(archive.name, original) {
             Some(entry) => is_fresh(settings.timing, entry, second_now(self.rt)),
             None => false,
         }
     }
 
-    /// The revision of a job that is handed out now: where what is known isn't asked for again, that of this second,
-    /// so that of two replicas the one that looked later wins.
-    fn revision(&self) -> Second {
-        if self.settings().timing.again.is_some() {
-            second_now(self.rt)
-        } else {
-            self.standing.revision
-        }
+    /// The job of an errand's archive for an original, to be handed out in this second: a round's or a wish's. `None`
+    /// if memory is refused, or if its URL is too long.
+    pub(crate) fn assignment(
+        &self,
+        errand: Errand,
+        original: &Original,
+        now: Second,
+    ) -> Option<Assignment<P>>
+        ensures errand { IfSome result (λ it. it.errand ≡ errand) }
+        ensures original { IfSome result (λ it. it.job.original ≡ original.now) }
+        ensures revision { IfSome result (λ it. it.job.revision ≡ revision_by_rule (arc_value self.now.terms.now.settings)
+            (record { round = self.now.standing.begun.0; second = now.0 })) }
+    {
+        let revision = revision_of(self.settings(), self.standing.begun, now);
+        self.terms
+            .assignment(self.alloc(), errand, original, revision)
     }
 
-    /// The job of a turn of the round, to be handed out.
-    fn assignment_of(&self, turn: Turn, revision: Second) -> Option<Assignment<P>> {
+    /// The job of a turn of the round, to be handed out in this second.
+    fn assignment_of(&self, turn: Turn, now: Second) -> Option<Assignment<P>>
+        ensures errand { IfSome result (λ it. it.errand ≡ OfRound turn) }
+        ensures original { IfSome result (λ it. slice_get (list_of self.now.standing.listing.originals
+            (arc_value self.now.terms.now.settings).originals) turn.original ≡ Some it.job.original) }
+        ensures revision { IfSome result (λ it. it.job.revision ≡ revision_by_rule (arc_value self.now.terms.now.settings)
+            (record { round = self.now.standing.begun.0; second = now.0 })) }
+    {
         let original = original_of(self.standing.list(self.settings()), turn)?;
-        self.terms
-            .assignment(self.alloc(), Errand::Round(turn), original, revision)
+        self.assignment(Errand::Round(turn), original, now)
     }
 
     /// Gives the job of this turn to a worker. Without a worker it is walked at once.
     fn hand(&mut self, turn: Turn) {
-        let revision = self.revision();
-        let Some(assignment) = self.assignment_of(turn, revision) else {
+        let Some(assignment) = self.assignment_of(turn, second_now(self.rt)) else {
             // Memory was refused, or the URL is too long.
             let now = self.now().0;
             let _ = self.standing.schedule.done(turn, Verdict::Unknown, now);
@@ -235,7 +254,8 @@ where
         self.take_opened(turn, report.open());
     }
 
-    /// Goes on with wishes for at most so many milliseconds. Returns how many have passed.
+    /// Goes on with wishes for at most so many milliseconds. Returns how many have passed. What peers gave is left to
+    /// the caller.
     pub(crate) fn serve_wishes(&mut self, most: u64) -> u64 {
         let begun = self.now();
         self.take_waiting();
@@ -246,7 +266,6 @@ where
         if heard == Heard::Gone {
             let _ = thread::sleep(self.rt, Duration::from_millis(wait));
         }
-        self.tend_peers();
         self.tend_wishes();
         self.tend_snapshot();
         self.tell_memory();
@@ -255,10 +274,11 @@ where
         self.now().since(begun).max(waited)
     }
 
-    /// Waits as long as the settings say between two rounds. Where peers are pulled and snapshots written, that goes on
-    /// meanwhile, and so do wishes.
+    /// Waits between two rounds: for the pause of the settings, or as long as absent archives sleep. Where peers are
+    /// pulled and snapshots written, that goes on meanwhile, and so do wishes.
     pub(crate) fn wait_between(&mut self) {
-        let pause = pause_of(self.settings());
+        let settings = self.settings();
+        let pause = self.standing.absences.end(settings);
         if self.means.book.is_open() {
             self.serve_between(pause);
             return;
@@ -284,6 +304,7 @@ where
                 return;
             }
             left = left.saturating_sub(self.serve_wishes(left));
+            self.tend_peers();
         }
     }
 }

@@ -1,19 +1,25 @@
 //! Serves: gates in threads of their own, and rounds in the caller's thread.
-ghost use Rattle.std.specs.Prelude.{OnOk};
+ghost use Rattle.std.specs.Prelude.{◌≡◌, ℕ, OnOk};
 ghost use Rattle.std.specs.Io.KnownBytes.{Appends};
 ghost use Rattle.std.specs.Arc.{arc_value};
 ghost use Rattle.service_threads.specs.Jobs.{Covers};
+ghost use Rattle.round_values.specs.Keeping.{Starts};
 ghost use Rattle.round_values.specs.Lines.{round_line};
 
+use crate::bounds::tell_bounds;
+use crate::dropping::begin_rule;
 use crate::making::Rounds;
 use crate::standing::Standing;
 use harvest_workers::WalkRules;
 use harvester::SocketRuntime;
 use published_index::{Gate, Merger, open};
-use round_values::{Log, Millis, Round, Stopwatch, incarnation_now, shuffle};
+use round_values::{
+    Keeping, Log, Millis, Round, Stopwatch, incarnation_now, last_taken, second_now, shuffle,
+};
+use service_ledger::{Begins, Ledger};
 use service_log::Line;
 use service_settings::Settings;
-use service_threads::{Listeners, Means, ServeFault, Terms, open_listeners};
+use service_threads::{Listeners, Means, ServeFault, Terms, forgets, open_listeners};
 use std::alloc::{AllocGlobal, Global};
 use std::hash::RandomState;
 use std::io::Write;
@@ -65,12 +71,32 @@ where
     }
     let settings = Arc::new(rt.alloc(), settings)?;
     let (mut merger, gates) = open(rt, rt.alloc(), service, settings.gates.len(), incarnation)?;
-    let served = serve_gates::<R, W, L, Brand>(rt, &settings, gates, &mut merger, &mut out, log);
-    merger.close(rt);
-    served?;
+    let keeping = take_snapshot_in(rt, &*settings, &mut merger, log);
+    let opened = Opened {
+        merger,
+        gates,
+        keeping,
+        incarnation,
+    };
+    serve_opened::<R, W, L, Brand>(rt, &settings, opened, &mut out, log)?;
     writeln!(out, "done")?;
     out.flush()?;
     Ok(())
+}
+
+/// Takes in what the snapshot has, if the settings name one.
+fn take_snapshot_in<R, L>(rt: &R, settings: &Settings, merger: &mut Merger, log: Log<L>) -> Keeping
+where
+    R: SocketRuntime + Files,
+    L: Write + Copy,
+    ensures { (last : ℕ) × Starts last merger.old merger.new }
+{
+    let mut keeping = Keeping::new(&settings.storing, Millis(0));
+    if let Some(path) = &settings.storing.snapshot {
+        let last = last_taken(settings.timing.ahead, second_now(rt));
+        let _ = keeping.take_in(rt, path.as_str(), last, merger, log);
+    }
+    keeping
 }
 
 /// Secret keys for hashes, where sets of originals are made.
@@ -78,19 +104,36 @@ fn secret_keys<R: RandomSource>(
     rt: &R,
     settings: &Settings,
 ) -> Result<Option<RandomState>, ServeFault> {
-    if settings.wishing.wanted.is_none() && settings.wishing.originals_file.is_none() {
+    let has_sets = settings.wishing.wanted.is_some() || settings.wishing.originals_file.is_some();
+    if !has_sets && !forgets(settings) {
         return Ok(None);
     }
     Ok(Some(RandomState::new(rt)?))
 }
 
-/// Opens the gates' listeners, makes the rounds, and waits for the gates to end. What rounds take memory for is made
-/// before the first gate answers.
-fn serve_gates<R, W, L, P>(
+/// What a start makes before anything is served.
+struct Opened {
+    /// It has what the snapshot has.
+    merger: Merger,
+    gates: Vec<Gate>,
+    keeping: Keeping,
+    /// That of the merger.
+    incarnation: u64,
+}
+
+/// Gates that aren't served yet, and what the rounds begin with.
+#[derive(Drop)]
+struct Begun {
+    gates: Vec<Gate>,
+    keeping: Keeping,
+    incarnation: u64,
+}
+
+/// Serves what a start made, by a ledger that begins with its merger.
+fn serve_opened<R, W, L, P>(
     rt: &R,
     settings: &Arc<Settings, Global>,
-    gates: Vec<Gate>,
-    merger: &mut Merger,
+    opened: Opened,
     out: &mut W,
     log: Log<L>,
 ) -> Result<(), ServeFault>
@@ -98,19 +141,65 @@ where
     R: SocketRuntime + Files + Threads + Sync + Send + Clone + Drop + 'static,
     W: Write,
     L: Write + Copy + Send + 'static,
-    P: WalkRules + Send + Sync + 'static,
+    P: WalkRules + Begins + Send + Sync + 'static,
+    requires covers { Covers (arc_value settings.now) P.jobs P.answers P.faults }
+    requires begun { opened.merger ≡ P.begun }
+{
+    let Opened {
+        merger,
+        gates,
+        keeping,
+        incarnation,
+    } = opened;
+    let mut ledger: Ledger<P> = Ledger::new(merger);
+    let begun = Begun {
+        gates,
+        keeping,
+        incarnation,
+    };
+    let served = serve_gates(rt, settings, begun, &mut ledger, out, log);
+    ledger.close(rt);
+    served
+}
+
+/// Opens the gates' listeners, makes the rounds, and waits for the gates to end. What rounds take memory for is made
+/// before the first gate answers.
+fn serve_gates<R, W, L, P>(
+    rt: &R,
+    settings: &Arc<Settings, Global>,
+    begun: Begun,
+    ledger: &mut Ledger<P>,
+    out: &mut W,
+    log: Log<L>,
+) -> Result<(), ServeFault>
+where
+    R: SocketRuntime + Files + Threads + Sync + Send + Clone + Drop + 'static,
+    W: Write,
+    L: Write + Copy + Send + 'static,
+    P: WalkRules + Begins + Send + Sync + 'static,
     requires { Covers (arc_value settings.now) P.jobs P.answers P.faults }
 {
+    let Begun {
+        gates,
+        keeping,
+        incarnation,
+    } = begun;
     let terms: Terms<P> = Terms::new(Arc::try_clone(settings)?);
     let keys = secret_keys(rt, terms.settings())?;
     let mut means = Means::new(rt.alloc(), terms.settings(), keys)?;
-    let mut standing = Standing::new(rt.alloc(), terms.settings(), Millis(0))?;
-    if let Some(path) = &terms.settings().storing.snapshot {
-        if standing.keeping.take_in(rt, path.as_str(), merger, log) {
-            means.readiness.set();
-            means.telling.tell_snapshot(rt, merger);
-        }
+    let mut standing = Standing::new(rt.alloc(), terms.settings(), keeping, incarnation)?;
+    begin_rule(rt, &terms, &means, &mut standing, ledger, log)?;
+    if !ledger.merger().published_state().is_empty() {
+        means.readiness.set();
+        means.telling.tell_snapshot(rt, ledger.merger());
     }
+    tell_bounds(
+        rt,
+        &means.book,
+        means.keys,
+        terms.settings(),
+        ledger.merger(),
+    );
     let watch = Stopwatch::start(rt);
     let listeners = open_listeners(rt, terms.settings(), gates, &means, log)?;
     let said = say_ports(&listeners, terms.settings(), out);
@@ -125,7 +214,7 @@ where
                 seed: incarnation_now(rt),
                 log,
                 standing,
-                merger,
+                ledger,
             };
             let made = make_all(&mut rounds, out);
             // From now on nothing changes.
@@ -172,7 +261,7 @@ where
     R: SocketRuntime + Files,
     W: Write,
     L: Write + Copy,
-    P: WalkRules,
+    P: WalkRules + Begins,
 {
     rounds.greet();
     for number in 1..=rounds.terms.settings().rounds {

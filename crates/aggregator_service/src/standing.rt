@@ -1,10 +1,12 @@
 //! Where the rounds stand.
 ghost use Rattle.std.specs.Prelude.{◌≡◌, IfSome, None};
+ghost use Rattle.aggregator_service.specs.Listing.{list_of};
 
 use crate::listing::Listing;
-use harvest_schedule::{Limits, Mood, Pace, Schedule};
+use forgetting::Forgetting;
+use harvest_schedule::{Limits, Mood, Pace, Schedule, Turn};
 use memento_time::Original;
-use round_values::{Desk, Dues, Keeping, Millis, Notes, Round, Second};
+use round_values::{Absences, Desk, Dues, Keeping, Lead, Millis, Notes, Round, Second};
 use service_log::Progress;
 use service_settings::{Archive, Settings};
 use std::alloc::{AllocError, Global};
@@ -14,16 +16,21 @@ use std::alloc::{AllocError, Global};
 pub(crate) struct Standing {
     /// Lasts over rounds, so that what an archive answered in one counts in the next.
     pub(crate) schedule: Schedule,
+    pub(crate) absences: Absences,
     pub(crate) dues: Dues,
     pub(crate) keeping: Keeping,
     /// For each peer, whether it is being pulled.
     pub(crate) pulled: Vec<bool>,
+    /// For each peer, how far its news were looked through beyond the cursor that is held.
+    pub(crate) leads: Vec<Option<Lead>>,
+    /// How many harvests weren't taken since that was told, since they are ahead of the clock.
+    pub(crate) left_out: u64,
     /// The number of the round, counted from 1.
     pub(crate) number: u64,
     pub(crate) round: Round,
     pub(crate) notes: Notes,
-    /// The revision of a round's jobs, unless each has its own.
-    pub(crate) revision: Second,
+    /// In which second the last round began; the first second of 1970 before the first round.
+    pub(crate) begun: Second,
     /// How many jobs of the round are out.
     pub(crate) out: usize,
     /// How many jobs of the round were passed over.
@@ -35,6 +42,9 @@ pub(crate) struct Standing {
     pub(crate) counted: Option<Millis>,
     /// When the memory that is held was looked at last, if the status is told of it.
     pub(crate) measured: Option<Millis>,
+    pub(crate) forgetting: Forgetting,
+    /// How many harvests of wishes weren't kept for lack of room since that was told.
+    pub(crate) dropped: u64,
 }
 
 /// Whether the settings have a key by which more is told than the specified lines.
@@ -68,7 +78,7 @@ fn pace_of(settings: &Settings, archive: &Archive) -> Pace
     }
 }
 
-/// The schedule of these settings. Its times are milliseconds.
+/// The schedule of these settings, in which no round has begun. Its times are milliseconds.
 fn schedule_of(alloc: Global, settings: &Settings) -> Result<Schedule, AllocError> {
     let mut paces = Vec::with_capacity(alloc, settings.archives.len())?;
     for archive in &settings.archives {
@@ -78,7 +88,7 @@ fn schedule_of(alloc: Global, settings: &Settings) -> Result<Schedule, AllocErro
         tolerance: settings.asking.tolerance,
         pause: settings.asking.dormant.saturating_mul(1_000),
     };
-    Schedule::new(alloc, limits, &paces, settings.originals.len())
+    Schedule::new(alloc, limits, &paces, 0)
 }
 
 /// How many jobs a round has that looks after so many originals.
@@ -95,37 +105,53 @@ fn windows_of(settings: &Settings) -> usize {
 }
 
 impl Standing {
-    /// Before the first round, at this moment.
+    /// Before the first round, with what was noted of the snapshot.
     pub(crate) fn new(
         alloc: Global,
         settings: &Settings,
-        now: Millis,
+        keeping: Keeping,
+        incarnation: u64,
     ) -> Result<Standing, AllocError> {
+        let now = Millis(0);
         let mut pulled = Vec::with_capacity(alloc, settings.peers.len())?;
+        let mut leads = Vec::with_capacity(alloc, settings.peers.len())?;
         for _ in &settings.peers {
             pulled.push(false)?;
+            leads.push(None)?;
         }
         Ok(Standing {
             schedule: schedule_of(alloc, settings)?,
+            absences: Absences::new(alloc, settings.archives.len())?,
             dues: Dues::new(settings, tells_more(settings), now),
-            keeping: Keeping::new(&settings.storing, now),
+            keeping,
             pulled,
+            leads,
+            left_out: 0,
             number: 1,
             round: Round::NONE,
             notes: Notes::new(alloc, settings),
-            revision: Second(0),
+            begun: Second(0),
             out: 0,
             passed: 0,
             desk: Desk::new(alloc, windows_of(settings))?,
             listing: Listing::NONE,
             counted: None,
             measured: None,
+            forgetting: Forgetting::new(alloc, settings, incarnation, now),
+            dropped: 0,
         })
     }
 
     /// The originals that rounds look after.
-    pub(crate) fn list<'a>(&'a self, settings: &'a Settings) -> &'a [Original] {
+    pub(crate) fn list<'a>(&'a self, settings: &'a Settings) -> &'a [Original]
+        ensures { result.now ≡ list_of self.now.listing.originals settings.now.originals }
+    {
         self.listing.originals(settings)
+    }
+
+    /// Whether something was appended that isn't published.
+    pub(crate) fn has_pending(&self) -> bool {
+        self.round.pending || self.desk.has_pending()
     }
 
     /// How many walks are out.
@@ -133,14 +159,73 @@ impl Standing {
         self.out.saturating_add(self.desk.out())
     }
 
-    /// Begins the round with this number. What was pulled since the last one counts in it.
+    /// Begins the round with this number. What was pulled since the last one counts in it. The jobs of archives that it
+    /// doesn't ask are passed over, also of those that may not be asked now, so that it doesn't wait for them.
     pub(crate) fn begin(&mut self, alloc: Global, settings: &Settings, number: u64) {
         let originals = self.list(settings).len();
         // It is refused only while a job is out, and a round ends when none is, or when no worker is left to end it.
         let _ = self.schedule.begin(originals);
+        self.absences.begin(originals);
         self.number = number;
         self.notes = Notes::new(alloc, settings);
         self.passed = 0;
+        for archive in 0..settings.archives.len() {
+            if !self.absences.is_asked(archive) {
+                self.pass_over(archive, originals);
+            }
+        }
+    }
+
+    /// Passes over all jobs of an archive that the round doesn't ask.
+    fn pass_over(&mut self, archive: usize, originals: usize) {
+        for original in 0..originals {
+            if self.schedule.pass_over(Turn { archive, original }) {
+                self.passed = self.passed.saturating_add(1);
+            }
+        }
+    }
+
+    /// Whether the peer with this number, counted from 1, is being pulled. One that there isn't counts as such.
+    pub(crate) fn is_pulled(&self, peer: u64) -> bool {
+        for (number, is_pulled) in (1..).zip(&self.pulled) {
+            if number == peer {
+                return *is_pulled;
+            }
+        }
+        true
+    }
+
+    /// Notes whether the peer with this number is being pulled.
+    pub(crate) fn set_pulled(&mut self, peer: u64, is_pulled: bool) {
+        for (number, its) in (1..).zip(&mut self.pulled) {
+            if number == peer {
+                *its = is_pulled;
+            }
+        }
+    }
+
+    /// The lead of the peer with this number, counted from 1.
+    pub(crate) fn lead(&self, peer: u64) -> Option<Lead> {
+        let place = usize::try_from(peer).ok()?.checked_sub(1)?;
+        match self.leads.get(place) {
+            Some(lead) => *lead,
+            None => None,
+        }
+    }
+
+    /// Sets the lead of the peer with this number.
+    pub(crate) fn set_lead(&mut self, peer: u64, lead: Option<Lead>) {
+        for (number, its) in (1..).zip(&mut self.leads) {
+            if number == peer {
+                *its = lead;
+            }
+        }
+    }
+
+    /// Ends a round: no archive has a job left, so that no wish waits for one before the next round begins.
+    pub(crate) fn end(&mut self) {
+        // As in `begin`.
+        let _ = self.schedule.begin(0);
     }
 
     pub(crate) fn jobs(&self, settings: &Settings) -> u64 {

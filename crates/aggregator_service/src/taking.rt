@@ -1,17 +1,26 @@
 //! What workers report is taken in.
+ghost use Rattle.harvester.specs.Unkept.{Comes};
+ghost use Rattle.service_ledger.specs.Leads.{IsWalked};
+
 use crate::making::Rounds;
 use crate::standing::is_asleep;
 use harvest_lattice::Harvest;
-use harvest_schedule::Turn;
+use harvest_schedule::{Mood, Turn, Verdict};
 use harvest_workers::{Errand, Opened, WalkReport, WalkRules, verdict_of};
-use harvester::{SocketRuntime, WalkFault};
+use harvester::SocketRuntime;
 use published_index::Merger;
-use round_values::{Second, has_mementos, walk_end};
-use service_log::{Dormancy, Line, Matter, name_text};
+use round_values::{
+    Millis, Second, has_mementos, is_ahead, is_left_alone, last_taken, second_now, walk_end,
+};
+use service_ledger::Begins;
+use service_log::{Dormancy, JobsLeft, Line, Matter, Respite, Want, name_text};
 use service_settings::Archive;
 use service_threads::News;
 use std::io::Write;
 use std::rt::Files;
+
+/// From how many seconds on the log is told that an archive asked to be left alone.
+const LONG: u64 = 60;
 
 /// What came while the thread of the rounds waited.
 #[derive(Clone, Copy, Debug, PartialEq, Eq)]
@@ -26,7 +35,7 @@ pub(crate) enum Heard {
 impl<R, P, L> Rounds<'_, R, P, L>
 where
     R: SocketRuntime + Files,
-    P: WalkRules,
+    P: WalkRules + Begins,
     L: Write + Copy,
 {
     /// Waits so many milliseconds for what comes, and takes it in.
@@ -81,22 +90,32 @@ where
     pub(crate) fn note_walk(&mut self, opened: &Opened) -> Option<u64> {
         let archive = opened.errand.archive();
         let asked = self.heeded(opened.asked);
-        let was_asleep = is_asleep(self.standing.schedule.mood(archive));
+        let before = self.standing.schedule.mood(archive);
         let now = self.now().0;
-        let verdict = verdict_of(&opened.result, asked, now);
+        let verdict = verdict_of(opened.errand, &opened.result, asked, now);
         // Both refuse only a walk that isn't out, and this one was.
         let _ = match opened.errand {
-            Errand::Round(turn) => self.standing.schedule.done(turn, verdict, now),
+            Errand::Round(turn) => {
+                // An archive that refuses what it is asked for is there as well.
+                if matches!(verdict, Verdict::Answered | Verdict::There) {
+                    self.standing.absences.note_present(archive);
+                }
+                self.standing.schedule.done(turn, verdict, now)
+            }
             Errand::Wish { archive } => self.standing.schedule.end_walk(archive, verdict, now),
         };
         let end = walk_end(&opened.result, asked.is_some());
         self.tell_walk(archive, end, Second(opened.begun));
-        self.tell_mood(archive, was_asleep);
+        self.tell_mood(archive, is_asleep(before));
+        self.tell_aside(archive, before, Millis(now));
         asked
     }
 
     /// Takes in what came of a job of the round.
-    pub(crate) fn take_opened(&mut self, turn: Turn, opened: Opened) {
+    pub(crate) fn take_opened(&mut self, turn: Turn, opened: Opened)
+        requires own { ∥ P.jobs opened.errand opened.job ∥₁ }
+        requires comes { ∥ Comes P.answers P.faults opened.job opened.begun opened.result opened.asked ∥₁ }
+    {
         if self.note_walk(&opened).is_none() {
             self.standing.round.add_job();
         }
@@ -108,19 +127,53 @@ where
             asked: _,
         } = opened;
         self.standing.notes.add(turn.archive, &job.first, &walked);
-        self.take_walked(turn, walked);
+        if let Ok(harvest) = walked {
+            self.take_walked(turn, harvest);
+        }
     }
 
-    /// Appends the harvest of a walk, if it gave one.
-    fn take_walked(&mut self, turn: Turn, walked: Result<Harvest, WalkFault>) {
-        let Ok(harvest) = walked else {
+    /// Appends the harvest of a walk.
+    fn take_walked(&mut self, turn: Turn, harvest: Harvest)
+        requires { ∥ IsWalked P.jobs P.answers P.faults harvest ∥₁ }
+    {
+        if self.is_withdrawn_harvest(&harvest) || self.is_left_out(&harvest) {
             return;
-        };
-        if is_emptied(&*self.merger, &harvest) {
+        }
+        if is_emptied(self.ledger.merger(), &harvest) {
             self.standing.notes.add_emptied(turn.archive);
         }
-        if !self.standing.round.take_harvest(self.merger, harvest) {
-            self.standing.notes.add_unkept();
+        match self.ledger.append_walked(harvest) {
+            Ok(()) => self.standing.round.add_harvest(),
+            Err(_) => self.standing.notes.add_unkept(),
+        }
+    }
+
+    /// Whether a harvest isn't taken, since it is too far ahead of the clock, which was set back since. It is counted.
+    pub(crate) fn is_left_out(&mut self, harvest: &Harvest) -> bool {
+        let last = self.last_taken();
+        if !is_ahead(harvest.revision(), last) {
+            return false;
+        }
+        self.standing.left_out = self.standing.left_out.saturating_add(1);
+        true
+    }
+
+    /// The last second whose harvests are taken now.
+    pub(crate) fn last_taken(&self) -> Second {
+        last_taken(self.settings().timing.ahead, second_now(self.rt))
+    }
+
+    /// Tells the log how many harvests weren't taken since the last round, if there were some.
+    pub(crate) fn tell_left_out(&mut self, round: u64) {
+        let count = self.standing.left_out;
+        if count > 0 {
+            self.standing.left_out = 0;
+            let line = Line::Wanting {
+                round,
+                count,
+                want: Want::Clock,
+            };
+            self.log.tell(self.alloc(), line);
         }
     }
 
@@ -148,6 +201,29 @@ where
             Matter::Awake(left)
         };
         self.tell_archive(self.standing.number, archive, matter);
+    }
+
+    /// Tells the log, once each time, that an archive asked to be left alone for long.
+    fn tell_aside(&self, place: usize, before: Option<Mood>, now: Millis) {
+        let (Some(Mood::Aside { until, .. }), Some(archive)) = (
+            self.standing.schedule.mood(place),
+            self.settings().archives.get(place),
+        ) else {
+            return;
+        };
+        let seconds = Millis(until).since(now).div_ceil(1_000);
+        // Walks that were out when it was set aside tell nothing new.
+        if seconds >= LONG && !is_left_alone(before, now) {
+            let left = self.standing.schedule.left(place) as u64;
+            self.tell_archive(
+                self.standing.number,
+                archive,
+                Matter::Aside(Respite {
+                    seconds,
+                    left: JobsLeft(left),
+                }),
+            );
+        }
     }
 
     fn tell_archive(&self, round: u64, archive: &Archive, matter: Matter<'_>) {

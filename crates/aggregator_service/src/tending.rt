@@ -2,21 +2,24 @@
 use crate::making::Rounds;
 use harvest_workers::WalkRules;
 use harvester::SocketRuntime;
-use round_values::Round;
+use published_index::Merger;
+use round_values::PublishEnd;
+use service_ledger::Begins;
 use service_log::Line;
 use service_settings::Settings;
 use std::io::Write;
 use std::rt::Files;
 
-/// Whether something was learnt in a round, or there is nobody to learn from.
-fn has_learnt(settings: &Settings, round: Round, jobs: u64) -> bool {
-    round.harvests > 0 || round.pulls > 0 || jobs == 0 && settings.peers.is_empty()
+/// Whether something is published, so many peers were heard in the round, or there is nobody to learn from.
+fn has_learnt(settings: &Settings, merger: &Merger, pulls: u64, jobs: u64) -> bool {
+    let is_known = !merger.published_state().is_empty();
+    is_known || pulls > 0 || jobs == 0 && settings.peers.is_empty()
 }
 
 impl<R, P, L> Rounds<'_, R, P, L>
 where
     R: SocketRuntime + Files,
-    P: WalkRules,
+    P: WalkRules + Begins,
     L: Write + Copy,
 {
     /// Does what is due: takes in what peers gave, pulls, publishes, and tells the log how far the round is.
@@ -55,19 +58,21 @@ where
             self.standing.dues.publish.done(now);
             self.publish();
         }
+        self.tend_forgetting();
     }
 
     /// Publishes what is pending, and keeps it where that is due. The gates are ready once something is shown, or
     /// nobody can be learnt from.
     pub(crate) fn publish(&mut self) {
         let is_appended = self.standing.round.pending || self.standing.desk.has_pending();
-        self.standing
-            .round
-            .publish(self.rt, self.standing.number, self.merger, self.log);
+        let number = self.standing.number;
+        self.ledger
+            .publish(self.rt, &mut self.standing.round, number, self.log);
         let is_published = self.standing.round.published;
         let settings = self.settings();
         let jobs = self.standing.jobs(settings);
-        if is_published && has_learnt(settings, self.standing.round, jobs) {
+        let pulls = self.standing.round.pulls;
+        if is_published && has_learnt(settings, self.ledger.merger(), pulls, jobs) {
             self.means.readiness.set();
             self.means.telling.tell_shown(self.rt);
         }
@@ -75,9 +80,16 @@ where
         let now = self.now();
         self.standing.desk.note_publish(is_published, now);
         self.tell_room();
-        self.standing
-            .keeping
-            .note_publish(is_appended, is_published);
+        let end = PublishEnd {
+            is_appended,
+            is_published,
+        };
+        self.standing.keeping.note_publish(end);
+        if is_published {
+            self.standing.forgetting.note_publish();
+        }
+        self.tell_behind();
+        self.tend_forgetting();
         self.tend_snapshot();
     }
 
@@ -97,9 +109,10 @@ where
         if self.standing.keeping.is_behind() {
             self.standing
                 .keeping
-                .keep(self.rt, path.as_str(), &*self.merger, self.log);
+                .keep(self.rt, path.as_str(), self.ledger.merger(), self.log);
             let now = self.now();
             self.standing.keeping.tried(now);
+            self.tell_kept();
         }
     }
 }

@@ -4,27 +4,42 @@ use harvest_schedule::Mood;
 use harvest_workers::WalkRules;
 use harvester::SocketRuntime;
 use published_index::Merger;
-use round_values::{Millis, Second, second_now};
-use service_status::{PullEnd, RoundStatus, WalkEnd, resident_bytes};
-use service_threads::known_in;
+use round_values::{Millis, Second, known_in, second_now};
+use service_ledger::Begins;
+use service_status::{
+    ListStatus, PullEnd, RoomStatus, RoundStatus, WalkEnd, WishCounts, resident_bytes,
+};
 use std::io::Write;
 use std::rt::Files;
 
 /// How many milliseconds lie at least between two counts of all mementos within a round.
 const COUNT: u64 = 60_000;
 
-/// How many milliseconds lie at least between two looks at the memory that is held.
+/// How many milliseconds lie at least between two looks at the memory that is held, and at late wishes.
 const MEASURE: u64 = 1_000;
+
+/// The second in which this moment comes, if it is now that moment and that second.
+fn second_of(until: u64, now: Millis, second: Second) -> Second {
+    let left = Millis(until).since(now).div_ceil(1_000);
+    Second(second.0.saturating_add(left))
+}
 
 /// In which second an archive of this mood is asked again, if it is now this moment and this second; the first second
 /// of 1970 if it isn't dormant, and `None` if one walk finds out whether it is.
 fn dormant_until(mood: Option<Mood>, now: Millis, second: Second) -> Option<Second> {
     match mood {
-        Some(Mood::Dormant { until, .. }) => {
-            let left = Millis(until).since(now).div_ceil(1_000);
-            Some(Second(second.0.saturating_add(left)))
-        }
+        Some(Mood::Dormant { until, .. }) => Some(second_of(until, now, second)),
         Some(Mood::Probed) => None,
+        _ => Some(Second(0)),
+    }
+}
+
+/// The same of an archive that asked to be left alone; the first second of 1970 if it didn't, and `None` if one walk
+/// finds out whether it is still busy.
+fn aside_until(mood: Option<Mood>, now: Millis, second: Second) -> Option<Second> {
+    match mood {
+        Some(Mood::Aside { until, .. }) => Some(second_of(until, now, second)),
+        Some(Mood::Tried { .. }) => None,
         _ => Some(Second(0)),
     }
 }
@@ -32,7 +47,7 @@ fn dormant_until(mood: Option<Mood>, now: Millis, second: Second) -> Option<Seco
 impl<R, P, L> Rounds<'_, R, P, L>
 where
     R: SocketRuntime + Files,
-    P: WalkRules,
+    P: WalkRules + Begins,
     L: Write + Copy,
 {
     /// Tells the status of a walk of the archive at this place, which began in this second.
@@ -43,8 +58,12 @@ where
         }
         let second = second_now(self.rt);
         board.add_walk(self.rt, place, end, second.since(begun));
-        if let Some(until) = dormant_until(self.standing.schedule.mood(place), self.now(), second) {
+        let (mood, now) = (self.standing.schedule.mood(place), self.now());
+        if let Some(until) = dormant_until(mood, now, second) {
             board.set_dormant(self.rt, place, until.0);
+        }
+        if let Some(until) = aside_until(mood, now, second) {
+            board.set_aside(self.rt, place, until.0);
         }
     }
 
@@ -71,7 +90,7 @@ where
         board.set_round(self.rt, round);
     }
 
-    /// Tells the status each second how much memory is held.
+    /// Tells the status each second how much memory is held, and how many wishes came too late.
     pub(crate) fn tell_memory(&mut self) {
         let board = self.means.telling.board();
         if !board.is_open() {
@@ -85,7 +104,49 @@ where
         if is_due {
             self.standing.measured = Some(now);
             board.set_resident(self.rt, resident_bytes(self.rt));
+            let late = WishCounts {
+                late: self.means.book.late(self.rt),
+                ..WishCounts::NONE
+            };
+            board.add_wishes(self.rt, late);
         }
+    }
+
+    /// Tells the status whether a snapshot was written that was tried just now.
+    pub(crate) fn tell_kept(&self) {
+        let board = self.means.telling.board();
+        if !board.is_open() {
+            return;
+        }
+        if self.standing.keeping.is_behind() {
+            board.add_unwritten(self.rt);
+        } else {
+            board.add_snapshot(self.rt, second_now(self.rt).0);
+        }
+    }
+
+    /// Tells the status whether something is published that the last snapshot lacks.
+    pub(crate) fn tell_behind(&self) {
+        let is_behind = self.standing.keeping.is_behind();
+        self.means.telling.board().set_behind(self.rt, is_behind);
+    }
+
+    /// Tells the status how many of the wanted originals are known, if so many more may be wished for.
+    pub(crate) fn tell_wanted(&self, room: usize, wanted: usize) {
+        let room = RoomStatus {
+            used: wanted.saturating_sub(room) as u64,
+            most: wanted as u64,
+        };
+        self.means.telling.board().set_room(self.rt, room);
+    }
+
+    /// Tells the status that the file of originals was read, and how many of its lines hold none.
+    pub(crate) fn tell_bad_lines(&self, bad: u64) {
+        let last = second_now(self.rt).0;
+        self.means
+            .telling
+            .board()
+            .set_list(self.rt, ListStatus { bad, last });
     }
 
     /// Tells the status what a publish came to. What is known is counted once a minute.
@@ -110,8 +171,11 @@ where
 
     /// Tells the status how much is published.
     fn count_known(&mut self) {
-        let known = known_in(self.merger.published_state());
+        let known = known_in(self.ledger.merger().published_state(), second_now(self.rt));
         self.means.telling.board().set_known(self.rt, known);
+        if let Some(mementos) = self.standing.forgetting.mementos() {
+            self.means.telling.board().set_unlisted(self.rt, mementos);
+        }
         let now = self.now();
         self.standing.counted = Some(now);
     }

@@ -9,8 +9,9 @@ use Rattle.timemap_formats.specs.declared.forms.Form.{Form}
 use Rattle.timemap_formats.specs.declared.forms.Form.TheVariants.{Json, Cdxj}
 use Rattle.timemap_formats.specs.declared.listing.Listing.{Listing}
 use Rattle.timemap_formats.specs.Forms.{front_of, media_type, listing_text}
-use Rattle.timemap_formats.specs.Listing.{behind, Lists}
-use Rattle.format_gates.specs.declared.gates.Forms.{Forms}
+use Rattle.timemap_formats.specs.Listing.{Lists}
+use Rattle.text_fields.specs.Parts.{behind}
+use Rattle.timemap_formats.specs.declared.forms.Forms.{Forms}
 
 -- the form, if it is answered, and what a target names that asks for a TimeMap or a page in it
 abbrev pub asked_in : Form → Bool → List ℕ → Option (Form × List ℕ)

@@ -1,24 +1,18 @@
 //! Gates that also answer in other forms than link-format.
-ghost use Rattle.std.specs.Prelude.{◌≡◌, IfOk, option_map, Err};
+ghost use Rattle.std.specs.Prelude.{◌≡◌, IfOk, IfSome, option_map, Err};
 ghost use Rattle.timegate.specs.declared.reply.Reply.{Reply as Answered};
 ghost use Rattle.timegate.specs.Route.{is_head};
-ghost use Rattle.timemap_formats.specs.Listing.{behind};
+ghost use Rattle.text_fields.specs.Parts.{behind};
 ghost use Rattle.format_gates.specs.Converted.{asked_in, form_at, as_link, form_reply, unread_reply, listing_reply};
 ghost use Rattle.format_gates.specs.Converted.{IsConverted, RepliesBy};
 
-use hyper_edge::Answers;
+use gate_server::Answers;
 use memento_time::{Items, NoMemory, Octets};
 use published_index::GateFault;
 use std::alloc::Global;
+use text_fields::behind;
 use timegate::{Header, Reply, Request};
-use timemap_formats::{Form, Listing, read_listing, write_listing};
-
-/// In which forms beside link-format a gate answers.
-#[derive(Clone, Copy, Debug, PartialEq, Eq)]
-pub struct Forms {
-    pub json: bool,
-    pub cdxj: bool,
-}
+use timemap_formats::{Form, Forms, Listing, read_listing, write_listing};
 
 /// A gate that also answers in these forms, by what the gate inside says.
 #[derive(Drop)]
@@ -26,13 +20,6 @@ pub struct FormGate<G> {
     alloc: Global,
     gate: G,
     forms: Forms,
-}
-
-/// What follows the front, if the target begins with it.
-fn behind<'a>(front: &[u8], target: &'a [u8]) -> Option<&'a [u8]>
-    ensures { option_map (λ rest. rest.now) result ≡ behind front.now target.now }
-{
-    target.strip_prefix(front)
 }
 
 /// The form and what the target names, if the form is answered and the target asks in it.
@@ -70,24 +57,15 @@ fn as_link(alloc: Global, rest: &[u8], request: &Request) -> Result<Request, NoM
     })
 }
 
-fn is_head(request: &Request) -> bool
-    ensures { result ≡ is_head request.now }
-{
-    request.method.as_slice() == b"HEAD".as_slice()
-}
-
-fn octets(alloc: Global, text: &[u8]) -> Result<Octets, NoMemory>
-    ensures { IfOk result (λ octets. octets ≡ text.now) }
-{
-    Ok(Octets::of(Vec::from_slice(alloc, text)?))
-}
-
 /// A text in the form.
 fn form_reply(alloc: Global, form: Form, text: Vec<u8>) -> Result<Reply, NoMemory>
     ensures { IfOk result (λ reply. reply ≡ form_reply form text.items) }
 {
     let mut headers = Vec::new(alloc);
-    headers.push((Header::ContentType, octets(alloc, form.media_type())?))?;
+    headers.push((
+        Header::ContentType,
+        Octets::from_slice(alloc, form.media_type())?,
+    ))?;
     Ok(Reply {
         status: 200,
         headers: Items::of(headers),
@@ -100,11 +78,14 @@ fn unread_reply(alloc: Global) -> Result<Reply, NoMemory>
     ensures { IfOk result (λ reply. reply ≡ unread_reply) }
 {
     let mut headers = Vec::new(alloc);
-    headers.push((Header::ContentType, octets(alloc, b"text/plain")?))?;
+    headers.push((
+        Header::ContentType,
+        Octets::from_slice(alloc, b"text/plain")?,
+    ))?;
     Ok(Reply {
         status: 500,
         headers: Items::of(headers),
-        body: octets(alloc, b"not convertible\n")?,
+        body: Octets::from_slice(alloc, b"not convertible\n")?,
     })
 }
 
@@ -125,11 +106,27 @@ fn converted(alloc: Global, form: Form, request: &Request, inner: Reply) -> Resu
     if inner.status != 200 {
         return Ok(inner);
     }
-    if is_head(request) {
+    if request.is_head() {
         return form_reply(alloc, form, Vec::new(alloc));
     }
     let listing = read_listing(alloc, inner.body.as_slice())?;
     listing_reply(alloc, form, &listing)
+}
+
+/// As `converted`, with a gate's fault.
+fn converted_or_fault(
+    alloc: Global,
+    form: Form,
+    request: &Request,
+    inner: Reply,
+) -> Result<Reply, GateFault>
+    ensures made { IfOk result (IsConverted form request.now inner) }
+    ensures open { result ≡ Err GateFault.Closed → ⊥ }
+{
+    match converted(alloc, form, request, inner) {
+        Ok(reply) => Ok(reply),
+        Err(_) => Err(GateFault::NoMemory),
+    }
 }
 
 impl<G: Answers> FormGate<G> {
@@ -150,10 +147,30 @@ impl<G: Answers> FormGate<G> {
             return Err(GateFault::NoMemory);
         };
         let inner = self.gate.answer(&asked)?;
-        match converted(self.alloc, form, request, inner) {
-            Ok(reply) => Ok(reply),
-            Err(_) => Err(GateFault::NoMemory),
-        }
+        converted_or_fault(self.alloc, form, request, inner)
+    }
+
+    /// The reply to a request for what `rest` names, in the form, or `None` if the gate inside would rather answer
+    /// later.
+    fn answer_in_or_hold(
+        &mut self,
+        form: Form,
+        rest: &[u8],
+        request: &Request,
+        is_held: bool,
+    ) -> Result<Option<Reply>, GateFault>
+        ensures made { IfOk result (λ it. IfSome it (λ made. (inner : Answered)
+            × G.replies (as_link rest.now request.now) inner × IsConverted form request.now inner made)) }
+        ensures closed { result ≡ Err GateFault.Closed → G.may_close }
+    {
+        let Ok(asked) = as_link(self.alloc, rest, request) else {
+            return Err(GateFault::NoMemory);
+        };
+        let Some(inner) = self.gate.answer_or_hold(&asked, is_held)? else {
+            return Ok(None);
+        };
+        let reply = converted_or_fault(self.alloc, form, request, inner)?;
+        Ok(Some(reply))
     }
 
     /// The reply to a request: in a form, what is made of the TimeMap in link-format; and else that of the gate inside.
@@ -164,6 +181,22 @@ impl<G: Answers> FormGate<G> {
         match form_at(self.forms, request.target.as_slice()) {
             Some((form, rest)) => self.answer_in(form, rest, request),
             None => self.gate.answer(request),
+        }
+    }
+
+    /// As `reply`, or `None` if the gate inside would rather answer later.
+    pub fn reply_or_hold(
+        &mut self,
+        request: &Request,
+        is_held: bool,
+    ) -> Result<Option<Reply>, GateFault>
+        ensures allowed { IfOk result
+            (λ it. IfSome it (RepliesBy G.replies (form_at self.old.forms request.now.target) request.now)) }
+        ensures closed { result ≡ Err GateFault.Closed → G.may_close }
+    {
+        match form_at(self.forms, request.target.as_slice()) {
+            Some((form, rest)) => self.answer_in_or_hold(form, rest, request, is_held),
+            None => self.gate.answer_or_hold(request, is_held),
         }
     }
 }
@@ -177,5 +210,13 @@ impl<G: Answers> Answers for FormGate<G> {
 
     fn answer(&mut self, request: &Request) -> Result<Reply, GateFault> {
         self.reply(request)
+    }
+
+    fn answer_or_hold(
+        &mut self,
+        request: &Request,
+        is_held: bool,
+    ) -> Result<Option<Reply>, GateFault> {
+        self.reply_or_hold(request, is_held)
     }
 }

@@ -6,4 +6,5 @@
 
 mod gates;
 
-pub use gates::{FormGate, Forms};
+pub use gates::FormGate;
+pub use timemap_formats::Forms;

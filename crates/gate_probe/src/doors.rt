@@ -2,8 +2,8 @@
 //! serves two connections at once, and one that may be refused memory.
 use anyhow::{Result, bail};
 use crossbeam_channel::{Receiver, Sender, bounded};
+use gate_server::{Answers, Bound, EdgeFault, GateService, bind, serve_gate, serve_together};
 use harvester::SocketRuntime;
-use hyper_edge::{Answers, Bound, EdgeFault, GateService, bind, serve_gate, serve_together};
 use memento_time::{Items, Octets};
 use published_index::GateFault;
 use std::alloc::{AllocGlobal, Global};

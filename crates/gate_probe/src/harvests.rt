@@ -55,15 +55,11 @@ pub(crate) fn many(alloc: Global, number: u32, count: u32, revision: u64) -> Res
     Ok(Merge::Harvest(Harvest::new(archive, &original, revision, mementos)?))
 }
 
-fn octets(alloc: Global, text: &[u8]) -> Result<Octets> {
-    Ok(Octets::of(Vec::from_slice(alloc, text)?))
-}
-
 /// GET of this target, without a datetime.
 pub(crate) fn request(alloc: Global, target: &[u8]) -> Result<Request> {
     Ok(Request {
-        method: octets(alloc, b"GET")?,
-        target: octets(alloc, target)?,
+        method: Octets::from_slice(alloc, b"GET")?,
+        target: Octets::from_slice(alloc, target)?,
         asked: Items::of(Vec::new(alloc)),
     })
 }
@@ -71,10 +67,10 @@ pub(crate) fn request(alloc: Global, target: &[u8]) -> Result<Request> {
 /// GET of the TimeGate of the original of this number, for a datetime in the middle of its mementos.
 pub(crate) fn question(alloc: Global, number: u32) -> Result<Request> {
     let target = format!(in alloc; "/timegate/http://a.example/{number}")?;
-    let asked = octets(alloc, b"Thu, 15 Mar 2001 12:00:00 GMT")?;
+    let asked = Octets::from_slice(alloc, b"Thu, 15 Mar 2001 12:00:00 GMT")?;
     Ok(Request {
-        method: octets(alloc, b"GET")?,
-        target: octets(alloc, target.as_bytes())?,
+        method: Octets::from_slice(alloc, b"GET")?,
+        target: Octets::from_slice(alloc, target.as_bytes())?,
         asked: Items::of(vec![in alloc; asked]?),
     })
 }

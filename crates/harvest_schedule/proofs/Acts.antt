@@ -173,6 +173,6 @@ walks_by limits (Ended now original verdict) s can =
     let l = length_without original s.out can in
     record { pace = refl; balance = omega (arith, l); few = λ h. omega (arith, l, h) }
 walks_by limits (WalkBegun now) s can =
-    let f = can.few in record { pace = refl; balance = omega arith; few = λ h. omega (arith, f) }
+    let f = can.may.few in record { pace = refl; balance = omega arith; few = λ h. omega (arith, f) }
 walks_by limits (WalkEnded now verdict) s can = record { pace = refl; balance = omega (arith, can); few = λ h. omega (arith, h) }
 walks_by limits (Begun originals) s can = record { pace = refl; balance = omega arith; few = λ h. h }

@@ -7,3 +7,5 @@ mod Calls
 pub mod Least
 mod Ready
 mod Left
+mod Row
+mod Share

@@ -8,12 +8,12 @@ use Rattle.harvest_schedule.specs.declared.moods.Pace.{Pace}
 use Rattle.harvest_schedule.specs.declared.moods.Mood.{Mood}
 use Rattle.harvest_schedule.specs.declared.moods.Mood.TheVariants.{Awake, Aside, Tried, Dormant, Probed}
 use Rattle.harvest_schedule.specs.declared.moods.Verdict.{Verdict}
-use Rattle.harvest_schedule.specs.declared.moods.Verdict.TheVariants.{Answered, Failed, Unknown, Busy}
+use Rattle.harvest_schedule.specs.declared.moods.Verdict.TheVariants.{Answered, There, Failed, Unknown, Busy, Later}
 use Rattle.harvest_schedule.specs.Moods as moods
 use Rattle.harvest_schedule.specs.Standing.{Standing}
 use Rattle.harvest_schedule.specs.Lanes.{MayWalk, after_advance}
 use Rattle.harvest_schedule.specs.Steps.{Act, Begun, Can, Ended, Handed, Passed, WalkBegun, WalkEnded, after_act}
-use Rattle.harvest_schedule.specs.Runs.{AllHeeded, AllPaced, AllTried, AllWait, AreLeft, AreNoEnds, AreQuiet, IsAsked, IsBusy, IsLeft, IsMet, IsNoEnd, IsQuiet, Leads, WaitsUntil}
+use Rattle.harvest_schedule.specs.Runs.{AllHeeded, AllPaced, AllTried, AllWait, AreLeft, AreNoEnds, AreQuiet, IsAsked, IsBusy, IsLeft, IsMet, IsNoAnswer, IsNoEnd, IsQuiet, Leads, Names, WaitsUntil}
 use Rattle.harvest_schedule.proofs.Acts.{Advances, advances}
 
 -- ---- the pace
@@ -85,7 +85,7 @@ asks : (now : ℕ) (act : Act) (s : Standing) → IsAsked now act → Can act s 
 asks now (Handed before original) s asked can = asks_at now before s asked can.0.may
 asks now (Passed original) s asked can = absurd asked
 asks now (Ended before original verdict) s asked can = absurd asked
-asks now (WalkBegun before) s asked can = asks_at now before s asked can
+asks now (WalkBegun before) s asked can = asks_at now before s asked can.may
 asks now (WalkEnded before verdict) s asked can = absurd asked
 asks now (Begun originals) s asked can = absurd asked
 
@@ -99,33 +99,23 @@ all_paced limits met asking acts s t before now some is_met leads asked can =
 
 -- ---- moods
 
-waits_quiet : (limits : Limits) (verdict : Verdict) (now until : ℕ) (mood : Mood) → (verdict ≡ Answered → ⊥) → WaitsUntil until mood
+waits_quiet : (limits : Limits) (verdict : Verdict) (now until : ℕ) (mood : Mood) → IsNoAnswer verdict → WaitsUntil until mood
     → WaitsUntil until (moods.mood_after limits verdict now mood)
-waits_quiet limits Answered now until mood quiet waits = absurd (quiet refl)
-waits_quiet limits Failed now until (Awake failed) quiet waits = absurd waits
+waits_quiet limits verdict now until (Awake failed) quiet waits = absurd waits
+waits_quiet limits verdict now until (Tried failed) quiet waits = absurd waits
+waits_quiet limits verdict now until Probed quiet waits = absurd waits
+waits_quiet limits Answered now until (Aside time failed) quiet waits = absurd quiet
+waits_quiet limits There now until (Aside time failed) quiet waits = waits
 waits_quiet limits Failed now until (Aside time failed) quiet waits = waits
-waits_quiet limits Failed now until (Tried failed) quiet waits = absurd waits
-waits_quiet limits Failed now until (Dormant time named) quiet waits = waits
-waits_quiet limits Failed now until Probed quiet waits = absurd waits
-waits_quiet limits Unknown now until (Awake failed) quiet waits = absurd waits
 waits_quiet limits Unknown now until (Aside time failed) quiet waits = waits
-waits_quiet limits Unknown now until (Tried failed) quiet waits = absurd waits
-waits_quiet limits Unknown now until (Dormant time named) quiet waits = waits
-waits_quiet limits Unknown now until Probed quiet waits = absurd waits
-waits_quiet limits (Busy asked) now until (Awake failed) quiet waits = absurd waits
 waits_quiet limits (Busy asked) now until (Aside time failed) quiet waits = omega (arith, waits)
-waits_quiet limits (Busy asked) now until (Tried failed) quiet waits = absurd waits
+waits_quiet limits (Later asked) now until (Aside time failed) quiet waits = omega (arith, waits)
+waits_quiet limits Answered now until (Dormant time named) quiet waits = absurd quiet
+waits_quiet limits There now until (Dormant time named) quiet waits = waits
+waits_quiet limits Failed now until (Dormant time named) quiet waits = waits
+waits_quiet limits Unknown now until (Dormant time named) quiet waits = waits
 waits_quiet limits (Busy asked) now until (Dormant time named) quiet waits = omega (arith, waits)
-waits_quiet limits (Busy asked) now until Probed quiet waits = absurd waits
-
-failed_isnt : Failed ≡ Answered → ⊥
-failed_isnt e = cc
-
-unknown_isnt : Unknown ≡ Answered → ⊥
-unknown_isnt e = cc
-
-busy_isnt : (until : ℕ) → Busy until ≡ Answered → ⊥
-busy_isnt until e = cc
+waits_quiet limits (Later asked) now until (Dormant time named) quiet waits = omega (arith, waits)
 
 waits_by : (limits : Limits) (act : Act) (s : Standing) (until : ℕ) → IsQuiet act → Can act s → WaitsUntil until s.mood
     → WaitsUntil until (after_act limits act s).mood
@@ -133,15 +123,9 @@ waits_by limits (Handed now original) s until quiet can waits = absurd quiet
 waits_by limits (Passed original) s until quiet can waits =
     let a : Advances 0 original s (after_advance s) = advances 0 original s can in
     subst (WaitsUntil until) (sym a.mood) waits
-waits_by limits (Ended now original Answered) s until quiet can waits = absurd quiet
-waits_by limits (Ended now original Failed) s until quiet can waits = waits_quiet limits Failed now until s.mood failed_isnt waits
-waits_by limits (Ended now original Unknown) s until quiet can waits = waits_quiet limits Unknown now until s.mood unknown_isnt waits
-waits_by limits (Ended now original (Busy time)) s until quiet can waits = waits_quiet limits (Busy time) now until s.mood (busy_isnt time) waits
+waits_by limits (Ended now original verdict) s until quiet can waits = waits_quiet limits verdict now until s.mood quiet waits
 waits_by limits (WalkBegun now) s until quiet can waits = absurd quiet
-waits_by limits (WalkEnded now Answered) s until quiet can waits = absurd quiet
-waits_by limits (WalkEnded now Failed) s until quiet can waits = waits_quiet limits Failed now until s.mood failed_isnt waits
-waits_by limits (WalkEnded now Unknown) s until quiet can waits = waits_quiet limits Unknown now until s.mood unknown_isnt waits
-waits_by limits (WalkEnded now (Busy time)) s until quiet can waits = waits_quiet limits (Busy time) now until s.mood (busy_isnt time) waits
+waits_by limits (WalkEnded now verdict) s until quiet can waits = waits_quiet limits verdict now until s.mood quiet waits
 waits_by limits (Begun originals) s until quiet can waits = waits
 
 waits_on : (limits : Limits) (acts : List Act) (s t : Standing) (until : ℕ) → WaitsUntil until s.mood → AreQuiet acts → Leads limits acts s t
@@ -182,46 +166,65 @@ heeded_tolerance : (tolerance : Option ℕ) (limits : Limits) (now until failed 
 heeded_tolerance None limits now until failed some = absurd (false≢true some)
 heeded_tolerance (Some tolerance) limits now until failed some = heeded_if (nat_le tolerance failed) limits now until failed
 
-heeded_mood : (limits : Limits) (now until : ℕ) (mood : Mood) → IsSome limits.tolerance
+heeded_busy : (limits : Limits) (now until : ℕ) (mood : Mood) → IsSome limits.tolerance
     → Heeds until (moods.mood_after limits (Busy until) now mood)
-heeded_mood limits now until (Awake failed) some = heeded_tolerance limits.tolerance limits now until (moods.one_more failed) some
-heeded_mood limits now until (Aside time failed) some = omega arith
-heeded_mood limits now until (Tried failed) some = heeded_tolerance limits.tolerance limits now until (moods.one_more failed) some
-heeded_mood limits now until (Dormant time named) some = (omega arith, omega arith)
-heeded_mood limits now until Probed some = (omega arith, omega arith)
+heeded_busy limits now until (Awake failed) some = heeded_tolerance limits.tolerance limits now until (moods.one_more failed) some
+heeded_busy limits now until (Aside time failed) some = omega arith
+heeded_busy limits now until (Tried failed) some = heeded_tolerance limits.tolerance limits now until (moods.one_more failed) some
+heeded_busy limits now until (Dormant time named) some = (omega arith, omega arith)
+heeded_busy limits now until Probed some = (omega arith, omega arith)
 
-heeded_at : (limits : Limits) (now until time : ℕ) (mood : Mood) → IsSome limits.tolerance → time ≡ until
-    → Heeds until (moods.mood_after limits (Busy time) now mood)
-heeded_at limits now until time mood some same =
-    subst (λ n. Heeds n (moods.mood_after limits (Busy time) now mood)) same (heeded_mood limits now time mood some)
+heeded_aside : (tolerance : Option ℕ) (until failed : ℕ) → IsSome tolerance → Heeds until (moods.aside_by tolerance until failed)
+heeded_aside None until failed some = absurd (false≢true some)
+heeded_aside (Some tolerance) until failed some = omega arith
+
+heeded_later : (limits : Limits) (now until : ℕ) (mood : Mood) → IsSome limits.tolerance
+    → Heeds until (moods.mood_after limits (Later until) now mood)
+heeded_later limits now until (Awake failed) some = heeded_aside limits.tolerance until failed some
+heeded_later limits now until (Aside time failed) some = omega arith
+heeded_later limits now until (Tried failed) some = heeded_aside limits.tolerance until failed some
+heeded_later limits now until (Dormant time named) some = (omega arith, omega arith)
+heeded_later limits now until Probed some = heeded_aside limits.tolerance until (moods.row_of limits.tolerance) some
+
+heeded_mood : (limits : Limits) (verdict : Verdict) (now until : ℕ) (mood : Mood) → IsSome limits.tolerance → Names until verdict
+    → Heeds until (moods.mood_after limits verdict now mood)
+heeded_mood limits Answered now until mood some names = absurd names
+heeded_mood limits There now until mood some names = absurd names
+heeded_mood limits Failed now until mood some names = absurd names
+heeded_mood limits Unknown now until mood some names = absurd names
+heeded_mood limits (Busy time) now until mood some same =
+    subst (λ n. Heeds n (moods.mood_after limits (Busy time) now mood)) same (heeded_busy limits now time mood some)
+heeded_mood limits (Later time) now until mood some same =
+    subst (λ n. Heeds n (moods.mood_after limits (Later time) now mood)) same (heeded_later limits now time mood some)
 
 heeded_by : (limits : Limits) (act : Act) (s : Standing) (until : ℕ) → IsSome limits.tolerance → IsBusy until act
     → Heeds until (after_act limits act s).mood
 heeded_by limits (Handed now original) s until some busy = absurd busy
 heeded_by limits (Passed original) s until some busy = absurd busy
-heeded_by limits (Ended now original Answered) s until some busy = absurd busy
-heeded_by limits (Ended now original Failed) s until some busy = absurd busy
-heeded_by limits (Ended now original Unknown) s until some busy = absurd busy
-heeded_by limits (Ended now original (Busy time)) s until some busy = heeded_at limits now until time s.mood some busy
+heeded_by limits (Ended now original verdict) s until some busy = heeded_mood limits verdict now until s.mood some busy
 heeded_by limits (WalkBegun now) s until some busy = absurd busy
-heeded_by limits (WalkEnded now Answered) s until some busy = absurd busy
-heeded_by limits (WalkEnded now Failed) s until some busy = absurd busy
-heeded_by limits (WalkEnded now Unknown) s until some busy = absurd busy
-heeded_by limits (WalkEnded now (Busy time)) s until some busy = heeded_at limits now until time s.mood some busy
+heeded_by limits (WalkEnded now verdict) s until some busy = heeded_mood limits verdict now until s.mood some busy
 heeded_by limits (Begun originals) s until some busy = absurd busy
 
 heeds_on : (limits : Limits) (verdict : Verdict) (now until : ℕ) (mood : Mood) → Heeds until mood
     → Heeds until (moods.mood_after limits verdict now mood)
 heeds_on limits verdict now until (Awake failed) heeds = absurd heeds
 heeds_on limits Answered now until (Aside time failed) heeds = heeds
+heeds_on limits There now until (Aside time failed) heeds = heeds
 heeds_on limits Failed now until (Aside time failed) heeds = heeds
 heeds_on limits Unknown now until (Aside time failed) heeds = heeds
 heeds_on limits (Busy asked) now until (Aside time failed) heeds = omega (arith, heeds)
+heeds_on limits (Later asked) now until (Aside time failed) heeds = omega (arith, heeds)
 heeds_on limits verdict now until (Tried failed) heeds = absurd heeds
 heeds_on limits Answered now until (Dormant time named) heeds = heeds.1
+heeds_on limits There now until (Dormant time named) heeds = heeds
 heeds_on limits Failed now until (Dormant time named) heeds = heeds
 heeds_on limits Unknown now until (Dormant time named) heeds = heeds
 heeds_on limits (Busy asked) now until (Dormant time named) heeds =
+    let a = heeds.0 in
+    let b = heeds.1 in
+    (omega (arith, a), omega (arith, b))
+heeds_on limits (Later asked) now until (Dormant time named) heeds =
     let a = heeds.0 in
     let b = heeds.1 in
     (omega (arith, a), omega (arith, b))

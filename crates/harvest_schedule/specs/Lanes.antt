@@ -1,5 +1,5 @@
 -- What may be asked of an archive, and what asking and answers change.
-use Rattle.std.specs.Prelude.{◌≡◌, ◌⊎◌, ℕ, ◌+◌, ◌-◌, ◌<◌, ◌≤◌, List, [], ◌∷◌, ◌++◌, length, Option, Some, None, IsSome, IsNone, max, remove, if◌then◌else◌, nat_lt, ◌==◌, option_map}
+use Rattle.std.specs.Prelude.{◌≡◌, ◌⊎◌, true, false, ℕ, ◌+◌, ◌-◌, ◌<◌, ◌≤◌, List, [], ◌∷◌, ◌++◌, length, Option, Some, None, IsSome, IsNone, max, remove, if◌then◌else◌, nat_lt, ◌==◌, option_map}
 use Rattle.std.specs.List.{position_or_len}
 use Rattle.harvest_schedule.specs.declared.moods.Limits.{Limits}
 use Rattle.harvest_schedule.specs.declared.moods.Pace.{Pace}
@@ -19,6 +19,7 @@ new_standing originals pace = record {
   wished = 0;
   mood = Awake 0;
   rest = 0;
+  list_next = false;
 }
 
 -- a new round begins, in which its list starts anew
@@ -43,15 +44,20 @@ pub record MayWalk (now : ℕ) (s : Standing) : Type 0 where
   pub rested : s.rest ≤ now
   pub may : moods.MayAsk now s.mood
 
+-- A walk beyond the list may begin: one walk more may, and the list has no job that goes next.
+pub record MayWish (now : ℕ) (s : Standing) : Type 0 where
+  pub may : MayWalk now s
+  pub turn : s.list_next ≡ true → IsNone (job_of s)
+
 -- a job may be handed out: there is one, and one walk more may begin
 pub record IsReady (now : ℕ) (s : Standing) : Type 0 where
   pub job : IsSome (job_of s)
   pub may : MayWalk now s
 
--- the list without its next job
+-- the list without its next job, so that it had its turn
 abbrev pub advanced_by : List ℕ → Standing → Standing
-advanced_by (original ∷ rest) s = record s { again = rest }
-advanced_by [] s = record s { next = s.next + 1 }
+advanced_by (original ∷ rest) s = record s { again = rest; list_next = false }
+advanced_by [] s = record s { next = s.next + 1; list_next = false }
 
 abbrev pub after_advance : Standing → Standing
 after_advance s = advanced_by s.again s
@@ -82,9 +88,9 @@ after_end limits now original verdict s = after_answer limits now verdict (recor
   again = (if moods.comes_again limits verdict then s.again ++ original ∷ [] else s.again);
 })
 
--- a walk beyond the list begins
+-- a walk beyond the list begins, so that the list goes next
 abbrev pub walk_begun : ℕ → Standing → Standing
-walk_begun now s = after_asking now (record s { wished = s.wished + 1 })
+walk_begun now s = after_asking now (record s { wished = s.wished + 1; list_next = true })
 
 -- a walk beyond the list has ended
 abbrev pub walk_ended : Limits → ℕ → Verdict → Standing → Standing

@@ -3,3 +3,5 @@ pub mod Standing
 pub mod Lanes
 pub mod Steps
 pub mod Runs
+pub mod Rows
+pub mod Sharing

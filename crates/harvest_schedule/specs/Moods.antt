@@ -5,7 +5,7 @@ use Rattle.harvest_schedule.specs.declared.moods.Pace.{Pace}
 use Rattle.harvest_schedule.specs.declared.moods.Mood.{Mood}
 use Rattle.harvest_schedule.specs.declared.moods.Mood.TheVariants.{Awake, Aside, Tried, Dormant, Probed}
 use Rattle.harvest_schedule.specs.declared.moods.Verdict.{Verdict}
-use Rattle.harvest_schedule.specs.declared.moods.Verdict.TheVariants.{Answered, Failed, Unknown, Busy}
+use Rattle.harvest_schedule.specs.declared.moods.Verdict.TheVariants.{Answered, There, Failed, Unknown, Busy, Later}
 
 -- a time so much later than another, as far as 64 bits count
 abbrev pub later : ℕ → ℕ → ℕ
@@ -62,11 +62,28 @@ after_answer (Tried failed) = Awake 0
 after_answer (Dormant until named) = Aside named 0
 after_answer Probed = Awake 0
 
--- A failure of an archive that is awake or tried counts, and so does that it is busy. What ends while it is put aside
--- or dormant doesn't count, but a later time that it names does. One that is tried without an outcome is tried anew. A
--- probe that brings no answer makes it dormant anew.
+-- the row of failures that made an archive dormant
+abbrev pub row_of : Option ℕ → ℕ
+row_of None = 0
+row_of (Some tolerance) = tolerance
+
+-- Put aside until a time that the archive named, after so many failures in a row. If any number is borne, nothing is
+-- waited for.
+abbrev pub aside_by : Option ℕ → ℕ → ℕ → Mood
+aside_by None until failed = Awake failed
+aside_by (Some tolerance) until failed = Aside until failed
+
+-- A failure of an archive that is awake or tried counts, and so does `Busy`. What ends while it is put aside or dormant
+-- doesn't count, but a later time that it names does. One that is tried without an outcome is tried anew. A probe that
+-- brings no sign of the archive makes it dormant anew. What shows no more than that the archive is there leaves the row
+-- of failures as it was: a probe that shows it wakes the archive, and one failure more makes it dormant.
 abbrev pub mood_after : Limits → Verdict → ℕ → Mood → Mood
 mood_after limits Answered now mood = after_answer mood
+mood_after limits There now (Awake failed) = Awake failed
+mood_after limits There now (Aside until failed) = Aside until failed
+mood_after limits There now (Tried failed) = Awake failed
+mood_after limits There now (Dormant until named) = Dormant until named
+mood_after limits There now Probed = Awake (row_of limits.tolerance)
 mood_after limits Failed now (Awake failed) = failing limits now 0 (one_more failed) (Awake (one_more failed))
 mood_after limits Failed now (Aside until failed) = Aside until failed
 mood_after limits Failed now (Tried failed) = failing limits now 0 (one_more failed) (Awake (one_more failed))
@@ -84,13 +101,20 @@ mood_after limits (Busy asked_until) now (Tried failed) =
     failing limits now asked_until (one_more failed) (Aside asked_until (one_more failed))
 mood_after limits (Busy asked_until) now (Dormant until named) = Dormant (max until asked_until) (max named asked_until)
 mood_after limits (Busy asked_until) now Probed = dormant limits now asked_until
+mood_after limits (Later asked_until) now (Awake failed) = aside_by limits.tolerance asked_until failed
+mood_after limits (Later asked_until) now (Aside until failed) = Aside (max until asked_until) failed
+mood_after limits (Later asked_until) now (Tried failed) = aside_by limits.tolerance asked_until failed
+mood_after limits (Later asked_until) now (Dormant until named) = Dormant (max until asked_until) (max named asked_until)
+mood_after limits (Later asked_until) now Probed = aside_by limits.tolerance asked_until (row_of limits.tolerance)
 
 -- the job of a walk that ended so is handed out again: the archive was busy, and may be waited for
 abbrev pub comes_again : Limits → Verdict → Bool
 comes_again limits Answered = false
+comes_again limits There = false
 comes_again limits Failed = false
 comes_again limits Unknown = false
 comes_again limits (Busy until) = is_some limits.tolerance
+comes_again limits (Later until) = is_some limits.tolerance
 
 -- from when on an archive may be asked, once it was asked or a walk of it ended
 abbrev pub rest_after : Pace → ℕ → ℕ → ℕ

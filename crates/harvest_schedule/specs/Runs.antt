@@ -4,7 +4,8 @@ use Rattle.harvest_schedule.specs.declared.moods.Limits.{Limits}
 use Rattle.harvest_schedule.specs.declared.moods.Pace.{Pace}
 use Rattle.harvest_schedule.specs.declared.moods.Mood.{Mood}
 use Rattle.harvest_schedule.specs.declared.moods.Mood.TheVariants.{Awake, Aside, Tried, Dormant, Probed}
-use Rattle.harvest_schedule.specs.declared.moods.Verdict.TheVariants.{Answered, Failed, Unknown, Busy}
+use Rattle.harvest_schedule.specs.declared.moods.Verdict.{Verdict}
+use Rattle.harvest_schedule.specs.declared.moods.Verdict.TheVariants.{Answered, There, Failed, Unknown, Busy, Later}
 use Rattle.harvest_schedule.specs.Moods.{SleepsAt, comes_again, later}
 use Rattle.harvest_schedule.specs.Standing.{Standing, walks}
 use Rattle.harvest_schedule.specs.Lanes.{IsOver, IsReady, after_begin, new_standing, left_of, time_after}
@@ -214,19 +215,22 @@ AllPaced = (limits : Limits) (met asking : Act) (acts : List Act) (s t : Standin
     → 0 < s.pace.every → IsMet before met → Leads limits (met ∷ acts) s t → IsAsked now asking → Can asking t
     → later before s.pace.every ≤ now
 
+-- the walk didn't end with a first page
+abbrev pub IsNoAnswer : Verdict → Type 0
+IsNoAnswer Answered = ⊥
+IsNoAnswer There = ⊤
+IsNoAnswer Failed = ⊤
+IsNoAnswer Unknown = ⊤
+IsNoAnswer (Busy until) = ⊤
+IsNoAnswer (Later until) = ⊤
+
 -- the archive isn't asked, and no walk of it ends with an answer
 abbrev pub IsQuiet : Act → Type 0
 IsQuiet (Handed now original) = ⊥
 IsQuiet (Passed original) = ⊤
-IsQuiet (Ended now original Answered) = ⊥
-IsQuiet (Ended now original Failed) = ⊤
-IsQuiet (Ended now original Unknown) = ⊤
-IsQuiet (Ended now original (Busy until)) = ⊤
+IsQuiet (Ended now original verdict) = IsNoAnswer verdict
 IsQuiet (WalkBegun now) = ⊥
-IsQuiet (WalkEnded now Answered) = ⊥
-IsQuiet (WalkEnded now Failed) = ⊤
-IsQuiet (WalkEnded now Unknown) = ⊤
-IsQuiet (WalkEnded now (Busy until)) = ⊤
+IsQuiet (WalkEnded now verdict) = IsNoAnswer verdict
 IsQuiet (Begun originals) = ⊤
 
 abbrev pub AreQuiet : List Act → Type 0
@@ -246,19 +250,22 @@ abbrev pub AllWait : Type 0
 AllWait = (limits : Limits) (asking : Act) (acts : List Act) (s t : Standing) (until now : ℕ)
     → WaitsUntil until s.mood → AreQuiet acts → Leads limits acts s t → IsAsked now asking → Can asking t → until ≤ now
 
+-- the archive asked not to be asked before this time
+abbrev pub Names : ℕ → Verdict → Type 0
+Names until Answered = ⊥
+Names until There = ⊥
+Names until Failed = ⊥
+Names until Unknown = ⊥
+Names until (Busy time) = time ≡ until
+Names until (Later time) = time ≡ until
+
 -- it ends a walk of the archive, which was busy until this time
 abbrev pub IsBusy : ℕ → Act → Type 0
 IsBusy until (Handed now original) = ⊥
 IsBusy until (Passed original) = ⊥
-IsBusy until (Ended now original Answered) = ⊥
-IsBusy until (Ended now original Failed) = ⊥
-IsBusy until (Ended now original Unknown) = ⊥
-IsBusy until (Ended now original (Busy time)) = time ≡ until
+IsBusy until (Ended now original verdict) = Names until verdict
 IsBusy until (WalkBegun now) = ⊥
-IsBusy until (WalkEnded now Answered) = ⊥
-IsBusy until (WalkEnded now Failed) = ⊥
-IsBusy until (WalkEnded now Unknown) = ⊥
-IsBusy until (WalkEnded now (Busy time)) = time ≡ until
+IsBusy until (WalkEnded now verdict) = Names until verdict
 IsBusy until (Begun originals) = ⊥
 
 -- the archive isn't asked

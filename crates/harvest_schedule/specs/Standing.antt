@@ -1,5 +1,5 @@
 -- How an archive stands: what is left of its list, what is out, and when it may be asked.
-use Rattle.std.specs.Prelude.{ℕ, ◌+◌, ◌≤◌, List, length}
+use Rattle.std.specs.Prelude.{ℕ, ◌+◌, ◌≤◌, Bool, List, length}
 use Rattle.harvest_schedule.specs.declared.moods.Pace.{Pace}
 use Rattle.harvest_schedule.specs.declared.moods.Mood.{Mood}
 
@@ -18,6 +18,8 @@ pub record Standing : Type 0 where
   pub mood : Mood
   -- the time before which it isn't asked, by its pace
   pub rest : ℕ
+  -- a walk beyond the list has begun since a job was handed out or passed over: the list goes next
+  pub list_next : Bool
 
 -- how many walks are out
 abbrev pub walks : Standing → ℕ

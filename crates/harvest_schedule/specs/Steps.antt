@@ -5,7 +5,7 @@ use Rattle.harvest_schedule.specs.declared.moods.Limits.{Limits}
 use Rattle.harvest_schedule.specs.declared.moods.Verdict.{Verdict}
 use Rattle.harvest_schedule.specs.declared.turns.Turn.{Turn}
 use Rattle.harvest_schedule.specs.Standing.{Standing}
-use Rattle.harvest_schedule.specs.Lanes.{IsReady, MayWalk, after_advance, after_begin, after_end, after_handing, job_of, time_after, walk_begun, walk_ended}
+use Rattle.harvest_schedule.specs.Lanes.{IsReady, MayWish, after_advance, after_begin, after_end, after_handing, job_of, time_after, walk_begun, walk_ended}
 
 -- what happens to an archive: a job of it is handed out or passed over, the walk of a job ends, a walk beyond its list
 -- begins or ends, or a new round begins, in which its list has so many jobs
@@ -22,7 +22,7 @@ abbrev pub Can : Act → Standing → Type 0
 Can (Handed now original) s = IsReady now s × (job_of s ≡ Some original)
 Can (Passed original) s = job_of s ≡ Some original
 Can (Ended now original verdict) s = Contains s.out original
-Can (WalkBegun now) s = MayWalk now s
+Can (WalkBegun now) s = MayWish now s
 Can (WalkEnded now verdict) s = 0 < s.wished
 Can (Begun originals) s = s.out ≡ []
 
@@ -55,6 +55,18 @@ pub record Answers (limits : Limits) (archive : ℕ) (act : Act) (result : Bool)
 -- no archive has a job that may be handed out
 abbrev pub NoneIsReady : ℕ → List Standing → Type 0
 NoneIsReady now standings = (archive : ℕ) (s : Standing) → slice_get standings archive ≡ Some s → ¬ (IsReady now s)
+
+-- some archive has a job that may be handed out
+pub record SomeIsReady (now : ℕ) (standings : List Standing) : Type 0 where
+  pub archive : ℕ
+  pub standing : Standing
+  pub at : slice_get standings archive ≡ Some standing
+  pub ready : IsReady now standing
+
+-- A job goes before a walk beyond the list at the last hand that is free: such a walk has begun since the last job was
+-- handed out or passed over, and a job may be handed out.
+abbrev pub JobGoesFirst : ℕ → Bool → Bool → List Standing → Type 0
+JobGoesFirst now is_last jobs_next standings = (is_last ≡ true) × (jobs_next ≡ true) × SomeIsReady now standings
 
 -- the job is the next of the archive, and may be handed out
 abbrev pub Offers : ℕ → Turn → List Standing → Type 0

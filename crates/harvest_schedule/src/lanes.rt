@@ -1,7 +1,7 @@
 //! Lanes: what is left to ask of one archive, what is out, and when it may be asked.
 ghost use Rattle.std.specs.Prelude.{◌≡◌, ◌↔◌, ◌+◌, ◌<◌, ◌==◌, Contains, vec_len, IfOk, IsSome, IsTrue, Some, [], if◌then◌else◌, position};
 ghost use Rattle.std.specs.Vec.{vec_capacity};
-ghost use Rattle.harvest_schedule.specs.Lanes.{IsDormant, IsOver, IsReady, MayWalk, after_advance, after_begin, after_end, new_standing, after_handing};
+ghost use Rattle.harvest_schedule.specs.Lanes.{IsDormant, IsOver, IsReady, MayWalk, MayWish, after_advance, after_begin, after_end, new_standing, after_handing};
 ghost use Rattle.harvest_schedule.specs.Lanes.{job_of, left_of, time_after, walk_begun, walk_ended, walk_from, without};
 ghost use Rattle.harvest_schedule.specs.Standing.{walks};
 ghost use Rattle.harvest_schedule.specs.Steps.{Can, Ended, Handed, Passed, WalkBegun, WalkEnded};
@@ -27,6 +27,8 @@ pub struct Lane {
     mood: Mood,
     /// The time before which it isn't asked, by its pace.
     rest: u64,
+    /// Whether a walk beyond the list has begun since a job was handed out or passed over: then the list goes next.
+    list_next: bool,
 }
 
 impl Model for Lane {
@@ -45,6 +47,7 @@ impl Model for Lane {
       wished = l.wished;
       mood = l.mood;
       rest = l.rest;
+      list_next = l.list_next;
     } };
 
     ghost invariant = { λ l. IsSound (record {
@@ -56,6 +59,7 @@ impl Model for Lane {
       wished = l.wished;
       mood = l.mood;
       rest = l.rest;
+      list_next = l.list_next;
     }) × (l.pace.at_once ≤ vec_capacity l.out) × (l.pace.at_once ≤ vec_capacity l.again) };
 }
 
@@ -95,6 +99,7 @@ impl Lane {
             wished: 0,
             mood: Mood::Awake { failed: 0 },
             rest: 0,
+            list_next: false,
         })
     }
 
@@ -160,6 +165,14 @@ impl Lane {
         self.walks() < self.pace.at_once && self.rest <= now && self.mood.may_ask(now)
     }
 
+    /// Whether a walk beyond the list may begin at this time: of two walks that begin one at most is one, while the
+    /// list has jobs.
+    pub fn may_wish(&self, now: u64) -> bool
+        ensures { IsTrue result ↔ MayWish now self.now }
+    {
+        self.may_walk(now) && !(self.list_next && self.job().is_some())
+    }
+
     /// Whether a job may be handed out at this time.
     pub fn is_ready(&self, now: u64) -> bool
         ensures { IsTrue result ↔ IsReady now self.now }
@@ -200,6 +213,7 @@ impl Lane {
         requires { IsSome (job_of self.old) }
         ensures { self.new ≡ after_advance self.old }
     {
+        self.list_next = false;
         if self.again.is_empty() {
             self.next += 1;
         } else {
@@ -213,6 +227,7 @@ impl Lane {
         requires job { job_of self.old ≡ Some original }
         ensures { self.new ≡ after_handing now original self.old }
     {
+        self.list_next = false;
         if self.again.is_empty() {
             self.next += 1;
         } else {
@@ -238,10 +253,11 @@ impl Lane {
 
     /// Begins a walk beyond the list.
     pub fn begin_walk(&mut self, now: u64)
-        requires { MayWalk now self.old }
+        requires { MayWish now self.old }
         ensures { self.new ≡ walk_begun now self.old }
     {
         self.wished += 1;
+        self.list_next = true;
         self.mood = self.mood.asked();
         self.rest = self.pace.rest_after(now, self.rest);
     }
@@ -305,12 +321,12 @@ impl Lane {
         }
     }
 
-    /// Begins a walk beyond the list, if one more may begin at this time. Returns whether.
+    /// Begins a walk beyond the list, if one may begin at this time. Returns whether.
     pub fn try_begin_walk(&mut self, now: u64) -> bool
         ensures can { IsTrue result ↔ Can (WalkBegun now) self.old }
         ensures after { self.new ≡ (if result then walk_begun now self.old else self.old) }
     {
-        if self.may_walk(now) {
+        if self.may_wish(now) {
             self.begin_walk(now);
             true
         } else {

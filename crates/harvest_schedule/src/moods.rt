@@ -1,8 +1,8 @@
 //! What a schedule keeps to, and whether an archive may be asked.
 ghost use Rattle.std.specs.Prelude.{◌≡◌, ◌↔◌, IsTrue};
 ghost use Rattle.harvest_schedule.specs.Moods.{MayAsk, SleepsAt, after_answer, mood_once_asked, asked_from, comes_again, dormant, failing, is_dormant};
-ghost use Rattle.harvest_schedule.specs.Moods.{mood_after, one_more, rest_after};
-ghost use Rattle.harvest_schedule.specs.declared.moods.Verdict.TheVariants.{Answered, Failed, Unknown, Busy as IsBusy};
+ghost use Rattle.harvest_schedule.specs.Moods.{aside_by, mood_after, one_more, rest_after, row_of};
+ghost use Rattle.harvest_schedule.specs.declared.moods.Verdict.TheVariants.{Answered, There, Failed, Unknown, Busy as IsBusy, Later as AsksLater};
 
 /// What a schedule keeps to for all archives.
 #[derive(Clone, Copy, Debug, PartialEq, Eq)]
@@ -25,14 +25,18 @@ pub struct Pace {
 /// How a walk ended, as far as it tells whether the archive works.
 #[derive(Clone, Copy, Debug, PartialEq, Eq)]
 pub enum Verdict {
-    /// The archive's first page came.
+    /// The archive's first page came, which ends a row of failures.
     Answered,
-    /// It didn't.
+    /// The archive is there, and no more is known: a row of failures stays as it is.
+    There,
+    /// The archive doesn't work, as far as this walk tells.
     Failed,
     /// The walk ended for a reason of our own.
     Unknown,
-    /// The archive asks not to be asked before this time.
+    /// The archive asks not to be asked before this time, which counts as a failure.
     Busy { until: u64 },
+    /// The archive asks not to be asked before this time, and a row of failures stays as it is.
+    Later { until: u64 },
 }
 
 /// Whether an archive may be asked.
@@ -77,8 +81,28 @@ impl Limits {
         ensures { result ≡ comes_again self verdict }
     {
         match verdict {
-            Verdict::Answered | Verdict::Failed | Verdict::Unknown => false,
-            Verdict::Busy { until: _ } => self.tolerance.is_some(),
+            Verdict::Answered | Verdict::There | Verdict::Failed | Verdict::Unknown => false,
+            Verdict::Busy { until: _ } | Verdict::Later { until: _ } => self.tolerance.is_some(),
+        }
+    }
+
+    /// The row of failures that made an archive dormant.
+    fn row(self) -> u64
+        ensures { result ≡ row_of self.tolerance }
+    {
+        match self.tolerance {
+            Some(tolerance) => tolerance,
+            None => 0,
+        }
+    }
+
+    /// The mood of an archive that asks not to be asked before this time, after so many failures in a row.
+    fn aside(self, until: u64, failed: u64) -> Mood
+        ensures { result ≡ aside_by self.tolerance until failed }
+    {
+        match self.tolerance {
+            Some(_) => Mood::Aside { until, failed },
+            None => Mood::Awake { failed },
         }
     }
 }
@@ -136,9 +160,11 @@ impl Mood {
     {
         match verdict {
             Verdict::Answered => self.after_answer(),
+            Verdict::There => self.after_sign(limits, now),
             Verdict::Failed => self.after_failure(limits, now),
             Verdict::Unknown => self.after_nothing(limits, now),
             Verdict::Busy { until } => self.after_busy(limits, until, now),
+            Verdict::Later { until } => self.after_request(limits, until, now),
         }
     }
 
@@ -154,6 +180,20 @@ impl Mood {
             Mood::Dormant { until: _, named } => Mood::Aside {
                 until: named,
                 failed: 0,
+            },
+        }
+    }
+
+    /// The archive is there. A probe that shows it wakes the archive, and one failure more makes it dormant.
+    fn after_sign(self, limits: Limits, now: u64) -> Mood
+        ensures { result ≡ mood_after limits There now self }
+    {
+        match self {
+            Mood::Awake { failed } | Mood::Tried { failed } => Mood::Awake { failed },
+            Mood::Aside { until, failed } => Mood::Aside { until, failed },
+            Mood::Dormant { until, named } => Mood::Dormant { until, named },
+            Mood::Probed => Mood::Awake {
+                failed: limits.row(),
             },
         }
     }
@@ -202,6 +242,24 @@ impl Mood {
                 named: named.max(asked_until),
             },
             Mood::Probed => limits.dormant(now, asked_until),
+        }
+    }
+
+    /// The archive is there, and asks not to be asked before a time.
+    fn after_request(self, limits: Limits, asked_until: u64, now: u64) -> Mood
+        ensures { result ≡ mood_after limits (AsksLater asked_until) now self }
+    {
+        match self {
+            Mood::Awake { failed } | Mood::Tried { failed } => limits.aside(asked_until, failed),
+            Mood::Aside { until, failed } => Mood::Aside {
+                until: until.max(asked_until),
+                failed,
+            },
+            Mood::Dormant { until, named } => Mood::Dormant {
+                until: until.max(asked_until),
+                named: named.max(asked_until),
+            },
+            Mood::Probed => limits.aside(asked_until, limits.row()),
         }
     }
 

@@ -4,7 +4,7 @@ ghost use Rattle.std.specs.Prelude.{false, length, map, min, option_map, slice_g
 ghost use Rattle.std.specs.List.{reduce};
 ghost use Rattle.harvest_schedule.specs.Standing.{Standing};
 ghost use Rattle.harvest_schedule.specs.Lanes.{IsDormant, IsOver, IsReady, after_begin, new_standing, left_of};
-ghost use Rattle.harvest_schedule.specs.Steps.{Answers, Ended, Handed, NoneIsReady, Offers, Passed, SomeIs, TakesTurn};
+ghost use Rattle.harvest_schedule.specs.Steps.{Answers, Ended, Handed, JobGoesFirst, NoneIsReady, Offers, Passed, SomeIs, TakesTurn};
 ghost use Rattle.harvest_schedule.specs.Steps.{WalkBegun, WalkEnded, times_after};
 
 use crate::lanes::Lane;
@@ -20,6 +20,8 @@ pub struct Schedule {
     lanes: Vec<Lane>,
     /// The archive whose turn is next.
     turn: usize,
+    /// Whether a walk beyond the list has begun since a job was handed out or passed over: then a job goes next.
+    jobs_next: bool,
 }
 
 /// The first lane from this place on that is ready, if there is one before the end.
@@ -68,6 +70,7 @@ impl Schedule {
         ensures limits { IfOk result (λ schedule. schedule.limits ≡ limits) }
         ensures lanes { IfOk result (λ schedule. schedule.lanes.items ≡ map (new_standing originals) paces.now) }
         ensures turn { IfOk result (λ schedule. schedule.turn ≡ 0) }
+        ensures jobs_next { IfOk result (λ schedule. schedule.jobs_next ≡ false) }
     {
         let mut lanes = Vec::new(alloc);
         for pace in paces {
@@ -77,6 +80,7 @@ impl Schedule {
             limits,
             lanes,
             turn: 0,
+            jobs_next: false,
         })
     }
 
@@ -88,6 +92,7 @@ impl Schedule {
         ensures lanes { MatchBool result (self.new.lanes.items ≡ map (after_begin originals) self.old.lanes.items)
             (self.new.lanes.items ≡ self.old.lanes.items) }
         ensures turn { MatchBool result (self.new.turn ≡ 0) (self.new.turn ≡ self.old.turn) }
+        ensures jobs_next { self.new.jobs_next ≡ self.old.jobs_next }
     {
         if !self.lanes.iter().all(|lane| lane.is_idle()) {
             return false;
@@ -131,6 +136,7 @@ impl Schedule {
         ensures lanes { Answers self.old.limits turn.archive (Handed now turn.original) result
             self.old.lanes.items self.new.lanes.items }
         ensures turn { MatchBool result (self.new.turn ≡ turn.archive + 1) (self.new.turn ≡ self.old.turn) }
+        ensures jobs_next { MatchBool result (self.new.jobs_next ≡ false) (self.new.jobs_next ≡ self.old.jobs_next) }
     {
         if turn.archive >= self.lanes.len() {
             return false;
@@ -138,6 +144,7 @@ impl Schedule {
         let is_handed_out = self.lanes[turn.archive].try_hand_out(turn.original, now);
         if is_handed_out {
             self.turn = turn.archive + 1;
+            self.jobs_next = false;
         }
         is_handed_out
     }
@@ -149,11 +156,16 @@ impl Schedule {
         ensures lanes { Answers self.old.limits turn.archive (Passed turn.original) result
             self.old.lanes.items self.new.lanes.items }
         ensures turn { self.new.turn ≡ self.old.turn }
+        ensures jobs_next { MatchBool result (self.new.jobs_next ≡ false) (self.new.jobs_next ≡ self.old.jobs_next) }
     {
         if turn.archive >= self.lanes.len() {
             return false;
         }
-        self.lanes[turn.archive].try_pass_over(turn.original)
+        let is_passed_over = self.lanes[turn.archive].try_pass_over(turn.original);
+        if is_passed_over {
+            self.jobs_next = false;
+        }
+        is_passed_over
     }
 
     /// Takes in how the walk of this turn's job ended. Returns whether it was out; otherwise nothing changes.
@@ -162,6 +174,7 @@ impl Schedule {
         ensures lanes { Answers self.old.limits turn.archive (Ended now turn.original verdict) result
             self.old.lanes.items self.new.lanes.items }
         ensures turn { self.new.turn ≡ self.old.turn }
+        ensures jobs_next { self.new.jobs_next ≡ self.old.jobs_next }
     {
         if turn.archive >= self.lanes.len() {
             return false;
@@ -169,17 +182,34 @@ impl Schedule {
         self.lanes[turn.archive].try_end(self.limits, turn.original, verdict, now)
     }
 
-    /// Begins a walk beyond the round's list. Returns whether the archive may be asked at this time; otherwise nothing
-    /// changes.
-    pub fn begin_walk(&mut self, archive: usize, now: u64) -> bool
-        ensures limits { self.new.limits ≡ self.old.limits }
-        ensures lanes { Answers self.old.limits archive (WalkBegun now) result self.old.lanes.items self.new.lanes.items }
-        ensures turn { self.new.turn ≡ self.old.turn }
+    /// Whether a job goes before a walk beyond the list: there is one free hand for both, such a walk began since the
+    /// last job was handed out or passed over, and a job may be handed out at this time.
+    fn job_goes_first(&self, now: u64, is_last: bool) -> bool
+        ensures yes { result ≡ true → JobGoesFirst now is_last self.now.jobs_next self.now.lanes.items }
+        ensures no { result ≡ false → ¬ (JobGoesFirst now is_last self.now.jobs_next self.now.lanes.items) }
     {
-        if archive >= self.lanes.len() {
+        is_last && self.jobs_next && self.ready(now).is_some()
+    }
+
+    /// Begins a walk beyond the round's list, by a hand that may be the last free one. Returns whether the archive may
+    /// be asked at this time, and no job goes first; otherwise nothing changes.
+    pub fn begin_walk(&mut self, archive: usize, now: u64, is_last: bool) -> bool
+        ensures limits { self.new.limits ≡ self.old.limits }
+        ensures later { JobGoesFirst now is_last self.old.jobs_next self.old.lanes.items
+            → (result ≡ false) × (self.new.lanes.items ≡ self.old.lanes.items) }
+        ensures lanes { ¬ (JobGoesFirst now is_last self.old.jobs_next self.old.lanes.items)
+            → Answers self.old.limits archive (WalkBegun now) result self.old.lanes.items self.new.lanes.items }
+        ensures turn { self.new.turn ≡ self.old.turn }
+        ensures jobs_next { MatchBool result (self.new.jobs_next ≡ true) (self.new.jobs_next ≡ self.old.jobs_next) }
+    {
+        if self.job_goes_first(now, is_last) || archive >= self.lanes.len() {
             return false;
         }
-        self.lanes[archive].try_begin_walk(now)
+        let is_begun = self.lanes[archive].try_begin_walk(now);
+        if is_begun {
+            self.jobs_next = true;
+        }
+        is_begun
     }
 
     /// Takes in how a walk beyond the round's list ended. Returns whether one was out; otherwise nothing changes.
@@ -188,6 +218,7 @@ impl Schedule {
         ensures lanes { Answers self.old.limits archive (WalkEnded now verdict) result
             self.old.lanes.items self.new.lanes.items }
         ensures turn { self.new.turn ≡ self.old.turn }
+        ensures jobs_next { self.new.jobs_next ≡ self.old.jobs_next }
     {
         if archive >= self.lanes.len() {
             return false;

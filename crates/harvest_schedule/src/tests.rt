@@ -171,24 +171,120 @@ fn walks_beyond_the_list_keep_to_the_pace(rt: HostRuntime) -> Result<(), Fail> {
         every: 10,
     };
     let mut schedule = Schedule::new(rt.alloc(), LIMITS, &[pace], 3)?;
-    assert!(rt; schedule.begin_walk(0, 100));
-    assert!(rt; !schedule.begin_walk(0, 109), "too early");
+    assert!(rt; schedule.begin_walk(0, 100, false));
+    assert!(rt; !schedule.begin_walk(0, 109, false), "too early");
     assert_eq!(rt;
         (schedule.offer(109), schedule.next_time(100)),
         (None, Some(110))
     );
     assert!(rt; schedule.hand_out(turn(0, 0), 110));
-    assert!(rt; !schedule.begin_walk(0, 500), "two are out");
+    assert!(rt; !schedule.begin_walk(0, 500, false), "two are out");
     assert!(rt; schedule.end_walk(0, Verdict::Answered, 200));
     assert!(rt;
         !schedule.end_walk(0, Verdict::Answered, 200),
         "none is out"
     );
     assert!(rt;
-        !schedule.begin_walk(0, 209),
+        !schedule.begin_walk(0, 209, false),
         "too early after the end of a walk"
     );
-    assert!(rt; schedule.begin_walk(0, 210));
-    assert!(rt; !schedule.begin_walk(1, 210), "no such archive");
+    assert!(rt; schedule.begin_walk(0, 210, false));
+    assert!(rt; !schedule.begin_walk(1, 210, false), "no such archive");
+    Ok(())
+}
+
+#[test]
+fn an_answer_ends_a_row_of_failures(rt: HostRuntime) -> Result<(), Fail> {
+    let pace = Pace {
+        at_once: 3,
+        every: 0,
+    };
+    let mut schedule = Schedule::new(rt.alloc(), LIMITS, &[pace], 9)?;
+    for original in 0..3 {
+        assert!(rt; schedule.hand_out(turn(0, original), 0));
+    }
+    assert!(rt; schedule.done(turn(0, 0), Verdict::Busy { until: 50 }, 1));
+    assert!(rt; schedule.done(turn(0, 1), Verdict::Answered, 2));
+    assert!(rt; schedule.done(turn(0, 2), Verdict::There, 3));
+    assert_eq!(rt;
+        schedule.mood(0),
+        Some(Mood::Aside {
+            until: 50,
+            failed: 0
+        })
+    );
+    assert!(rt; schedule.hand_out(turn(0, 0), 50));
+    assert!(rt; schedule.done(turn(0, 0), Verdict::Failed, 51));
+    assert_eq!(rt; schedule.mood(0), Some(Mood::Awake { failed: 1 }));
+    assert!(rt; schedule.begin_walk(0, 52, false));
+    assert!(rt; schedule.end_walk(0, Verdict::There, 53));
+    assert_eq!(rt;
+        schedule.mood(0),
+        Some(Mood::Awake { failed: 1 }),
+        "the row stays"
+    );
+    Ok(())
+}
+
+#[test]
+fn a_probe_that_shows_that_an_archive_is_there_wakes_it(rt: HostRuntime) -> Result<(), Fail> {
+    let pace = Pace {
+        at_once: 1,
+        every: 0,
+    };
+    let mut schedule = Schedule::new(rt.alloc(), LIMITS, &[pace], 9)?;
+    for original in 0..2 {
+        assert!(rt; schedule.hand_out(turn(0, original), 0));
+        assert!(rt; schedule.done(turn(0, original), Verdict::Failed, 1));
+    }
+    assert!(rt; schedule.is_dormant(0));
+    assert!(rt; schedule.begin_walk(0, 101, false));
+    assert!(rt; schedule.end_walk(0, Verdict::There, 102));
+    assert_eq!(rt; schedule.mood(0), Some(Mood::Awake { failed: 2 }));
+    assert!(rt; schedule.hand_out(turn(0, 2), 103));
+    assert!(rt; schedule.done(turn(0, 2), Verdict::Failed, 104));
+    assert!(rt; schedule.is_dormant(0), "one failure more");
+    assert!(rt; schedule.begin_walk(0, 204, false));
+    assert!(rt; schedule.end_walk(0, Verdict::Later { until: 300 }, 205));
+    assert_eq!(rt;
+        schedule.mood(0),
+        Some(Mood::Aside {
+            until: 300,
+            failed: 2
+        }),
+        "it is there, and asks for patience"
+    );
+    Ok(())
+}
+
+#[test]
+fn of_two_walks_one_at_most_is_beyond_the_list(rt: HostRuntime) -> Result<(), Fail> {
+    let pace = Pace {
+        at_once: 9,
+        every: 0,
+    };
+    let mut schedule = Schedule::new(rt.alloc(), LIMITS, &[pace, pace], 2)?;
+    assert!(rt; schedule.begin_walk(0, 1, false));
+    assert!(rt; !schedule.begin_walk(0, 1, false), "its job goes next");
+    assert!(rt;
+        !schedule.begin_walk(1, 1, true),
+        "a job takes the last hand"
+    );
+    assert!(rt; schedule.hand_out(turn(1, 0), 1));
+    assert!(rt;
+        !schedule.begin_walk(0, 1, false),
+        "the archive's own job goes next still"
+    );
+    assert!(rt; schedule.begin_walk(1, 1, false));
+    assert!(rt; schedule.pass_over(turn(0, 0)));
+    assert!(rt;
+        schedule.begin_walk(0, 1, false),
+        "a job that isn't needed had its turn"
+    );
+    assert!(rt; schedule.hand_out(turn(0, 1), 1));
+    assert!(rt; schedule.hand_out(turn(1, 1), 1));
+    for _ in 0..3 {
+        assert!(rt; schedule.begin_walk(0, 1, false), "no job is left");
+    }
     Ok(())
 }

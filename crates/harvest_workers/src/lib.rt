@@ -6,12 +6,16 @@
 #![tactic(auto)]
 
 mod errands;
+mod laws;
 mod messages;
 mod rules;
+#[cfg(test)]
+mod tests;
 mod verdicts;
 mod walking;
 
 pub use errands::Errand;
+pub use laws::{answers_are_no_failures, verdicts_by_example};
 pub use messages::{Assignment, Opened, WalkReport};
 pub use rules::{RuledFetch, WalkRules};
 pub use verdicts::verdict_of;

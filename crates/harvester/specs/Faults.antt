@@ -3,7 +3,7 @@ use Rattle.std.specs.Prelude.{ℕ, List, ◌++◌, codes}
 use Rattle.std.specs.Fmt.{decimal}
 use Rattle.timemap_reader.specs.Answer as page
 use Rattle.harvester.specs.declared.faults.FetchFault.{FetchFault}
-use Rattle.harvester.specs.declared.faults.FetchFault.TheVariants.{Failed, TooLong, NoMemory as NoFetchMemory}
+use Rattle.harvester.specs.declared.faults.FetchFault.TheVariants.{Failed, Broken, TooLong, NoMemory as NoFetchMemory}
 use Rattle.harvester.specs.declared.faults.WalkFault.{WalkFault}
 use Rattle.harvester.specs.declared.faults.WalkFault.TheVariants.{Fetch, Status, Encoded, Page, TooManyPages}
 use Rattle.harvester.specs.declared.faults.WalkFault.TheVariants.{TooManyMementos, NoMemory}
@@ -11,6 +11,7 @@ use Rattle.harvester.specs.declared.faults.WalkFault.TheVariants.{TooManyMemento
 -- what a fault of a fetch is printed as
 abbrev pub fetch_words : FetchFault → List ℕ
 fetch_words Failed = codes "no answer"
+fetch_words Broken = codes "no whole answer"
 fetch_words TooLong = codes "a body of more than 8,388,608 bytes"
 fetch_words NoFetchMemory = codes "no memory"
 

@@ -60,7 +60,7 @@ pub fn part_merge(
 fn items(alloc: Global, values: &[&[u8]]) -> Result<Items<Octets>> {
     let mut items = Vec::new(alloc);
     for value in values {
-        items.push(texts::octets(alloc, value)?)?;
+        items.push(Octets::from_slice(alloc, value)?)?;
     }
     Ok(Items::of(items))
 }
@@ -68,8 +68,8 @@ fn items(alloc: Global, values: &[&[u8]]) -> Result<Items<Octets>> {
 /// A request by this method for this target, with these values of `Accept-Datetime`.
 pub fn request(alloc: Global, method: &[u8], target: &[u8], asked: &[&[u8]]) -> Result<Request> {
     Ok(Request {
-        method: texts::octets(alloc, method)?,
-        target: texts::octets(alloc, target)?,
+        method: Octets::from_slice(alloc, method)?,
+        target: Octets::from_slice(alloc, target)?,
         asked: items(alloc, asked)?,
     })
 }

@@ -1,6 +1,6 @@
 -- What the lines of a file of originals hold.
-use Rattle.std.specs.Prelude.{◌≡◌, ℕ, ◌+◌, ◌-◌, ◌^◌, ◌&&◌, ◌==◌, min, Bool, true, false, List, [], ◌∷◌, ◌++◌, length, map, nat_lt, Option, Some, None, if◌then◌else◌}
-use Rattle.std.specs.List.{flat_map, slice_split}
+use Rattle.std.specs.Prelude.{◌≡◌, ℕ, ◌+◌, ◌-◌, ◌^◌, ◌&&◌, ◌==◌, min, Bool, true, false, List, [], ◌∷◌, ◌++◌, length, drop, map, nat_eq, nat_lt, Option, Some, None, if◌then◌else◌}
+use Rattle.std.specs.List.{flat_map, slice_split, starts_with}
 use Rattle.memento_time.specs.Blanks.{is_among, trim}
 use Rattle.timegate.specs.Route.{original_at}
 use Rattle.original_list.specs.declared.rows.Listed.{Listed}
@@ -28,9 +28,17 @@ row_of line = if length (without_blanks line) == 0 then Blank else row_naming (o
 abbrev pub lines_of : List ℕ → List (List ℕ)
 lines_of text = slice_split (λ b. b == 10) text
 
--- what they hold
+-- the byte order mark in UTF-8
+abbrev pub mark : List ℕ
+mark = 239 ∷ 187 ∷ 191 ∷ []
+
+-- the text behind the mark, if it begins with that
+abbrev pub behind_mark : List ℕ → List ℕ
+behind_mark text = if starts_with nat_eq text mark then drop (length mark) text else text
+
+-- what the lines hold
 abbrev pub rows_of : List ℕ → List Row
-rows_of text = map row_of (lines_of text)
+rows_of text = map row_of (lines_of (behind_mark text))
 
 abbrev pub original_in : Row → List (List ℕ)
 original_in Blank = []

@@ -1,7 +1,8 @@
 //! What the lines of a file of originals hold.
-ghost use Rattle.std.specs.Prelude.{◌≡◌, IfOk, OnOk, count_by, map, take};
+ghost use Rattle.std.specs.Prelude.{◌≡◌, ◌++◌, ℕ, List, IfOk, OnOk, count_by, false, map, nat_eq, take};
+ghost use Rattle.std.specs.List.{starts_with};
 ghost use Rattle.original_list.specs.Rows as spec;
-ghost use Rattle.original_list.specs.Rows.{TakesRow, bad_lines, is_bad, lines_of, most_told, originals_of, rows_of};
+ghost use Rattle.original_list.specs.Rows.{TakesRow, bad_lines, is_bad, lines_of, mark, most_told, originals_of, rows_of};
 
 use memento_time::{NoMemory, Original, trim};
 use std::alloc::{AllocError, Global};
@@ -9,6 +10,9 @@ use timegate::original_at;
 
 /// The most lines that are told by their numbers.
 pub const MOST_TOLD: usize = 20;
+
+/// The byte order mark in UTF-8.
+const MARK: &[u8] = b"\xef\xbb\xbf";
 
 /// What a line holds.
 #[derive(Debug, Drop)]
@@ -65,21 +69,32 @@ impl Listed {
     }
 }
 
+/// The text behind a byte order mark, if it begins with that: editors write one, and it belongs to no line.
+pub(crate) fn behind_mark(text: &[u8]) -> &[u8]
+    ensures { result.now ≡ spec.behind_mark text.now }
+{
+    match text.strip_prefix(MARK) {
+        Some(rest) => rest,
+        None => text,
+    }
+}
+
 /// The lines of a text, each of which ends at a LF or with the text.
-fn lines_of(alloc: Global, text: &[u8]) -> Result<Vec<&[u8]>, AllocError>
+pub(crate) fn lines_of(alloc: Global, text: &[u8]) -> Result<Vec<&[u8]>, AllocError>
     ensures { IfOk result (λ lines. map (λ line. line.now) lines.items ≡ lines_of text.now) }
 {
     text.split(|byte| *byte == b'\n').collect(alloc)
 }
 
 /// Reads a text that has an original in each line: an original as a request's target names it, without the spaces, tabs
-/// and CRs at the line's ends. Lines of nothing but these are passed over.
+/// and CRs at the line's ends. Lines of nothing but these are passed over, and so is a byte order mark at the text's
+/// beginning.
 pub fn read_list(alloc: Global, text: &[u8]) -> Result<Listed, NoMemory>
     ensures originals { IfOk result (λ listed. listed.originals.items ≡ originals_of (rows_of text.now)) }
     ensures bad { IfOk result (λ listed. listed.bad.items ≡ take most_told (bad_lines 1 (rows_of text.now))) }
     ensures count { IfOk result (λ listed. listed.bad_count ≡ count_by is_bad (rows_of text.now)) }
 {
-    let lines = lines_of(alloc, text)?;
+    let lines = lines_of(alloc, behind_mark(text))?;
     let mut listed = Listed {
         originals: Vec::new(alloc),
         bad: Vec::new(alloc),
@@ -91,3 +106,8 @@ pub fn read_list(alloc: Global, text: &[u8]) -> Result<Listed, NoMemory>
     }
     Ok(listed)
 }
+
+/// A byte order mark before a text changes nothing of what its lines hold.
+pub fn a_mark_changes_nothing()
+    ensures { (text : List ℕ) → starts_with nat_eq text mark ≡ false → rows_of (mark ++ text) ≡ rows_of text }
+{}

@@ -1,11 +1,12 @@
 //! The other spellings of an original: with the other scheme, and with or without `www.`.
-ghost use Rattle.std.specs.Prelude.{◌≡◌, ◌++◌, ◌∷◌, [], true, false, nat_eq, drop, length, IfOk, IfSome, IfNone, OnOk, filter, position};
+ghost use Rattle.std.specs.Prelude.{◌≡◌, ◌++◌, ◌∷◌, [], IfOk, OnOk, filter, position};
 ghost use Rattle.std.specs.List.{list_any, starts_with};
 ghost use Rattle.original_list.specs.Spellings as spec;
 ghost use Rattle.original_list.specs.Spellings.{SpellingsAreAlike, SpellingsComeBack, is_itself, other_spellings, others, others_behind, plain_spellings, swapped_spellings, text_of};
 
 use memento_time::{NoMemory, Original};
 use std::alloc::Global;
+use text_fields::behind;
 use timegate::original_at;
 
 /// Whether the byte ends an authority.
@@ -58,17 +59,25 @@ fn may_swap(rest: &[u8]) -> bool
     !authority(rest).is_empty() && !rest.starts_with(b"www.")
 }
 
-/// The text with this scheme, with `www.` or without, and with this behind it.
-fn text_of(alloc: Global, is_secure: bool, has_www: bool, rest: &[u8]) -> Result<Vec<u8>, NoMemory>
-    ensures { IfOk result (λ text. text.items ≡ text_of is_secure has_www rest.now) }
+/// What stands in front of a host.
+#[derive(Clone, Copy)]
+struct Front {
+    /// The scheme is `https`.
+    is_secure: bool,
+    has_www: bool,
+}
+
+/// The text with this front, and with this behind it.
+fn text_of(alloc: Global, front: Front, rest: &[u8]) -> Result<Vec<u8>, NoMemory>
+    ensures { IfOk result (λ text. text.items ≡ text_of front.is_secure front.has_www rest.now) }
 {
     let mut text = Vec::new(alloc);
-    if is_secure {
+    if front.is_secure {
         text.extend_from_slice(b"https://")?;
     } else {
         text.extend_from_slice(b"http://")?;
     }
-    if has_www {
+    if front.has_www {
         text.extend_from_slice(b"www.")?;
     }
     text.extend_from_slice(rest)?;
@@ -91,14 +100,13 @@ fn add(alloc: Global, list: &mut Vec<Original>, text: &[u8]) -> Result<(), NoMem
 fn add_spelling(
     alloc: Global,
     list: &mut Vec<Original>,
-    is_secure: bool,
-    has_www: bool,
+    front: Front,
     rest: &[u8],
 ) -> Result<(), NoMemory>
     ensures { OnOk result
-        (list.new.items ≡ list.old.items ++ filter is_itself (text_of is_secure has_www rest.now ∷ [])) }
+        (list.new.items ≡ list.old.items ++ filter is_itself (text_of front.is_secure front.has_www rest.now ∷ [])) }
 {
-    let text = text_of(alloc, is_secure, has_www, rest)?;
+    let text = text_of(alloc, front, rest)?;
     add(alloc, list, &text)
 }
 
@@ -106,63 +114,61 @@ fn add_spelling(
 fn add_swapped(
     alloc: Global,
     list: &mut Vec<Original>,
-    is_secure: bool,
-    has_www: bool,
+    front: Front,
     rest: &[u8],
 ) -> Result<(), NoMemory>
     ensures { OnOk result
-        (list.new.items ≡ list.old.items ++ filter is_itself (swapped_spellings is_secure has_www rest.now)) }
+        (list.new.items ≡ list.old.items ++ filter is_itself (swapped_spellings front.is_secure front.has_www rest.now)) }
 {
     if !may_swap(rest) {
         return Ok(());
     }
-    add_spelling(alloc, list, is_secure, !has_www, rest)?;
-    add_spelling(alloc, list, !is_secure, !has_www, rest)?;
+    let swapped = Front {
+        is_secure: front.is_secure,
+        has_www: !front.has_www,
+    };
+    let opposite = Front {
+        is_secure: !front.is_secure,
+        has_www: !front.has_www,
+    };
+    add_spelling(alloc, list, swapped, rest)?;
+    add_spelling(alloc, list, opposite, rest)?;
     Ok(())
 }
 
-/// The other spellings of what has this scheme, with `www.` or without, and this behind it.
-fn others(
-    alloc: Global,
-    is_secure: bool,
-    has_www: bool,
-    rest: &[u8],
-) -> Result<Vec<Original>, NoMemory>
-    ensures { IfOk result (λ list. list.items ≡ filter is_itself (others is_secure has_www rest.now)) }
+/// The other spellings of what has this front, and this behind it.
+fn others(alloc: Global, front: Front, rest: &[u8]) -> Result<Vec<Original>, NoMemory>
+    ensures { IfOk result (λ list. list.items ≡ filter is_itself (others front.is_secure front.has_www rest.now)) }
 {
     let mut list = Vec::new(alloc);
     if !is_named(rest) {
         return Ok(list);
     }
-    add_spelling(alloc, &mut list, !is_secure, has_www, rest)?;
-    add_swapped(alloc, &mut list, is_secure, has_www, rest)?;
+    let other_scheme = Front {
+        is_secure: !front.is_secure,
+        has_www: front.has_www,
+    };
+    add_spelling(alloc, &mut list, other_scheme, rest)?;
+    add_swapped(alloc, &mut list, front, rest)?;
     Ok(list)
-}
-
-/// What follows the front, if the bytes begin with it.
-fn behind<'a>(bytes: &'a [u8], front: &[u8]) -> Option<&'a [u8]>
-    ensures found { IfSome result (λ rest. (starts_with nat_eq bytes.now front.now ≡ true)
-        × (rest.now ≡ drop (length front.now) bytes.now)) }
-    ensures none { IfNone result (starts_with nat_eq bytes.now front.now ≡ false) }
-{
-    bytes.strip_prefix(front)
 }
 
 /// The other spellings of what has this scheme and this behind it.
 fn others_behind(alloc: Global, is_secure: bool, rest: &[u8]) -> Result<Vec<Original>, NoMemory>
     ensures { IfOk result (λ list. list.items ≡ filter is_itself (others_behind is_secure rest.now)) }
 {
-    match behind(rest, b"www.") {
-        Some(rest) => others(alloc, is_secure, true, rest),
-        None => others(alloc, is_secure, false, rest),
-    }
+    let (has_www, rest) = match behind(b"www.", rest) {
+        Some(rest) => (true, rest),
+        None => (false, rest),
+    };
+    others(alloc, Front { is_secure, has_www }, rest)
 }
 
 /// The other spellings of a text that begins with `http://`.
 fn plain_spellings(alloc: Global, text: &[u8]) -> Result<Vec<Original>, NoMemory>
     ensures { IfOk result (λ list. list.items ≡ filter is_itself (plain_spellings text.now)) }
 {
-    match behind(text, b"http://") {
+    match behind(b"http://", text) {
         Some(rest) => others_behind(alloc, false, rest),
         None => Ok(Vec::new(alloc)),
     }
@@ -174,7 +180,7 @@ pub fn spellings_of(alloc: Global, original: &Original) -> Result<Vec<Original>,
     ensures { IfOk result (λ list. list.items ≡ filter is_itself (other_spellings original.now)) }
 {
     let text = original.as_bytes();
-    match behind(text, b"https://") {
+    match behind(b"https://", text) {
         Some(rest) => others_behind(alloc, true, rest),
         None => plain_spellings(alloc, text),
     }

@@ -1,5 +1,5 @@
 //! One request over a fresh connection, and its answer.
-ghost use Rattle.std.specs.Prelude.{◌≡◌, ◌≤◌, ◌<◌, ◌⊎◌, ◌↔◌, Ok, Err, IfOk, IfErr, IfSome, alloc_error, length};
+ghost use Rattle.std.specs.Prelude.{◌≡◌, ◌≢◌, ◌≤◌, ◌<◌, ◌⊎◌, ◌↔◌, Ok, Err, IfOk, IfErr, IfSome, alloc_error, length};
 ghost use Rattle.std.specs.Prelude.{codes, map, option_copied};
 ghost use Rattle.http.specs.Request.{builder_result};
 ghost use Rattle.http.specs.Steps.{AppendsField, StepsTo};
@@ -93,10 +93,10 @@ impl Deadlines {
 }
 
 /// Fetches a URL by `GET` over a fresh connection. A body of more than `most` bytes is `TooLong`. An https URL is
-/// `Failed`, and so is one whose answer doesn't come within the patience, by the end of the walk and at the rate that
-/// it is asked at. The name is looked up by std, without a time limit. If there are hosts, a URL of another host is
-/// `Failed` before its name is looked up, and one whose name leads to no allowed address is `Failed` before a
-/// connection is made.
+/// `Failed`, and so is one whose answer's head doesn't come within the patience and by the end of the walk. A body that
+/// doesn't come so, and at the rate that it is asked at, is `Broken`. The name is looked up by std, without a time
+/// limit. If there are hosts, a URL of another host is `Failed` before its name is looked up, and one whose name leads
+/// to no allowed address is `Failed` before a connection is made.
 pub(crate) fn get<R>(
     rt: &R,
     manner: Manner<'_>,
@@ -144,6 +144,16 @@ fn fault_of_hyper(error: &hyper::Error) -> FetchFault
         FetchFault::NoMemory
     } else {
         FetchFault::Failed
+    }
+}
+
+/// The fault where the head of an answer came, and the rest of it didn't.
+fn broken(fault: FetchFault) -> FetchFault
+    ensures { result ≢ FetchFault.Failed }
+{
+    match fault {
+        FetchFault::Failed => FetchFault::Broken,
+        FetchFault::Broken | FetchFault::TooLong | FetchFault::NoMemory => fault,
     }
 }
 
@@ -306,11 +316,11 @@ impl Exchange<'_> {
         let body = Limited::new(Counted::new(body, &came), self.most).collect(alloc);
         let (collected, _connection) = while_connected(
             rt, runtime, body, connection, limit,
-        ).map_err(|error| fault_of(&error))?;
+        ).map_err(|error| broken(fault_of(&error)))?;
         match collected {
             Ok(collected) => within(answer_of(alloc, &head, collected), self.most),
             Err(LimitedError::LengthLimit) => Err(FetchFault::TooLong),
-            Err(LimitedError::Body(error)) => Err(fault_of_hyper(&error)),
+            Err(LimitedError::Body(error)) => Err(broken(fault_of_hyper(&error))),
         }
     }
 }

@@ -43,7 +43,7 @@ impl From<FetchFault> for PullFault {
 
     fn from(fault: FetchFault) -> PullFault {
         match fault {
-            FetchFault::Failed => PullFault::Failed,
+            FetchFault::Failed | FetchFault::Broken => PullFault::Failed,
             FetchFault::TooLong => PullFault::BadState,
             FetchFault::NoMemory => PullFault::NoMemory,
         }

@@ -6,7 +6,7 @@ ghost use Rattle.outgoing_requests.specs.Hosts.{IsListedText};
 use crate::agents::Agent;
 use crate::exchanges::{Manner, get};
 use crate::hosts::AllowedHost;
-use crate::limits::{Limits, wait_within};
+use crate::limits::{FetchLimits, wait_within};
 use crate::patience::Patience;
 use harvester::{Answer, Fetch, FetchFault, SocketRuntime, WalkProgress};
 use memento_time::Clean;
@@ -33,7 +33,7 @@ pub struct HyperFetch;
 pub struct CarefulFetch<'a> {
     pub patience: Patience,
     pub hosts: Option<&'a [AllowedHost]>,
-    pub limits: Limits,
+    pub limits: FetchLimits,
     pub agent: Option<&'a Agent>,
 }
 

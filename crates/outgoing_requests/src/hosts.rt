@@ -60,14 +60,8 @@ fn entry_of(alloc: Global, url: &Url) -> Result<Option<AllowedHost>, AllocError>
     let (Some(host), Some(port)) = (url.host_str(), url.port_or_known_default()) else {
         return Ok(None);
     };
-    let host = octets(alloc, host.as_bytes())?;
+    let host = Octets::of(host.as_bytes().to_vec(alloc)?);
     Ok(Some(AllowedHost { host, port }))
-}
-
-fn octets(alloc: Global, bytes: &[u8]) -> Result<Octets, AllocError>
-    ensures { IfOk result (λ octets. octets ≡ bytes.now) }
-{
-    Ok(Octets::of(bytes.to_vec(alloc)?))
 }
 
 /// Reads the entry that a text spells: the part of a URL between `http://` and the path, such as `web.archive.org`,

@@ -9,7 +9,7 @@ use std::time::{Clock, Duration, Instant};
 
 /// What a fetch keeps to beyond its patience. It keeps to nothing where there is `None`.
 #[derive(Clone, Copy, Debug, Default, PartialEq, Eq)]
-pub struct Limits {
+pub struct FetchLimits {
     /// The most seconds that a whole walk may take. The page that is fetched then is given up, and further ones aren't
     /// asked for.
     pub walk: Option<u64>,
@@ -20,7 +20,7 @@ pub struct Limits {
     pub every: Option<u64>,
 }
 
-impl Limits {
+impl FetchLimits {
     /// When a walk has to end, if it has to. `Failed` if that can't be told, as the clock couldn't be read.
     pub(crate) fn end_of(self, progress: WalkProgress) -> Result<Option<Instant>, FetchFault>
         ensures end { IfOk result (λ end. IfSome progress.begun (λ begun. IsEnd self.walk begun end)) }

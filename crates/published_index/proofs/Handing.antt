@@ -7,7 +7,7 @@ use mathlib.Core.List.{IsPrefix}
 use Rattle.memento_index.specs.declared.merge.Merge.{Merge}
 use Rattle.memento_index.specs.declared.merge.Merge.TheVariants.{State}
 use Rattle.published_index.specs.Batches.{merges_of}
-use Rattle.published_index.specs.Cursors.{MergerCall, Append, AppendDelta, Publish, after_call, handed_by, merges_with_pending, receipt_of, with_publish}
+use Rattle.published_index.specs.Cursors.{MergerCall, Append, AppendDelta, MoveCursor, Publish, after_call, handed_by, merges_with_pending, receipt_of, with_publish}
 use Rattle.published_index.specs.Views.{MergerView}
 use Rattle.published_index.proofs.Folding.{merges-append}
 use Rattle.published_index.proofs.Fronts.{prefix_append, prefix_self, prefix_trans}
@@ -15,6 +15,7 @@ use Rattle.published_index.proofs.Fronts.{prefix_append, prefix_self, prefix_tra
 hands : (m : MergerView) (call : MergerCall) → merges_with_pending (after_call m call) ≡ merges_with_pending m ++ handed_by call
 hands m (Append merge) = sym (append_assoc (merges_of m.published) m.pending (merge ∷ []))
 hands m (AppendDelta peer d) = sym (append_assoc (merges_of m.published) m.pending (State d.state ∷ []))
+hands m (MoveCursor peer d) = sym (append-nil (merges_with_pending m))
 hands m Publish = ap (λ (l : List Merge). l ++ []) (merges-append m.published m.pending)
 
 pub handed : (m : MergerView) (calls : List MergerCall) → merges_with_pending (fold after_call m calls) ≡ merges_with_pending m ++ flat_map handed_by calls
@@ -31,6 +32,7 @@ all_published m calls =
 starts : (m : MergerView) (call : MergerCall) → IsPrefix m.published (after_call m call).published
 starts m (Append merge) = prefix_self m.published
 starts m (AppendDelta peer d) = prefix_self m.published
+starts m (MoveCursor peer d) = prefix_self m.published
 starts m Publish = prefix_append m.published (m.pending ∷ [])
 
 pub stays_at_start : (m : MergerView) (calls : List MergerCall) → IsPrefix m.published (fold after_call m calls).published

@@ -16,3 +16,4 @@ pub mod Reaching
 pub mod EventLemmas
 pub mod Handing
 pub mod Following
+pub mod Exchanging

@@ -13,7 +13,7 @@ use Rattle.memento_index.specs.declared.merge.Merge.TheVariants.{State}
 use Rattle.memento_index.specs.Merges.{adds_of}
 use Rattle.harvest_lattice.specs.Lattice.{Entries, AtMost, join}
 use Rattle.harvest_lattice.specs.Knowledge.{lat}
-use Rattle.harvest_lattice.proofs.EntryOrder.{at_most_left, at_most_right, at_most_trans}
+use Rattle.harvest_lattice.proofs.EntryOrder.{at_most_least, at_most_left, at_most_refl, at_most_right, at_most_trans}
 use Rattle.harvest_lattice.proofs.Knowledge.{lat-adds}
 use Rattle.harvest_lattice.proofs.KnowledgeShown.{at_most_nil}
 use Rattle.replica_exchange.specs.declared.cursor.Cursor.{Cursor}
@@ -22,14 +22,14 @@ use Rattle.replica_exchange.specs.Stamps.{StampedState, IsStamped, state_after, 
 use Rattle.replica_exchange.specs.CursorRule.{Held, start_from, fits, cursor_after}
 use Rattle.replica_exchange.proofs.StampLemmas.{state_append, state_push, take_take, prefixes_at_most, above_suffices}
 use Rattle.published_index.specs.Batches.{merges_of}
-use Rattle.published_index.specs.Cursors.{Histories, IsDeltaOf, HasReached, state_of, with_merge, with_delta, with_publish}
+use Rattle.published_index.specs.Cursors.{Histories, IsDeltaOf, IsKnown, HasReached, state_of, with_cursor, with_merge, with_delta, with_publish}
 use Rattle.published_index.specs.Views.{MergerView}
 use Rattle.published_index.proofs.Folding.{merges-append}
 use Rattle.replica_events.proofs.Sound.{start_within}
 
 -- ---- more merges
 
-state_more : (ms ns : List Merge) → AtMost (state_after ms) (state_after (ms ++ ns))
+pub state_more : (ms ns : List Merge) → AtMost (state_after ms) (state_after (ms ++ ns))
 state_more ms ns = subst (λ (x : Entries). AtMost (state_after ms) x) (sym (state_append ms ns)) (at_most_left (state_after ms) (lat (flat_map adds_of ns)))
 
 -- that a cursor is reached by a state
@@ -54,7 +54,7 @@ pub reached_with_merge : (histories : Histories) (m : MergerView) (merge : Merge
 reached_with_merge histories m merge reached peer =
     reaches_more histories peer (state_of m) (state_of (with_merge m merge)) (grows m merge) (map.get m.cursors peer) (reached peer)
 
-published : (m : MergerView) → merges_of m.published ++ m.pending ≡ merges_of (m.published ++ m.pending ∷ []) ++ []
+pub published : (m : MergerView) → merges_of m.published ++ m.pending ≡ merges_of (m.published ++ m.pending ∷ []) ++ []
 published m = sym (merges-append m.published m.pending) ∙ sym (append-nil (merges_of (m.published ++ m.pending ∷ [])))
 
 pub reached_with_publish : (histories : Histories) (m : MergerView) → HasReached histories m → HasReached histories (with_publish m)
@@ -83,15 +83,15 @@ module _ (ms : List Merge) (count : ℕ) (s : StampedState) (is : IsStamped (tak
       subst (λ (y : Entries). AtMost (state_after (take s.number ms)) y) (sym whole)
       (subst (λ (l : List Merge). AtMost (state_after l) (join x (state_after (take count ms)))) (sym counted) (at_most_right x (state_after (take count ms))))
 
+-- what the merger has with the delta's state
+pub joined : (m : MergerView) (peer : ℕ) (d : Delta) → state_of (with_delta m peer d) ≡ join (state_of m) d.state
+joined m peer d =
+    ap state_after (appended m (State d.state))
+    ∙ (state_push (merges_of m.published ++ m.pending) (State d.state) ∙ ap (join (state_of m)) (lat-adds d.state))
+
 module _ (histories : Histories) (m : MergerView) (peer : ℕ) (d : Delta) where
-  -- what the merger has with the delta's state
   abbrev grown : Entries
   grown = state_of (with_delta m peer d)
-
-  joined : grown ≡ join (state_of m) d.state
-  joined =
-      ap state_after (appended m (State d.state))
-      ∙ (state_push (merges_of m.published ++ m.pending) (State d.state) ∙ ap (join (state_of m)) (lat-adds d.state))
 
   more : AtMost (state_of m) grown
   more = grows m (State d.state)
@@ -124,7 +124,7 @@ module _ (histories : Histories) (m : MergerView) (peer : ℕ) (d : Delta) where
         let before : AtMost (state_after (take from ms)) (state_of m) = subst (λ (n : ℕ). AtMost (state_after (take n ms)) (state_of m)) (ap (λ (e : Delta). e.start) of.is) start in
         let reaches = delta_reaches ms of.count s of.merges from (state_of m) (start_within s of.cursor) before in
         subst (λ (n : ℕ). AtMost (state_after (take n ms)) grown) (sym (ap (λ (e : Delta). e.end) of.is))
-        (subst (λ (x : Entries). AtMost (state_after (take s.number ms)) x) (sym (joined ∙ ap (λ (e : Delta). join (state_of m) e.state) of.is)) reaches)
+        (subst (λ (x : Entries). AtMost (state_after (take s.number ms)) x) (sym (joined m peer d ∙ ap (λ (e : Delta). join (state_of m) e.state) of.is)) reaches)
 
     moves : (held : Option Cursor) → IfSome held (Reaches histories peer (state_of m)) → fits held d ≡ true → Reaches histories peer grown (cursor_after held d)
     moves None reached fit = has_end (has_start None reached fit)
@@ -145,3 +145,11 @@ module _ (histories : Histories) (m : MergerView) (peer : ℕ) (d : Delta) where
     reached_with_delta reached fit other =
         subst (λ (o : Option Cursor). IfSome o (Reaches histories other grown)) (sym (map.get-insert nat_cmp_total m.cursors peer (cursor_after (map.get m.cursors peer) d) other))
         (at_peer reached fit other (eq_by_cmp nat_cmp other peer) refl)
+
+    -- what is published already makes it no greater, so the cursor may stand as far
+    pub reached_with_cursor : HasReached histories m → fits (map.get m.cursors peer) d ≡ true → IsKnown m d → HasReached histories (with_cursor m peer d)
+    reached_with_cursor reached fit known other =
+        let below : AtMost d.state (state_of m) = at_most_trans d.state (state_after (merges_of m.published)) (state_of m) known (state_more (merges_of m.published) m.pending) in
+        let back : AtMost grown (state_of m) =
+        subst (λ (x : Entries). AtMost x (state_of m)) (sym (joined m peer d)) (at_most_least (state_of m) d.state (state_of m) (at_most_refl (state_of m)) below) in
+        reaches_more histories other grown (state_of m) back (map.get (with_delta m peer d).cursors other) (reached_with_delta reached fit other)

@@ -21,12 +21,12 @@ use Rattle.published_index.specs.Stamping.{same_code, is_same_entry, stamp_with,
 
 -- ---- whether two entries are the same
 
-same_code-itself : (a : Gv) → same_code a a ≡ true
+pub same_code-itself : (a : Gv) → same_code a a ≡ true
 same_code-itself gnil = refl
 same_code-itself (gnum n) = (Decides-eqb n n).1 refl
 same_code-itself (gcons a b) = ap (λ (t : Bool). t && same_code b b) (same_code-itself a) ∙ same_code-itself b
 
-same_code-is : (a b : Gv) → same_code a b ≡ true → a ≡ b
+pub same_code-is : (a b : Gv) → same_code a b ≡ true → a ≡ b
 same_code-is gnil gnil is = refl
 same_code-is gnil (gnum n) is = absurd (true≢false (sym is))
 same_code-is gnil (gcons a b) is = absurd (true≢false (sym is))

@@ -3,6 +3,7 @@ pub mod Calls
 pub mod Cursors
 pub mod Changes
 pub mod Events
+pub mod Exchanges
 pub mod Faults
 pub mod Marks
 pub mod Passes

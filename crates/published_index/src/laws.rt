@@ -1,5 +1,5 @@
 //! Laws of what follows for one gate from its calls, and for the replies of two gates.
-ghost use Rattle.std.specs.Prelude.{◌≡◌, ℕ, ◌≤◌, [], ◌∷◌, ◌++◌, true, List, Contains, Some};
+ghost use Rattle.std.specs.Prelude.{◌≡◌, ◌⊎◌, ℕ, ◌+◌, ◌≤◌, [], ◌∷◌, ◌++◌, true, List, Contains, length, Some};
 ghost use Rattle.std.specs.Prelude.{IfSome, Ok, Option, fold};
 ghost use Rattle.std.specs.List.{flat_map};
 ghost use Rattle.std.specs.FinMap as finite;
@@ -19,10 +19,11 @@ ghost use Rattle.replica_events.specs.declared.event.Said.TheVariants.{Replied};
 ghost use Rattle.replica_events.specs.World.{World, Replica, Step, replica};
 ghost use Rattle.published_index.specs.Batches.{Batch, fold_of, merges_of};
 ghost use Rattle.published_index.specs.Calls.{Call, Learn, Answer, Calls};
-ghost use Rattle.published_index.specs.Cursors.{Histories, HasReached, IsDeltaOf};
+ghost use Rattle.published_index.specs.Cursors.{Histories, HasReached, IsDeltaOf, IsKnown};
 ghost use Rattle.published_index.specs.Cursors.{MergerCall, Publish, after_call, handed_by, merges_with_pending};
-ghost use Rattle.published_index.specs.Cursors.{receipt_of, with_delta, with_merge, with_publish};
+ghost use Rattle.published_index.specs.Cursors.{receipt_of, with_cursor, with_delta, with_merge, with_publish};
 ghost use Rattle.published_index.specs.Events.{AreNumbered, RunsAsEvents, after_batch};
+ghost use Rattle.published_index.specs.Exchanges.{AreExchanged, Has, IsMadeOf, filled, published_by};
 ghost use Rattle.published_index.specs.Replies.{IsReplyFrom};
 ghost use Rattle.published_index.specs.Passes.{Pass};
 ghost use Rattle.published_index.specs.Views.{MergerView};
@@ -94,12 +95,16 @@ pub fn same_state_same_reply()
 
 /// For each cursor that it holds, a merger has, published or pending, at least what the first so many merges of that
 /// peer's incarnation made. This holds for a merger without cursors, and it still holds after each delta of those
-/// merges that is appended, after every other merge, and after a publish.
+/// merges that is appended, after each that moves the cursor alone since all that it has is published, after every
+/// other merge, and after a publish.
 pub fn held_cursors_are_reached()
     ensures first { (histories : Histories) (m : MergerView) → m.cursors ≡ finite.empty → HasReached histories m }
     ensures delta { (histories : Histories) (m : MergerView) (peer : ℕ) (d : Delta) → HasReached histories m
         → IsDeltaOf histories peer d → fits (finite.get m.cursors peer) d ≡ true
         → HasReached histories (with_delta m peer d) }
+    ensures known { (histories : Histories) (m : MergerView) (peer : ℕ) (d : Delta) → HasReached histories m
+        → IsDeltaOf histories peer d → fits (finite.get m.cursors peer) d ≡ true → IsKnown m d
+        → HasReached histories (with_cursor m peer d) }
     ensures merge { (histories : Histories) (m : MergerView) (merge : Merge) → HasReached histories m
         → HasReached histories (with_merge m merge) }
     ensures publish { (histories : Histories) (m : MergerView) → HasReached histories m
@@ -116,4 +121,28 @@ pub fn deltas_follow_each_other()
         → d.end ≤ (delta_from s (finite.get (with_delta m peer d).cursors peer)).start }
     ensures others { (m : MergerView) (peer other : ℕ) (d : Delta) → ¬ (other ≡ peer)
         → finite.get (with_delta m peer d).cursors other ≡ finite.get m.cursors other }
+{}
+
+/// Mergers that get nothing but each other's deltas have a last merge: with whatever deltas of each other's, each
+/// publishes no more batches that have a merge than there are harvests that it hasn't published (`batches`), and once
+/// it has published all of them it takes no merge more (`silent`).
+///
+/// The harvests are those that one of the mergers has published: what each has is made of them (`made`), so is what
+/// each tells of it in a delta (`told`), and so is what each has published after such deltas (`stays`).
+pub fn exchanges_have_a_last_merge()
+    ensures batches { (harvests unknown : List Harvested) (m : MergerView) (calls : List MergerCall) → m.pending ≡ []
+        → AreExchanged harvests m calls
+        → ((h : Harvested) → Contains harvests h → Has (published_by m) h ⊎ Contains unknown h)
+        → length (filled (fold after_call m calls).published) ≤ length (filled m.published) + length unknown }
+    ensures silent { (harvests : List Harvested) (m : MergerView) (calls : List MergerCall)
+        → AreExchanged harvests m calls → ((h : Harvested) → Contains harvests h → Has (published_by m) h)
+        → merges_with_pending (fold after_call m calls) ≡ merges_with_pending m }
+    ensures made { (harvests : List Harvested) (m : MergerView)
+        → ((h : Harvested) → Contains (fold_of m.published) h → Contains harvests h)
+        → IsMadeOf harvests (published_by m) }
+    ensures told { (harvests : List Harvested) (s : StampedState) (held : Option Cursor) → IsMadeOf harvests s.entries
+        → IsMadeOf harvests (delta_from s held).state }
+    ensures stays { (harvests : List Harvested) (m : MergerView) (calls : List MergerCall) → m.pending ≡ []
+        → IsMadeOf harvests (published_by m) → AreExchanged harvests m calls
+        → IsMadeOf harvests (published_by (fold after_call m calls)) }
 {}

@@ -12,6 +12,8 @@
 //! - why it is right: `rules` (what the copies keep, step by step), `views` (what the rule knows about each reader
 //!   and about the writer), `asking` (a reader's step) and `writing` (the writer's);
 //! - laws: `laws` (of one gate's calls, and of the replies of two) and `pairs` (gates of two replicas).
+//!
+//! `crates/service_tests/src/uses.rt` publishes a harvest and asks a gate for it.
 #![tactic(auto)]
 
 mod asking;
@@ -32,10 +34,10 @@ pub use faults::{GateFault, OpenFault, PublishRefused};
 pub use gates::Gate;
 pub use laws::{
     a_publish_adds_its_batch, a_publish_is_events, an_entry_is_an_ask, answers_never_go_back,
-    deltas_follow_each_other, each_merge_is_published_once, held_cursors_are_reached,
-    same_state_same_reply, what_is_learnt_is_served,
+    deltas_follow_each_other, each_merge_is_published_once, exchanges_have_a_last_merge,
+    held_cursors_are_reached, same_state_same_reply, what_is_learnt_is_served,
 };
-pub use mergers::Merger;
+pub use mergers::{Merger, TakenAs};
 pub use openings::{MOST_GATES, open};
 pub use pairs::ask_both;
 pub use receipts::Receipt;

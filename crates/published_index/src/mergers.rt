@@ -5,7 +5,7 @@ ghost use Rattle.harvest_lattice.specs.Knowledge.{lat};
 ghost use Rattle.replica_exchange.specs.CursorRule as rule;
 ghost use Rattle.replica_exchange.specs.Stamps.{state_after};
 ghost use Rattle.published_index.specs.Batches.{fold_of, merges_of};
-ghost use Rattle.published_index.specs.Cursors.{receipt_of, with_merge, with_delta, with_publish};
+ghost use Rattle.published_index.specs.Cursors.{IsTaken, receipt_of, with_merge, with_delta, with_publish};
 ghost use Rattle.published_index.specs.Events.{AreNumbered, RunsAsEvents};
 
 use crate::faults::PublishRefused;
@@ -21,6 +21,15 @@ use replica_exchange::{Cursor, Cursors, Delta, TakeFault};
 use std::alloc::Global;
 use std::marker::{Brand, Model};
 use std::sync::Wait;
+
+/// What a delta was that a merger took.
+#[derive(Clone, Copy, Debug, PartialEq, Eq)]
+pub enum TakenAs {
+    /// It has something that wasn't published. It was appended.
+    News,
+    /// All of it was published. The peer's cursor alone was moved.
+    Known,
+}
 
 /// Takes in merges, and publishes all pending ones at once. Contracts see a merger as the list of batches that were
 /// published, one for each publish that succeeded; the batch of pending merges; and for each peer the cursor that says
@@ -103,6 +112,26 @@ impl Merger {
         };
         self.cursors = moved;
         Ok(())
+    }
+
+    /// Takes a peer's delta, if it starts at the beginning or within what the peer's cursor reaches. A delta that has
+    /// something that isn't published is appended as `append_delta` does. For any other delta the peer's cursor alone
+    /// is moved: that makes no merge, which would be told to peers. So mergers that get nothing but each other's deltas
+    /// fall silent (`exchanges_have_a_last_merge`).
+    ///
+    /// Takes time in the size of the delta, as far as its first entry that isn't published if it is appended.
+    pub fn take_delta(&mut self, peer: u64, delta: &Delta) -> Result<TakenAs, TakeFault>
+        ensures ok { IfOk result (λ taken. IsTaken taken self.old peer delta.now self.new) }
+        ensures fits { OnOk result (rule.fits (map.get self.old.cursors peer) delta.now ≡ true) }
+        ensures cause { IfErr result (λ fault. rule.IsTakeCause fault (map.get self.old.cursors peer) delta.now) }
+        ensures err { OnErr result (self.new ≡ self.old) }
+    {
+        if !delta.state.le(self.published_state()) {
+            self.append_delta(peer, delta)?;
+            return Ok(TakenAs::News);
+        }
+        self.cursors.take(peer, delta)?;
+        Ok(TakenAs::Known)
     }
 
     /// The state of everything that was published, and of nothing that is pending. While it is borrowed, nothing can be

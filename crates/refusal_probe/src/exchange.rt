@@ -1,7 +1,8 @@
 //! Two replicas that take a memento each, tell each other, and are asked. A delta is taken where the cursor reaches,
 //! and another is refused where none is held.
-use crate::makers::{FIRST_DAY, THIRD_DAY, get, harvest, octets, service};
+use crate::makers::{FIRST_DAY, THIRD_DAY, get, harvest, service};
 use anyhow::Result;
+use memento_time::Octets;
 use replica_world::{Event, World};
 use std::alloc::Global;
 use timegate::Request;
@@ -80,7 +81,7 @@ fn event(alloc: Global, step: Step) -> Result<Event> {
         Step::Send(replica) => Event::Send(replica),
         Step::SendFrom(replica, number) => Event::SendFrom(replica, number),
         Step::Deliver(replica, message) => Event::Deliver(replica, message),
-        Step::Receive(replica, bytes) => Event::Receive(replica, octets(alloc, bytes)?),
+        Step::Receive(replica, bytes) => Event::Receive(replica, Octets::from_slice(alloc, bytes)?),
         Step::Restart(replica) => Event::Restart(replica),
     })
 }

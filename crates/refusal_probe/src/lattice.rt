@@ -5,7 +5,7 @@ use harvest_lattice::{Entry, Harvest, Part, Row, State};
 use memento_index::{Index, Merge};
 use memento_sets::Mementos;
 use memento_time::{ArchiveName, Memento, Original, into_packed, packed};
-use refused_calls::{Tried, again, insist, share};
+use refused_calls::{Change, Tried, again, insist, share};
 use replica_exchange::read_state;
 use std::alloc::Global;
 
@@ -110,7 +110,11 @@ fn absorb(mut mine: Mementos, one: Mementos, other: Mementos) -> Tried {
     let is_answered = mine.absorb(one).is_ok();
     let is_as_before = mine.len() == 1;
     let is_repeated = !is_answered && mine.absorb(other).is_ok();
-    Tried::of_change(is_answered, is_as_before, is_repeated)
+    Tried::of_change(Change {
+        is_answered,
+        is_as_before,
+        is_repeated,
+    })
 }
 
 fn try_absorb(alloc: Global) -> Option<Tried> {
@@ -175,7 +179,11 @@ fn join_entry(standing: &Entry, coming: &Entry) -> Option<Tried> {
     let is_answered = entry.join(one).is_ok();
     let is_as_before = entry.le(standing) && standing.le(&entry);
     let is_repeated = !is_answered && entry.join(other).is_ok();
-    Some(Tried::of_change(is_answered, is_as_before, is_repeated))
+    Some(Tried::of_change(Change {
+        is_answered,
+        is_as_before,
+        is_repeated,
+    }))
 }
 
 fn row(known: &Known) -> Option<Row> {
@@ -316,7 +324,11 @@ fn try_state_change(known: &Known, call: StateChange) -> Option<Tried> {
     }
     let is_as_before = is_same(&state, &known.standing);
     let is_repeated = change_state(&mut state, known, call)?;
-    Some(Tried::of_change(false, is_as_before, is_repeated))
+    Some(Tried::of_change(Change {
+        is_answered: false,
+        is_as_before,
+        is_repeated,
+    }))
 }
 
 /// Calls that change an index.
@@ -353,7 +365,11 @@ fn try_index_change(known: &Known, call: IndexChange) -> Option<Tried> {
     }
     let is_as_before = stands(&index, known, &list);
     let is_repeated = change_index(&mut index, &coming, call)?;
-    Some(Tried::of_change(false, is_as_before, is_repeated))
+    Some(Tried::of_change(Change {
+        is_answered: false,
+        is_as_before,
+        is_repeated,
+    }))
 }
 
 /// Makes each call, and names it.

@@ -45,16 +45,11 @@ pub(crate) fn service(alloc: Global) -> Result<Service> {
     Ok(Service::new(alloc, "http://agg.example")?)
 }
 
-/// These bytes.
-pub(crate) fn octets(alloc: Global, bytes: &[u8]) -> Result<Octets> {
-    Ok(Octets::of(Vec::from_slice(alloc, bytes)?))
-}
-
 /// GET of this target, without a datetime.
 pub(crate) fn get(alloc: Global, target: &[u8]) -> Result<Request> {
     Ok(Request {
-        method: octets(alloc, b"GET")?,
-        target: octets(alloc, target)?,
+        method: Octets::from_slice(alloc, b"GET")?,
+        target: Octets::from_slice(alloc, target)?,
         asked: Items::of(Vec::new(alloc)),
     })
 }

@@ -3,7 +3,7 @@ use crate::lattice::STANDING;
 use crate::makers::{FIRST_DAY, get, harvest, service};
 use anyhow::Result;
 use memento_index::Merge;
-use refused_calls::{Tried, again, insist};
+use refused_calls::{Change, Tried, again, insist};
 use replica_exchange::{Cursors, Delta, Stamped, read_delta, read_state, write_delta, write_state};
 use replica_world::{Event, Question, World, asked_after};
 use std::alloc::Global;
@@ -134,7 +134,11 @@ fn absorb(replica: &Replica, is_beside: bool) -> Option<Tried> {
     }
     let is_as_before = stamped.number() == 0 && stamped.index().state().is_empty();
     let is_repeated = absorb_once(&mut stamped, replica, is_beside);
-    Some(Tried::of_change(false, is_as_before, is_repeated))
+    Some(Tried::of_change(Change {
+        is_answered: false,
+        is_as_before,
+        is_repeated,
+    }))
 }
 
 fn take(replica: &Replica) -> Option<Tried> {
@@ -142,7 +146,11 @@ fn take(replica: &Replica) -> Option<Tried> {
     let is_answered = cursors.take(1, &replica.delta).is_ok();
     let is_as_before = cursors.held(1).is_none();
     let is_repeated = !is_answered && cursors.take(1, &replica.delta).is_ok();
-    Some(Tried::of_change(is_answered, is_as_before, is_repeated))
+    Some(Tried::of_change(Change {
+        is_answered,
+        is_as_before,
+        is_repeated,
+    }))
 }
 
 fn advance_once(cursors: &mut Cursors, delta: &Delta) -> bool {
@@ -154,7 +162,11 @@ fn advance(replica: &Replica) -> Option<Tried> {
     let is_answered = advance_once(&mut cursors, &replica.delta);
     let is_as_before = cursors.held(1).is_none();
     let is_repeated = !is_answered && advance_once(&mut cursors, &replica.delta);
-    Some(Tried::of_change(is_answered, is_as_before, is_repeated))
+    Some(Tried::of_change(Change {
+        is_answered,
+        is_as_before,
+        is_repeated,
+    }))
 }
 
 fn new_world(replica: &Replica) -> Option<World> {
@@ -180,7 +192,11 @@ fn run(replica: &Replica) -> Option<Tried> {
     }
     let is_as_before = has_sent_nothing(&mut world);
     let is_repeated = world.run(&events).is_ok();
-    Some(Tried::of_change(false, is_as_before, is_repeated))
+    Some(Tried::of_change(Change {
+        is_answered: false,
+        is_as_before,
+        is_repeated,
+    }))
 }
 
 fn try_asked_after(replica: &Replica) -> Option<Tried> {

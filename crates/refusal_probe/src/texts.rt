@@ -1,12 +1,12 @@
 //! Calls over texts, links, URLs, pages and TimeMaps.
-use crate::makers::{FIRST_DAY, mementos, moment, octets, original, service};
+use crate::makers::{FIRST_DAY, mementos, moment, original, service};
 use anyhow::Result;
 use link_format::{
     LinkFault, LinkReader, is_name, is_target, is_value, read_links, write_param,
     write_plain_param, write_target,
 };
-use memento_time::{Clean, MementosBuilder, Original};
-use refused_calls::{Tried, insist, share};
+use memento_time::{Clean, MementosBuilder, Octets, Original};
+use refused_calls::{Change, Tried, insist, share};
 use std::alloc::Global;
 use std::sync::Arc;
 use text_fields::write_decimal;
@@ -139,7 +139,11 @@ fn try_writing(alloc: Global, call: Writing) -> Option<Tried> {
     let is_answered = write(&mut text, call);
     let is_as_before = text.as_slice() == b"<".as_slice();
     let is_repeated = !is_answered && write(&mut text, call);
-    Some(Tried::of_change(is_answered, is_as_before, is_repeated))
+    Some(Tried::of_change(Change {
+        is_answered,
+        is_as_before,
+        is_repeated,
+    }))
 }
 
 /// Calls on what reads or gathers step by step.
@@ -160,7 +164,11 @@ fn read_crowded(alloc: Global) -> Option<Tried> {
     let mut reader = LinkReader::new(alloc, &text);
     let is_answered = matches!(reader.read(), Err(LinkFault::TooManyParams));
     let is_repeated = matches!(reader.read(), Err(LinkFault::TooManyParams));
-    Some(Tried::of_change(is_answered, is_repeated, is_repeated))
+    Some(Tried::of_change(Change {
+        is_answered,
+        is_as_before: is_repeated,
+        is_repeated,
+    }))
 }
 
 /// Where adding a memento is refused the list has only the one before.
@@ -171,7 +179,11 @@ fn push(alloc: Global) -> Option<Tried> {
     let is_answered = builder.push(at, ROOT).is_ok();
     let is_repeated = !is_answered && builder.push(at, ROOT).is_ok();
     let list = builder.build(alloc).ok()?;
-    Some(Tried::of_change(is_answered, list.len() == 2, is_repeated))
+    Some(Tried::of_change(Change {
+        is_answered,
+        is_as_before: list.len() == 2,
+        is_repeated,
+    }))
 }
 
 /// The same, where what is added is a copy.
@@ -183,7 +195,11 @@ fn push_copy(alloc: Global) -> Option<Tried> {
     let is_answered = builder.push_copy(memento).is_ok();
     let is_repeated = !is_answered && builder.push_copy(memento).is_ok();
     let list = builder.build(alloc).ok()?;
-    Some(Tried::of_change(is_answered, list.len() == 2, is_repeated))
+    Some(Tried::of_change(Change {
+        is_answered,
+        is_as_before: list.len() == 2,
+        is_repeated,
+    }))
 }
 
 fn build(alloc: Global) -> Option<Tried> {
@@ -260,7 +276,7 @@ fn copy_memento(alloc: Global) -> Option<bool> {
 
 fn copy(alloc: Global, call: Copying) -> Option<Tried> {
     let is_answered = match call {
-        Copying::OctetsTryClone => octets(alloc, URI).ok()?.try_clone().is_ok(),
+        Copying::OctetsTryClone => Octets::from_slice(alloc, URI).ok()?.try_clone().is_ok(),
         Copying::CleanPacked | Copying::CleanPart | Copying::OriginalPart => {
             copy_part(alloc, call)?
         }

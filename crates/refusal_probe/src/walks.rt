@@ -1,12 +1,11 @@
 //! A walk over three pages of a TimeMap, of which a fourth is lost, and rounds of such walks.
-use crate::makers::octets;
 use anyhow::{Context, Result, bail};
 use harvester::{
     Answer, Fetch, Job, MAX_WORKERS, MemoryFetch, Outcome, WalkFault, have_first_urls, run_round,
     walk,
 };
-use memento_time::{ArchiveName, Clean, Items, Original};
-use refused_calls::Tried;
+use memento_time::{ArchiveName, Clean, Items, Octets, Original};
+use refused_calls::{Change, Tried};
 use std::alloc::{AllocGlobal, Global};
 use std::io::Write;
 use std::net::{Net, TcpListener, TcpStream};
@@ -82,12 +81,12 @@ fn job(alloc: Global, first: &[u8]) -> Result<Job> {
 
 /// An answer with this body, of which it is said that it isn't coded.
 fn answer(alloc: Global, body: &[u8]) -> Result<Answer> {
-    let identity = octets(alloc, b"identity")?;
+    let identity = Octets::from_slice(alloc, b"identity")?;
     Ok(Answer {
         status: 200,
         encoding: Items::of(vec![in alloc; identity]?),
         retry_after: Items::of(Vec::new(alloc)),
-        body: octets(alloc, body)?,
+        body: Octets::from_slice(alloc, body)?,
     })
 }
 
@@ -211,5 +210,9 @@ where
     }
     let is_as_before = fetch.fetch(rt, &url).is_err();
     let is_repeated = add(&mut fetch, alloc, b"http://arc.example/i", b"x").is_ok();
-    Some(Tried::of_change(false, is_as_before, is_repeated))
+    Some(Tried::of_change(Change {
+        is_answered: false,
+        is_as_before,
+        is_repeated,
+    }))
 }

@@ -25,27 +25,41 @@ pub enum Tried {
     Changed,
 }
 
+/// What became of what a call was made on.
+#[derive(Clone, Copy, Debug)]
+pub struct Change {
+    /// The call was answered.
+    pub is_answered: bool,
+    /// All was as before where it wasn't.
+    pub is_as_before: bool,
+    /// The same call was answered then.
+    pub is_repeated: bool,
+}
+
 impl Tried {
     /// What came of a call that changes nothing.
     pub fn of(is_answered: bool) -> Tried
         ensures { result ≡ cond is_answered Answered Refused }
     {
-        Tried::of_change(is_answered, true, false)
+        Tried::of_change(Change {
+            is_answered,
+            is_as_before: true,
+            is_repeated: false,
+        })
     }
 
-    /// What came of a call that changes something: whether it was answered, whether all was as before where it wasn't,
-    /// and whether it was answered then.
-    pub fn of_change(is_answered: bool, is_as_before: bool, is_repeated: bool) -> Tried
-        ensures answered { is_answered ≡ true → result ≡ Answered }
-        ensures changed { is_answered ≡ false → is_as_before ≡ false → result ≡ Changed }
-        ensures repeated { is_answered ≡ false → is_as_before ≡ true
-            → result ≡ cond is_repeated Repeated Refused }
+    /// What came of a call that changes something.
+    pub fn of_change(change: Change) -> Tried
+        ensures answered { change.is_answered ≡ true → result ≡ Answered }
+        ensures changed { change.is_answered ≡ false → change.is_as_before ≡ false → result ≡ Changed }
+        ensures repeated { change.is_answered ≡ false → change.is_as_before ≡ true
+            → result ≡ cond change.is_repeated Repeated Refused }
     {
-        if is_answered {
+        if change.is_answered {
             Tried::Answered
-        } else if !is_as_before {
+        } else if !change.is_as_before {
             Tried::Changed
-        } else if is_repeated {
+        } else if change.is_repeated {
             Tried::Repeated
         } else {
             Tried::Refused

@@ -24,19 +24,6 @@ use Rattle.replica_exchange.specs.Spelling.{Spelling, Begins, Refuses, value_and
 abbrev pub Once : {A : Type 0} → Spelling A → Type 0
 Once {A} s = (text : List ℕ) (x y : A) (r t : List ℕ) → Begins s text x r → Begins s text y t → (x ≡ y) × (r ≡ t)
 
--- ---- given bytes in front
-
-pub front_found : (text front rest : List ℕ) → pointwise nat_eq (take (length front) text) front ≡ true → rest ≡ drop (length front) text → text ≡ front ++ rest
-front_found text front rest test left =
-    let same : take (length front) text ≡ front = (bytes_eq-Decides (take (length front) text) front).0 test in
-    sym (take-append-drop (length front) text) ∙ (λ i. same i ++ sym left i)
-
-pub front_refused : (text front : List ℕ) → pointwise nat_eq (take (length front) text) front ≡ false → (rest : List ℕ) → ¬ (text ≡ front ++ rest)
-front_refused text front test rest whole =
-    let same : take (length front) text ≡ front = ap (take (length front)) whole ∙ take_at front rest (length front) refl in
-    let passes : pointwise nat_eq (take (length front) text) front ≡ true = (bytes_eq-Decides (take (length front) text) front).1 same in
-    absurd (let both : true ≡ false = sym passes ∙ test in cc)
-
 -- ---- a value and the byte that ends it
 
 -- a field and its end are apart from what follows

@@ -1,5 +1,5 @@
 -- States that are appended one after the other.
-use Rattle.std.proofs.Common.{inr, ◌≡◌, List, [], ◌∷◌, ◌++◌, refl, sym, ap, ◌∙◌, map, append_assoc, append-nil}
+use Rattle.std.proofs.Common.{inr, ◌≡◌, ℕ, List, [], ◌∷◌, ◌++◌, refl, sym, ap, ◌∙◌, map, append_assoc, append-nil}
 use Rattle.harvest_lattice.specs.Lattice.{Entries}
 use Rattle.memento_index.specs.declared.merge.Merge.{Merge}
 use Rattle.memento_index.specs.declared.merge.Merge.TheVariants.{State}
@@ -25,5 +25,5 @@ one_state_more m n states state so =
     ∙ ap (λ (merges : List Merge). m.pending ++ merges) (sym (map_push states state)))
 
 -- where nothing is read, nothing changes
-pub nothing_is_added : (m : MergerView) → Starts m m
-nothing_is_added m = ([], inr (record { taken = []; left = []; split = refl; merger = no_state_more m }))
+pub nothing_is_added : (last : ℕ) (m : MergerView) → Starts last m m
+nothing_is_added last m = ([], inr (record { first = []; left = []; split = refl; merger = no_state_more m }))

@@ -1,1 +1,3 @@
+mod AheadLemmas
 mod KeepingLemmas
+mod Pauses

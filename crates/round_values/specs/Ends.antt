@@ -4,6 +4,8 @@ use Rattle.harvest_lattice.specs.Knowledge.{Harvested}
 use Rattle.harvester.specs.declared.faults.WalkFault.{WalkFault}
 use Rattle.outgoing_requests.specs.declared.faults.PullFault.TheVariants as pulled
 use Rattle.replica_exchange.specs.declared.cursor.TakeFault.TheVariants as taken
+use Rattle.published_index.specs.declared.mergers.TakenAs.{TakenAs}
+use Rattle.published_index.specs.declared.mergers.TakenAs.TheVariants as delta
 use Rattle.service_status.specs.declared.counts.WalkEnd.{WalkEnd}
 use Rattle.service_status.specs.declared.counts.WalkEnd.TheVariants as walk
 use Rattle.service_status.specs.declared.counts.PullEnd.{PullEnd}
@@ -41,6 +43,7 @@ fault_end (peer.Take (taken.Gap held)) = pull.Gap
 fault_end (peer.Take taken.NoMemory) = pull.NoMemory
 
 -- how a pull ended
-abbrev pub pull_end : Result Unit PeerFault → PullEnd
-pull_end (Ok done) = pull.News
+abbrev pub pull_end : Result TakenAs PeerFault → PullEnd
+pull_end (Ok delta.News) = pull.News
+pull_end (Ok delta.Known) = pull.NoNews
 pull_end (Err fault) = fault_end fault

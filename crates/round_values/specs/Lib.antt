@@ -1,9 +1,14 @@
+pub mod Absences
+pub mod Ahead
+pub mod Counts
 pub mod Dues
 pub mod Ends
 pub mod Freshness
 pub mod Keeping
+pub mod Leads
 pub mod Lines
 pub mod Notes
 pub mod Pulls
 pub mod Reasons
+pub mod Revisions
 pub mod Wishes

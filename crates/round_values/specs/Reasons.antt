@@ -11,6 +11,7 @@ use Rattle.service_status.specs.Counts.{one_more}
 abbrev pub reason_of : WalkFault → Reason
 reason_of (fault.Fetch fetch.TooLong) = reason.TooLong
 reason_of (fault.Fetch fetch.Failed) = reason.NoAnswer
+reason_of (fault.Fetch fetch.Broken) = reason.NoAnswer
 reason_of (fault.Fetch fetch.NoMemory) = reason.NoMemory
 reason_of (fault.Status status) = reason.Status
 reason_of fault.Encoded = reason.Encoded

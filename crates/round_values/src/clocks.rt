@@ -3,25 +3,18 @@ ghost use Rattle.std.specs.Prelude.{◌≡◌, ◌-◌, ◌^◌, min};
 ghost use Rattle.std.specs.Duration.{as_nanos};
 
 use crate::times::Second;
-use std::time::{Clock, Duration, SystemTime, UNIX_EPOCH};
+use memento_time::passed_since_1970;
+use std::time::{Clock, Duration};
 
 /// The second in which harvests that begin now are made: 0 before 1970 or without a clock.
 pub fn second_now(rt: &impl Clock) -> Second {
-    Second(passed_since_1970(rt).as_secs())
+    Second(memento_time::second_now(rt))
 }
 
 /// The incarnation of a replica that starts now: the clock's nanoseconds since 1970, or 0 before 1970 or without a
 /// clock.
 pub fn incarnation_now(rt: &impl Clock) -> u64 {
     incarnation_after(passed_since_1970(rt))
-}
-
-/// The time that has passed since 1970; zero before 1970 or without a clock.
-fn passed_since_1970(rt: &impl Clock) -> Duration {
-    let Ok(now) = SystemTime::now(rt) else {
-        return Duration::ZERO;
-    };
-    now.duration_since(UNIX_EPOCH).unwrap_or(Duration::ZERO)
 }
 
 /// The incarnation of a replica that starts this long after the start of 1970: the nanoseconds, as far as 64 bits can

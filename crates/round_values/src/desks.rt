@@ -7,7 +7,7 @@ use crate::wished::is_overdue;
 use memento_time::{NoMemory, Original};
 use service_log::WishCounts;
 use std::alloc::{AllocError, Global};
-use wish_list::{Answer, Ask, Ended, WishJobs};
+use wish_list::{Ask, Ended, WishAnswer, WishJobs};
 
 /// How many milliseconds what wishes bring waits for more of it before it is published.
 const GATHER: u64 = 20;
@@ -24,10 +24,38 @@ const TELL: u64 = 60_000;
 /// The most milliseconds that a new wish waits before it is looked at.
 const LOOK: u64 = 50;
 
+/// Where a wish's job stands.
+#[derive(Clone, Copy, Debug)]
+enum Place {
+    /// Its archive wasn't asked for it yet.
+    First(Ask),
+    /// Its archive was busy: the place among the jobs that come again.
+    Again(usize),
+}
+
+/// A job of a wish.
+#[derive(Drop)]
+pub struct WishJob {
+    pub archive: usize,
+    pub original: Original,
+    place: Place,
+}
+
+/// A job of a wish that comes again, since its archive was busy.
+#[derive(Drop)]
+struct Again {
+    archive: usize,
+    original: Original,
+}
+
 /// Granted wishes, and how far they are.
 #[derive(Drop)]
 pub struct Desk {
     jobs: WishJobs,
+    /// The jobs whose archives were busy, in the order in which they come again. Meanwhile they count as asked for.
+    again: Vec<Again>,
+    /// For each archive, since when wishes wait for a time that it named, if they do.
+    aside: Vec<Option<Millis>>,
     /// For each archive, whether it may be asked, as far as was tried.
     may: Vec<bool>,
     /// For each archive, since when wishes wait for it, if it couldn't be asked when that was tried last.
@@ -51,12 +79,16 @@ impl Desk {
     pub fn new(alloc: Global, archives: usize) -> Result<Desk, AllocError> {
         let mut may = Vec::with_capacity(alloc, archives)?;
         let mut refused = Vec::with_capacity(alloc, archives)?;
+        let mut aside = Vec::with_capacity(alloc, archives)?;
         for _ in 0..archives {
             may.push(false)?;
             refused.push(None)?;
+            aside.push(None)?;
         }
         Ok(Desk {
             jobs: WishJobs::new(alloc),
+            again: Vec::new(alloc),
+            aside,
             may,
             refused,
             spellings: Vec::new(alloc),
@@ -101,11 +133,39 @@ impl Desk {
         }
     }
 
-    /// The next job of an archive that may be asked, and its original.
-    pub fn next(&self) -> Option<(Ask, Original)> {
-        let ask = self.jobs.next(&self.may)?;
+    /// Whether wishes stand on the desk.
+    pub fn has_wishes(&self) -> bool {
+        self.jobs.len() > 0
+    }
+
+    /// The next job of an archive that may be asked: that of the oldest wish, or else one that comes again. So an
+    /// original for which an archive is busy each time keeps no other wish from it.
+    pub fn next(&self) -> Option<WishJob> {
+        let Some(ask) = self.jobs.next(&self.may) else {
+            return self.next_again();
+        };
         let original = self.jobs.original(ask.wish)?.try_clone().ok()?;
-        Some((ask, original))
+        Some(WishJob {
+            archive: ask.archive,
+            original,
+            place: Place::First(ask),
+        })
+    }
+
+    /// The next job that comes again.
+    fn next_again(&self) -> Option<WishJob> {
+        let place = self.again.iter().position(|job| self.may_ask(job.archive))?;
+        let job = self.again.get(place)?;
+        Some(WishJob {
+            archive: job.archive,
+            original: job.original.try_clone().ok()?,
+            place: Place::Again(place),
+        })
+    }
+
+    /// Whether the archive may be asked, as far as was tried.
+    fn may_ask(&self, archive: usize) -> bool {
+        matches!(self.may.get(archive), Some(true))
     }
 
     /// The archive can't be asked now.
@@ -118,17 +178,52 @@ impl Desk {
         }
     }
 
-    /// The archive is asked. Returns whether it was to be.
-    pub fn ask(&mut self, ask: Ask) -> bool {
-        if let Some(refused) = self.refused.get_mut(ask.archive) {
+    /// The archive of a job that `next` gave is asked.
+    pub fn ask(&mut self, job: &WishJob) {
+        if let Some(refused) = self.refused.get_mut(job.archive) {
             *refused = None;
         }
-        self.jobs.ask(ask)
+        match job.place {
+            Place::First(ask) => {
+                let _ = self.jobs.ask(ask);
+            }
+            Place::Again(place) => {
+                if place < self.again.len() {
+                    self.again.remove(place);
+                }
+            }
+        }
     }
 
-    /// The archive answers for an original.
-    pub fn answer(&mut self, original: &Original, archive: usize, answer: Answer) {
+    /// The archive answers for an original. Nobody waits for a time that it named before.
+    pub fn answer(&mut self, original: &Original, archive: usize, answer: WishAnswer) {
+        if let Some(aside) = self.aside.get_mut(archive) {
+            *aside = None;
+        }
         let _ = self.jobs.answer(original, archive, answer);
+    }
+
+    /// The job of the archive for an original comes again. Returns whether there was memory for it.
+    pub fn add_again(&mut self, original: &Original, archive: usize) -> bool {
+        match original.try_clone() {
+            Ok(original) => self.again.push(Again { archive, original }).is_ok(),
+            Err(_) => false,
+        }
+    }
+
+    /// Since when wishes wait for a time that the archive named, if they do.
+    pub fn aside_since(&self, archive: usize) -> Option<Millis> {
+        *self.aside.get(archive)?
+    }
+
+    /// Wishes wait for a time that the archive named. How long it can't be asked counts from that time on.
+    pub fn wait_for(&mut self, archive: usize, now: Millis) {
+        if let Some(aside) = self.aside.get_mut(archive) {
+            *aside = Some(aside.unwrap_or(now));
+        }
+        if let Some(refused) = self.refused.get_mut(archive) {
+            *refused = None;
+        }
     }
 
     /// Whether wishes have waited for the archive for so many milliseconds.
@@ -144,11 +239,28 @@ impl Desk {
         matches!(self.may.get(archive), Some(false))
     }
 
-    /// No wish waits for the archive any longer.
+    /// No wish waits for the archive any longer. Where it was asked it gave no harvest.
     pub fn skip(&mut self, archive: usize) {
         self.jobs.skip(archive);
+        self.end_again(archive);
         if let Some(refused) = self.refused.get_mut(archive) {
             *refused = None;
+        }
+        if let Some(aside) = self.aside.get_mut(archive) {
+            *aside = None;
+        }
+    }
+
+    /// No job of the archive comes again.
+    fn end_again(&mut self, archive: usize) {
+        for _ in 0..self.again.len() {
+            let Some(place) = self.again.iter().position(|job| job.archive == archive) else {
+                return;
+            };
+            let job = self.again.remove(place);
+            let _ = self
+                .jobs
+                .answer(&job.original, archive, WishAnswer::NoHarvest);
         }
     }
 
@@ -218,6 +330,11 @@ impl Desk {
         if is_found {
             self.counts.found = self.counts.found.saturating_add(1);
         }
+    }
+
+    /// Counts a walk for a wish that failed.
+    pub fn count_failed(&mut self) {
+        self.counts.failed = self.counts.failed.saturating_add(1);
     }
 
     /// What the log is to be told now, if it is to be told of wishes.

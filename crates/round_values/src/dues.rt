@@ -40,7 +40,7 @@ pub struct Due {
 
 impl Due {
     /// What is due each time that so many seconds have passed, from this moment on.
-    pub(crate) fn of_seconds(seconds: Option<u64>, now: Millis) -> Due {
+    pub fn of_seconds(seconds: Option<u64>, now: Millis) -> Due {
         Due {
             every: seconds.map(|seconds| seconds.saturating_mul(1_000)),
             last: now,

@@ -6,6 +6,7 @@ use crate::reasons::reason_of;
 use harvest_lattice::Harvest;
 use harvester::WalkFault;
 use outgoing_requests::PullFault;
+use published_index::TakenAs;
 use replica_exchange::TakeFault;
 use service_log::{PeerFault, Reason};
 use service_status::{PullEnd, WalkEnd};
@@ -53,11 +54,12 @@ fn fault_end(fault: PeerFault) -> PullEnd
 }
 
 /// How a pull ended whose delta was taken, unless there is a fault.
-pub fn pull_end(taken: &Result<(), PeerFault>) -> PullEnd
+pub fn pull_end(taken: &Result<TakenAs, PeerFault>) -> PullEnd
     ensures { result ≡ spec.pull_end taken.now }
 {
     match taken {
-        Ok(()) => PullEnd::News,
+        Ok(TakenAs::News) => PullEnd::News,
+        Ok(TakenAs::Known) => PullEnd::NoNews,
         Err(fault) => fault_end(*fault),
     }
 }

@@ -7,7 +7,7 @@ use harvest_lattice::Entry;
 use service_settings::Timing;
 
 /// Whether what was looked at in this second is less than so many seconds old, or as little ahead of the clock.
-fn is_young(seen: Second, now: Second, seconds: Option<u64>) -> bool
+pub(crate) fn is_young(seen: Second, now: Second, seconds: Option<u64>) -> bool
     ensures { IsTrue result ↔ IsYoung seen.0 now.0 seconds }
 {
     match seconds {

@@ -24,7 +24,7 @@ pub(crate) fn reason_of(fault: WalkFault) -> Reason
 {
     match fault {
         WalkFault::Fetch(FetchFault::TooLong) => Reason::TooLong,
-        WalkFault::Fetch(FetchFault::Failed) => Reason::NoAnswer,
+        WalkFault::Fetch(FetchFault::Failed | FetchFault::Broken) => Reason::NoAnswer,
         WalkFault::Fetch(FetchFault::NoMemory) | WalkFault::NoMemory => Reason::NoMemory,
         WalkFault::Status(_) => Reason::Status,
         WalkFault::Encoded => Reason::Encoded,

@@ -3,27 +3,31 @@ ghost use Rattle.std.specs.Prelude.{◌≡◌, ◌⊎◌, ◌↔◌, ◌≤◌, 
 ghost use Rattle.memento_sets.specs.Sets as set;
 ghost use Rattle.round_values.specs.Dues.{IsDueAt};
 ghost use Rattle.round_values.specs.Wishes as spec;
-ghost use Rattle.round_values.specs.Wishes.{IsLeftAlone};
+ghost use Rattle.round_values.specs.Wishes.{IsLeftAlone, IsWaitedFor};
 
 use crate::times::Millis;
 use harvest_lattice::Harvest;
 use harvest_schedule::Mood;
 use harvester::WalkFault;
 use service_settings::Timing;
-use wish_list::Answer;
+use wish_list::WishAnswer;
 
 /// For how many seconds what is known isn't asked for again by wishes, where the settings don't say it.
 pub const DEFAULT_AGAIN: u64 = 86_400;
 
+/// For how many milliseconds wishes wait at most for an archive that is busy. Whoever asked on the page of an unknown
+/// original is told for about one and a half minutes what comes.
+const MOST_WAIT: u64 = 60_000;
+
 /// What an archive gave that was asked for a wish. A part of nothing is no harvest.
-pub fn answer_to(walked: &Result<Harvest, WalkFault>) -> Answer
+pub fn answer_to(walked: &Result<Harvest, WalkFault>) -> WishAnswer
     ensures { result ≡ spec.answer_to walked.now }
 {
     match walked {
-        Ok(harvest) if !harvest.mementos().is_empty() => Answer::Copies,
-        Ok(harvest) if harvest.is_part() => Answer::NoHarvest,
-        Ok(_) => Answer::NoCopies,
-        Err(_) => Answer::NoHarvest,
+        Ok(harvest) if !harvest.mementos().is_empty() => WishAnswer::Copies,
+        Ok(harvest) if harvest.is_part() => WishAnswer::NoHarvest,
+        Ok(_) => WishAnswer::NoCopies,
+        Err(_) => WishAnswer::NoHarvest,
     }
 }
 
@@ -43,6 +47,7 @@ pub fn wish_timing(timing: Timing) -> Timing
     Timing {
         again: Some(again),
         again_none: Some(timing.again_none.unwrap_or(again)),
+        ahead: timing.ahead,
         publish: timing.publish,
         pull: timing.pull,
     }
@@ -58,6 +63,27 @@ pub fn is_left_alone(mood: Option<Mood>, now: Millis) -> bool
     match mood.asked_from() {
         Some(until) => now.0 < until,
         None => false,
+    }
+}
+
+/// Whether wishes wait for an archive that isn't asked before a later time, where some do so since a moment: it named
+/// the time, and no wish waits longer than a minute in all. One that is dormant isn't waited for.
+pub fn is_waited_for(mood: Option<Mood>, since: Option<Millis>, now: Millis) -> bool
+    ensures { IsTrue result ↔ IsWaitedFor now.0 (option_map (λ since. since.0) since) mood }
+{
+    let since = match since {
+        Some(since) => since,
+        None => now,
+    };
+    match mood {
+        Some(Mood::Aside { until, failed: _ }) => until <= since.after(MOST_WAIT).0,
+        Some(
+            Mood::Awake { failed: _ }
+            | Mood::Tried { failed: _ }
+            | Mood::Dormant { until: _, named: _ }
+            | Mood::Probed,
+        )
+        | None => false,
     }
 }
 

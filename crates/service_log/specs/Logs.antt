@@ -1,34 +1,37 @@
 -- The lines of the log.
-use Rattle.std.specs.Prelude.{ℕ, List, ◌++◌, codes}
+use Rattle.std.specs.Prelude.{ℕ, List, ◌++◌, ◌==◌, codes, if◌then◌else◌}
 use Rattle.std.specs.Fmt.{decimal}
 use Rattle.harvester.specs.Faults.{walk_words}
-use Rattle.hyper_edge.specs.Faults.{edge_words}
+use Rattle.gate_server.specs.Faults.{edge_words}
 use Rattle.outgoing_requests.specs.Faults.{pull_words}
 use Rattle.published_index.specs.Faults.{refused_words}
 use Rattle.replica_exchange.specs.CursorRule as rule
 use Rattle.snapshots.specs.Faults.{words_of as unread_words}
 use Rattle.snapshots.specs.declared.faults.WriteFault.TheVariants as unwritten
 use Rattle.service_log.specs.Counts.{counts_words}
+use Rattle.service_log.specs.Forgotten.{forgotten_words, withdrawn_words}
 use Rattle.service_log.specs.declared.lines.PeerFault.{PeerFault}
 use Rattle.service_log.specs.declared.lines.PeerFault.TheVariants.{Pull, Take}
 use Rattle.service_log.specs.declared.lines.Cause.{Cause}
 use Rattle.service_log.specs.declared.lines.Cause.TheVariants.{Known, Unknown}
 use Rattle.service_log.specs.declared.lines.Matter.{Matter}
-use Rattle.service_log.specs.declared.lines.Matter.TheVariants.{Failed, Parts, Reason as For, Dormant, Awake, Left, Emptied}
+use Rattle.service_log.specs.declared.lines.Matter.TheVariants.{Failed, Parts, Reason as For, Dormant, Aside as LeftAlone, Awake, Left, Emptied}
 use Rattle.service_log.specs.declared.lines.Reason.{Reason}
 use Rattle.service_log.specs.declared.lines.Reason.TheVariants as reason
 use Rattle.service_log.specs.declared.lines.Dormancy.{Dormancy}
+use Rattle.service_log.specs.declared.lines.JobsLeft.{JobsLeft}
+use Rattle.service_log.specs.declared.lines.Respite.{Respite}
 use Rattle.service_log.specs.declared.lines.Progress.{Progress}
 use Rattle.service_log.specs.declared.lines.Greeting.{Greeting}
 use Rattle.service_log.specs.declared.lines.Want.{Want}
 use Rattle.service_log.specs.declared.lines.Want.TheVariants as want
 use Rattle.service_log.specs.declared.lines.SnapshotEnd.{SnapshotEnd}
-use Rattle.service_log.specs.declared.lines.SnapshotEnd.TheVariants.{TakenIn, Aside, Unread, Unwritten}
+use Rattle.service_log.specs.declared.lines.SnapshotEnd.TheVariants.{TakenIn, AheadAside, AheadUnread, Aside, Unread, Unwritten}
 use Rattle.service_log.specs.declared.lines.GateEnd.{GateEnd}
 use Rattle.service_log.specs.declared.lines.GateEnd.TheVariants as end
 use Rattle.service_log.specs.declared.lines.Line.{Line}
 use Rattle.service_log.specs.declared.lines.Line.TheVariants.{Archive, Wanting, Peer, Unpublished, Output, Gate, Status, Start, Snapshot}
-use Rattle.service_log.specs.declared.lines.Line.TheVariants.{Progress as Goes, Wishes, List as Of_list}
+use Rattle.service_log.specs.declared.lines.Line.TheVariants.{Progress as Goes, Wishes, List as Of_list, Forgotten as Of_forgotten, Unforgotten, Withdrawn}
 use Rattle.service_log.specs.declared.lines.ListMatter.{ListMatter}
 use Rattle.service_log.specs.declared.lines.ListMatter.TheVariants.{Bad, More, Unread, Unreadable, NoMemory}
 use Rattle.service_log.specs.declared.lines.WishCounts.{WishCounts}
@@ -60,6 +63,14 @@ dormancy_words dormancy =
     decimal dormancy.failures ++ codes " failures in a row, not asked for " ++ decimal dormancy.seconds
     ++ codes " seconds, jobs left: " ++ decimal dormancy.left
 
+-- how many jobs are left
+abbrev pub left_words : JobsLeft → List ℕ
+left_words left = codes ", jobs left: " ++ decimal left.0
+
+-- for how long an archive is left alone
+abbrev pub respite_words : Respite → List ℕ
+respite_words respite = decimal respite.seconds ++ codes " seconds" ++ left_words respite.left
+
 -- how far a round is
 abbrev pub progress_words : Progress → List ℕ
 progress_words progress =
@@ -76,19 +87,27 @@ matter_words (Failed counts cause) = counts_words counts ++ cause_words cause
 matter_words (Parts parts) = decimal parts ++ codes " harvests in part"
 matter_words (For count why) = decimal count ++ codes " failed: " ++ reason_words why
 matter_words (Dormant dormancy) = dormancy_words dormancy
+matter_words (LeftAlone respite) = codes "busy, not asked for " ++ respite_words respite
 matter_words (Awake left) = codes "answers again, jobs left: " ++ decimal left
 matter_words (Left left) = decimal left ++ codes " walks not begun: it isn't asked"
 matter_words (Emptied count) = decimal count ++ codes " originals lost all their copies"
 
--- what there was no memory or no room for
+-- what wasn't done, and why
 abbrev pub want_words : Want → List ℕ
 want_words want.Walks = codes "walks not begun: no memory"
 want_words want.Harvests = codes "harvests not kept: no memory"
 want_words want.Room = codes "wishes turned away: no room"
+want_words want.Clock = codes "harvests not taken: ahead of this clock"
+want_words want.Mementos = codes "wished harvests dropped: too many mementos"
 
--- how many wishes are over, and of how many something is shown
+-- how many walks for wishes failed, if any did
+abbrev pub failed_words : ℕ → List ℕ
+failed_words failed = if failed == 0 then codes "" else codes ", " ++ decimal failed ++ codes " walks failed"
+
+-- how many wishes are over, of how many something is shown, and how many walks failed
 abbrev pub wish_words : WishCounts → List ℕ
-wish_words counts = decimal counts.found ++ codes " of " ++ decimal counts.ended ++ codes " found"
+wish_words counts =
+    decimal counts.found ++ codes " of " ++ decimal counts.ended ++ codes " found" ++ failed_words counts.failed
 
 -- what is told of the file of originals
 abbrev pub list_words : ListMatter → List ℕ
@@ -105,6 +124,8 @@ list_line matter = codes "list: " ++ list_words matter ++ codes "\n"
 -- what became of a snapshot
 abbrev pub snapshot_words : SnapshotEnd → List ℕ
 snapshot_words TakenIn = codes "taken in"
+snapshot_words (AheadAside count) = decimal count ++ codes " harvests not taken in: ahead of this clock, and set aside"
+snapshot_words (AheadUnread count) = decimal count ++ codes " harvests not taken in: ahead of this clock, and not set aside"
 snapshot_words (Aside fault) = unread_words fault ++ codes ", and set aside"
 snapshot_words (Unread fault) = unread_words fault ++ codes ", and not set aside"
 snapshot_words (Unwritten unwritten.NotWritten) = codes "not written"
@@ -130,6 +151,9 @@ line_words (Start greeting) = codes "start: " ++ greeting_words greeting
 line_words (Wishes counts) = codes "wishes: " ++ wish_words counts
 line_words (Of_list round matter) = codes "round " ++ decimal round ++ codes ": list: " ++ list_words matter
 line_words (Snapshot end) = codes "snapshot: " ++ snapshot_words end
+line_words (Of_forgotten forgotten) = codes "forgotten: " ++ forgotten_words forgotten
+line_words Unforgotten = codes "nothing is forgotten: no memory"
+line_words (Withdrawn matter) = codes "withdrawn: " ++ withdrawn_words matter
 line_words Output = codes "standard output fails: no further round is made"
 line_words (Gate number address end) =
     codes "gate " ++ decimal number ++ codes " (" ++ address.now ++ codes ") ended: " ++ end_words end

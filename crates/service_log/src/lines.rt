@@ -2,11 +2,12 @@
 ghost use Rattle.std.specs.Prelude.{◌≡◌, Some};
 ghost use Rattle.service_log.specs.Logs.{cause_words, end_words, line_words, matter_words, peer_words, want_words};
 ghost use Rattle.service_log.specs.Logs.{dormancy_words, greeting_words, progress_words, reason_words, snapshot_words};
-ghost use Rattle.service_log.specs.Logs.{list_words, wish_words};
+ghost use Rattle.service_log.specs.Logs.{left_words, list_words, respite_words, wish_words};
 
 use crate::counts::Counts;
+use crate::forgotten::{Forgotten, WithdrawnMatter};
+use gate_server::EdgeFault;
 use harvester::WalkFault;
-use hyper_edge::EdgeFault;
 use memento_time::ArchiveName;
 use outgoing_requests::PullFault;
 use published_index::PublishRefused;
@@ -64,6 +65,8 @@ pub enum Matter<'a> {
     Reason { count: u64, reason: Reason },
     /// After so many failures in a row it isn't asked for so many seconds, and so many jobs are left.
     Dormant(Dormancy),
+    /// It asked to be left alone for so many seconds, and so many jobs are left.
+    Aside(Respite),
     /// It has answered again, and so many jobs are left.
     Awake(u64),
     /// This many jobs were left when the round ended, since the archive was dormant.
@@ -81,6 +84,7 @@ impl<'a> fmt::Display for Matter<'a> {
             Matter::Parts(parts) => write!(f, "{parts} harvests in part"),
             Matter::Reason { count, reason } => write!(f, "{count} failed: {reason}"),
             Matter::Dormant(dormancy) => write!(f, "{dormancy}"),
+            Matter::Aside(respite) => write!(f, "busy, not asked for {respite}"),
             Matter::Awake(left) => write!(f, "answers again, jobs left: {left}"),
             Matter::Left(left) => write!(f, "{left} walks not begun: it isn't asked"),
             Matter::Emptied(count) => write!(f, "{count} originals lost all their copies"),
@@ -138,6 +142,33 @@ impl fmt::Display for Dormancy {
     }
 }
 
+/// So many jobs are left.
+#[derive(Clone, Copy, Debug, PartialEq, Eq)]
+pub struct JobsLeft(pub u64);
+
+impl fmt::Display for JobsLeft {
+    ghost output = { λ left. Some (left_words left) };
+
+    fn fmt<W: fmt::Write>(&self, f: &mut fmt::Formatter<W>) -> fmt::Result {
+        write!(f, ", jobs left: {}", self.0)
+    }
+}
+
+/// For so many seconds an archive is left alone, and so many jobs are left.
+#[derive(Clone, Copy, Debug, PartialEq, Eq)]
+pub struct Respite {
+    pub seconds: u64,
+    pub left: JobsLeft,
+}
+
+impl fmt::Display for Respite {
+    ghost output = { λ respite. Some (respite_words respite) };
+
+    fn fmt<W: fmt::Write>(&self, f: &mut fmt::Formatter<W>) -> fmt::Result {
+        write!(f, "{} seconds{}", self.seconds, self.left)
+    }
+}
+
 /// How far a round is.
 #[derive(Clone, Copy, Debug, PartialEq, Eq)]
 pub struct Progress {
@@ -181,7 +212,7 @@ impl fmt::Display for Greeting {
     }
 }
 
-/// What there was no memory or no room for.
+/// What wasn't done, and why: for lack of memory or room, or by the clock.
 #[derive(Clone, Copy, Debug, PartialEq, Eq)]
 pub enum Want {
     /// Walks weren't begun.
@@ -190,6 +221,10 @@ pub enum Want {
     Harvests,
     /// There were as many wishes as may be.
     Room,
+    /// Harvests weren't taken, since their revisions are too far ahead of the clock.
+    Clock,
+    /// Wishes' harvests weren't kept, since unlisted originals would have more mementos than they may.
+    Mementos,
 }
 
 impl fmt::Display for Want {
@@ -200,6 +235,8 @@ impl fmt::Display for Want {
             Want::Walks => f.write_str("walks not begun: no memory"),
             Want::Harvests => f.write_str("harvests not kept: no memory"),
             Want::Room => f.write_str("wishes turned away: no room"),
+            Want::Clock => f.write_str("harvests not taken: ahead of this clock"),
+            Want::Mementos => f.write_str("wished harvests dropped: too many mementos"),
         }
     }
 }
@@ -233,23 +270,35 @@ impl fmt::Display for ListMatter {
     }
 }
 
-/// How many wishes are over, and of how many of these something is shown.
+/// How many wishes are over, of how many of these something is shown, and how many walks for wishes failed.
 #[derive(Clone, Copy, Debug, PartialEq, Eq)]
 pub struct WishCounts {
     pub found: u64,
     pub ended: u64,
+    pub failed: u64,
 }
 
 impl WishCounts {
-    /// No wish is over.
-    pub const NONE: WishCounts = WishCounts { found: 0, ended: 0 };
+    /// No wish is over, and no walk failed.
+    pub const NONE: WishCounts = WishCounts {
+        found: 0,
+        ended: 0,
+        failed: 0,
+    };
 }
 
 impl fmt::Display for WishCounts {
     ghost output = { λ counts. Some (wish_words counts) };
 
     fn fmt<W: fmt::Write>(&self, f: &mut fmt::Formatter<W>) -> fmt::Result {
-        write!(f, "{} of {} found", self.found, self.ended)
+        match self.failed {
+            0 => write!(f, "{} of {} found", self.found, self.ended),
+            failed => write!(
+                f,
+                "{} of {} found, {failed} walks failed",
+                self.found, self.ended
+            ),
+        }
     }
 }
 
@@ -278,6 +327,10 @@ impl fmt::Display for GateEnd {
 pub enum SnapshotEnd {
     /// It was taken in at the start.
     TakenIn,
+    /// So many harvests of it weren't, since they are ahead of the clock, and the file was set aside.
+    AheadAside(u64),
+    /// The same, and the file couldn't be set aside.
+    AheadUnread(u64),
     /// It couldn't be taken in, and was set aside.
     Aside(ReadFault),
     /// It couldn't be taken in, and not be set aside either.
@@ -292,6 +345,18 @@ impl fmt::Display for SnapshotEnd {
     fn fmt<W: fmt::Write>(&self, f: &mut fmt::Formatter<W>) -> fmt::Result {
         match *self {
             SnapshotEnd::TakenIn => f.write_str("taken in"),
+            SnapshotEnd::AheadAside(count) => {
+                write!(
+                    f,
+                    "{count} harvests not taken in: ahead of this clock, and set aside"
+                )
+            }
+            SnapshotEnd::AheadUnread(count) => {
+                write!(
+                    f,
+                    "{count} harvests not taken in: ahead of this clock, and not set aside"
+                )
+            }
             SnapshotEnd::Aside(fault) => write!(f, "{fault}, and set aside"),
             SnapshotEnd::Unread(fault) => write!(f, "{fault}, and not set aside"),
             SnapshotEnd::Unwritten(WriteFault::NotWritten) => f.write_str("not written"),
@@ -310,7 +375,7 @@ pub enum Line<'a> {
         name: &'a str,
         matter: Matter<'a>,
     },
-    /// There was no memory or no room this many times.
+    /// This many times something wasn't done.
     Wanting {
         round: u64,
         count: u64,
@@ -334,7 +399,7 @@ pub enum Line<'a> {
     },
     /// The first round begins.
     Start(Greeting),
-    /// So many wishes are over.
+    /// So many wishes are over, and so many walks for wishes failed.
     Wishes(WishCounts),
     /// Something about the file of originals.
     List {
@@ -343,6 +408,12 @@ pub enum Line<'a> {
     },
     /// A snapshot was read, or none was written.
     Snapshot(SnapshotEnd),
+    /// Something was forgotten.
+    Forgotten(Forgotten),
+    /// Nothing was, since memory was refused.
+    Unforgotten,
+    /// Something about the file of what is withdrawn.
+    Withdrawn(WithdrawnMatter),
     /// Standard output can't be written.
     Output,
     /// The gate with this number ended.
@@ -376,6 +447,9 @@ impl<'a> fmt::Display for Line<'a> {
             Line::Wishes(counts) => write!(f, "wishes: {counts}"),
             Line::List { round, matter } => write!(f, "round {round}: list: {matter}"),
             Line::Snapshot(end) => write!(f, "snapshot: {end}"),
+            Line::Forgotten(forgotten) => write!(f, "forgotten: {forgotten}"),
+            Line::Unforgotten => f.write_str("nothing is forgotten: no memory"),
+            Line::Withdrawn(matter) => write!(f, "withdrawn: {matter}"),
             Line::Output => f.write_str("standard output fails: no further round is made"),
             Line::Gate {
                 number,

@@ -1,11 +1,11 @@
 //! Calls of TimeMaps in other forms than link-format.
-use crate::services::{get, octets};
+use crate::services::get;
 use anyhow::Result;
 use format_gates::{FormGate, Forms};
-use hyper_edge::Answers;
-use memento_time::Items;
+use gate_server::Answers;
+use memento_time::{Items, Octets};
 use published_index::GateFault;
-use refused_calls::{Tried, insist};
+use refused_calls::{Change, Tried, insist};
 use std::alloc::Global;
 use timegate::{Reply, Request};
 use timemap_formats::{Form, read_listing, write_listing};
@@ -30,7 +30,7 @@ impl Answers for Listed {
     ghost may_close = { ⊤ };
 
     fn answer(&mut self, _request: &Request) -> Result<Reply, GateFault> {
-        let Some(body) = octets(self.alloc, TIMEMAP) else {
+        let Ok(body) = Octets::from_slice(self.alloc, TIMEMAP) else {
             return Err(GateFault::NoMemory);
         };
         Ok(Reply {
@@ -90,7 +90,11 @@ fn try_reply(alloc: Global) -> Option<Tried> {
         return Some(tried);
     }
     let is_repeated = ask(&mut gate, &question) == Tried::Answered;
-    Some(Tried::of_change(false, true, is_repeated))
+    Some(Tried::of_change(Change {
+        is_answered: false,
+        is_as_before: true,
+        is_repeated,
+    }))
 }
 
 fn try_in_forms(alloc: Global, call: InForms) -> Option<Tried> {

@@ -1,10 +1,10 @@
 //! Calls of mergers and gates, of what stands between them and HTTP, and of settings.
 use anyhow::Result;
-use hyper_edge::{Answers, GateService, Readiness, form, request_of};
+use gate_server::{Answers, GateService, Readiness, form, request_of};
 use memento_time::{Items, Octets};
 use outgoing_requests::{Agent, allowed_addresses, read_host};
 use published_index::{Gate, GateFault, Merger, ask_both, open};
-use refused_calls::{Tried, insist, share};
+use refused_calls::{Change, Tried, insist, share};
 use replica_exchange::{Delta, read_delta};
 use std::alloc::Global;
 use std::net::{IpAddr, Ipv4Addr, SocketAddr};
@@ -44,10 +44,6 @@ const ON_EDGE: [OnEdge; 6] = [
     OnEdge::ReadinessNew,
 ];
 
-pub(crate) fn octets(alloc: Global, text: &[u8]) -> Option<Octets> {
-    Some(Octets::of(Vec::from_slice(alloc, text).ok()?))
-}
-
 fn service(alloc: Global) -> Option<Service> {
     Service::new(alloc, "http://agg.example").ok()
 }
@@ -55,8 +51,8 @@ fn service(alloc: Global) -> Option<Service> {
 /// GET of this target, without a datetime.
 pub(crate) fn get(alloc: Global, target: &[u8]) -> Option<Request> {
     Some(Request {
-        method: octets(alloc, b"GET")?,
-        target: octets(alloc, target)?,
+        method: Octets::from_slice(alloc, b"GET").ok()?,
+        target: Octets::from_slice(alloc, target).ok()?,
         asked: Items::of(Vec::new(alloc)),
     })
 }
@@ -65,7 +61,7 @@ fn reply(alloc: Global) -> Option<Reply> {
     Some(Reply {
         status: 404,
         headers: Items::of(Vec::new(alloc)),
-        body: octets(alloc, b"no memento")?,
+        body: Octets::from_slice(alloc, b"no memento").ok()?,
     })
 }
 
@@ -115,6 +111,7 @@ enum OnGate {
     GateAnswerThen,
     AskBoth,
     MergerAppendDelta,
+    MergerTakeDelta,
 }
 
 /// The call of a service.
@@ -123,11 +120,12 @@ enum Responding {
     GateServiceRespond,
 }
 
-const ON_GATES: [OnGate; 4] = [
+const ON_GATES: [OnGate; 5] = [
     OnGate::Open,
     OnGate::GateAnswerThen,
     OnGate::AskBoth,
     OnGate::MergerAppendDelta,
+    OnGate::MergerTakeDelta,
 ];
 
 fn try_open<R: Wait>(rt: &R, alloc: Global) -> Option<Tried> {
@@ -155,7 +153,11 @@ fn answer_and_count(gate: &mut Gate, question: &Request) -> Tried {
     }
     let is_as_before = done.load(Ordering::SeqCst) == 0;
     let is_repeated = answer_counting(gate, question, &done) && done.load(Ordering::SeqCst) == 1;
-    Tried::of_change(false, is_as_before, is_repeated)
+    Tried::of_change(Change {
+        is_answered: false,
+        is_as_before,
+        is_repeated,
+    })
 }
 
 fn try_answer_then<R: Wait>(rt: &R, alloc: Global) -> Option<Tried> {
@@ -198,25 +200,38 @@ fn status_after_publish<R: Wait>(
     Some(reply.status)
 }
 
-/// Appends a peer's delta: where it is refused no cursor moves and nothing is pending.
-fn append_delta<R: Wait>(
+/// Has a merger take a peer's delta by this call. Returns whether it did.
+fn is_taken(merger: &mut Merger, call: OnGate, delta: &Delta) -> bool {
+    match call {
+        OnGate::MergerTakeDelta => merger.take_delta(1, delta).is_ok(),
+        _ => merger.append_delta(1, delta).is_ok(),
+    }
+}
+
+/// Takes a peer's delta: where it is refused no cursor moves and nothing is pending.
+fn take<R: Wait>(
     rt: &R,
     merger: &mut Merger,
     gate: &mut Gate,
+    call: OnGate,
     delta: &Delta,
     question: &Request,
 ) -> Tried {
-    if merger.append_delta(1, delta).is_ok() {
+    if is_taken(merger, call, delta) {
         return Tried::Answered;
     }
     let is_as_before = merger.cursor(1).is_none()
         && status_after_publish(rt, merger, gate, question) == Some(404);
-    let is_repeated = merger.append_delta(1, delta).is_ok()
+    let is_repeated = is_taken(merger, call, delta)
         && status_after_publish(rt, merger, gate, question) == Some(302);
-    Tried::of_change(false, is_as_before, is_repeated)
+    Tried::of_change(Change {
+        is_answered: false,
+        is_as_before,
+        is_repeated,
+    })
 }
 
-fn try_append_delta<R: Wait>(rt: &R, alloc: Global) -> Option<Tried> {
+fn try_take<R: Wait>(rt: &R, alloc: Global, call: OnGate) -> Option<Tried> {
     let delta = read_delta(alloc, DELTA).ok()?;
     let question = get(alloc, b"/timegate/http://a.example/")?;
     let base = service(alloc)?;
@@ -225,7 +240,7 @@ fn try_append_delta<R: Wait>(rt: &R, alloc: Global) -> Option<Tried> {
     };
     let mut tried = None;
     if let Some(mut gate) = gates.pop() {
-        tried = Some(append_delta(rt, &mut merger, &mut gate, &delta, &question));
+        tried = Some(take(rt, &mut merger, &mut gate, call, &delta, &question));
     }
     merger.close(rt);
     tried
@@ -236,7 +251,7 @@ fn try_on_gate<R: Wait>(rt: &R, alloc: Global, call: OnGate) -> Option<Tried> {
         OnGate::Open => try_open(rt, alloc),
         OnGate::GateAnswerThen => try_answer_then(rt, alloc),
         OnGate::AskBoth => try_ask_both(rt, alloc),
-        OnGate::MergerAppendDelta => try_append_delta(rt, alloc),
+        OnGate::MergerAppendDelta | OnGate::MergerTakeDelta => try_take(rt, alloc, call),
     }
 }
 

@@ -1,3 +1,5 @@
 pub mod KeyLemmas
 pub mod NameLemmas
+pub mod PlainLemmas
+pub mod ThreadLemmas
 pub mod ToldLemmas

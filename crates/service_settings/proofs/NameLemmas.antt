@@ -42,6 +42,7 @@ is_name-all key.Archives = refl
 is_name-all key.Patience = refl
 is_name-all key.Hosts = refl
 is_name-all key.Log = refl
+is_name-all key.Walks = refl
 is_name-all key.AtOnce = refl
 is_name-all key.Tolerance = refl
 is_name-all key.Dormant = refl
@@ -49,6 +50,7 @@ is_name-all key.Walk = refl
 is_name-all key.Rate = refl
 is_name-all key.Again = refl
 is_name-all key.AgainNone = refl
+is_name-all key.Ahead = refl
 is_name-all key.Publish = refl
 is_name-all key.Pull = refl
 is_name-all key.Agent = refl
@@ -62,6 +64,10 @@ is_name-all key.SnapshotEvery = refl
 is_name-all key.Formats = refl
 is_name-all key.Status = refl
 is_name-all key.Together = refl
+is_name-all key.Wait = refl
+is_name-all key.Forget = refl
+is_name-all key.WithdrawnFile = refl
+is_name-all key.Most = refl
 
 step : (known same some here among : Bool) → (same ≡ true → here ≡ known) → among ≡ (some && not here)
     → cond known among (same || among) ≡ ((same || some) && not here)

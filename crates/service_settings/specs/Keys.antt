@@ -17,6 +17,7 @@ name_of key.Archives = codes "archives"
 name_of key.Patience = codes "patience"
 name_of key.Hosts = codes "hosts"
 name_of key.Log = codes "log"
+name_of key.Walks = codes "walks"
 name_of key.AtOnce = codes "at_once"
 name_of key.Tolerance = codes "tolerance"
 name_of key.Dormant = codes "dormant"
@@ -24,6 +25,7 @@ name_of key.Walk = codes "walk"
 name_of key.Rate = codes "rate"
 name_of key.Again = codes "again"
 name_of key.AgainNone = codes "again_none"
+name_of key.Ahead = codes "ahead"
 name_of key.Publish = codes "publish"
 name_of key.Pull = codes "pull"
 name_of key.Agent = codes "agent"
@@ -37,14 +39,19 @@ name_of key.SnapshotEvery = codes "snapshot_every"
 name_of key.Formats = codes "formats"
 name_of key.Status = codes "status"
 name_of key.Together = codes "together"
+name_of key.Wait = codes "wait"
+name_of key.Forget = codes "forget"
+name_of key.WithdrawnFile = codes "withdrawn_file"
+name_of key.Most = codes "most"
 
 -- all keys, in the order in which they are looked for
 abbrev pub all_keys : List Key
 all_keys =
     key.Base ∷ key.Gates ∷ key.Connections ∷ key.Rounds ∷ key.Pause ∷ key.Workers ∷ key.Originals ∷ key.Peers ∷
-    key.Archives ∷ key.Patience ∷ key.Hosts ∷ key.Log ∷ key.AtOnce ∷ key.Tolerance ∷ key.Dormant ∷ key.Walk ∷
-    key.Rate ∷ key.Again ∷ key.AgainNone ∷ key.Publish ∷ key.Pull ∷ key.Agent ∷ key.Ready ∷ key.Wanted ∷ key.Wishes ∷
-    key.Alike ∷ key.OriginalsFile ∷ key.Snapshot ∷ key.SnapshotEvery ∷ key.Formats ∷ key.Status ∷ key.Together ∷ []
+    key.Archives ∷ key.Patience ∷ key.Hosts ∷ key.Log ∷ key.Walks ∷ key.AtOnce ∷ key.Tolerance ∷ key.Dormant ∷
+    key.Walk ∷ key.Rate ∷ key.Again ∷ key.AgainNone ∷ key.Ahead ∷ key.Publish ∷ key.Pull ∷ key.Agent ∷ key.Ready ∷
+    key.Wanted ∷ key.Wishes ∷ key.Alike ∷ key.OriginalsFile ∷ key.Snapshot ∷ key.SnapshotEvery ∷ key.Formats ∷
+    key.Status ∷ key.Together ∷ key.Wait ∷ key.Forget ∷ key.WithdrawnFile ∷ key.Most ∷ []
 
 -- the text is the name of one of these keys
 abbrev pub names_one : List ℕ → List Key → Bool

@@ -2,6 +2,8 @@ pub mod Entries
 pub mod Holding
 pub mod Keys
 pub mod Limits
+pub mod Peers
 pub mod Shown
+pub mod Threads
 pub mod Told
 pub mod Unknown

@@ -18,13 +18,15 @@ limits key.Archives = (0, 1000)
 limits key.Patience = (1, 86400)
 limits key.Hosts = (0, 1000)
 limits key.Log = (0, 1)
-limits key.AtOnce = (1, 64)
+limits key.Walks = (1, 1000)
+limits key.AtOnce = (1, 1000)
 limits key.Tolerance = (1, 1000000000)
 limits key.Dormant = (1, 86400)
 limits key.Walk = (1, 86400)
 limits key.Rate = (1, 1000000)
 limits key.Again = (1, 2592000)
 limits key.AgainNone = (1, 2592000)
+limits key.Ahead = (1, 2592000)
 limits key.Publish = (1, 86400)
 limits key.Pull = (1, 86400)
 limits key.Agent = (1, 256)
@@ -38,6 +40,10 @@ limits key.SnapshotEvery = (1, 86400)
 limits key.Formats = (0, 2)
 limits key.Status = (1, 1)
 limits key.Together = (1, 256)
+limits key.Wait = (1, 60)
+limits key.Forget = (1, 86400)
+limits key.WithdrawnFile = (1, 4096)
+limits key.Most = (1, 1000000000)
 
 -- the most milliseconds between two requests of one archive
 abbrev pub most_every : ℕ
@@ -81,9 +87,12 @@ pub record AreLimits : Type 0 where
   pub hosts : TakesUpTo key.Hosts (10 ^ 3)
   pub no_log : IsWithin key.Log 0
   pub log : TakesUpTo key.Log 1
+  pub no_walk_at_once : ¬ IsWithin key.Walks 0
+  pub a_walk_at_once : IsWithin key.Walks 1
+  pub walks : TakesUpTo key.Walks (10 ^ 3)
   pub none_at_once : ¬ IsWithin key.AtOnce 0
   pub one_at_once : IsWithin key.AtOnce 1
-  pub at_once : TakesUpTo key.AtOnce (2 ^ 6)
+  pub at_once : TakesUpTo key.AtOnce (10 ^ 3)
   pub no_tolerance : ¬ IsWithin key.Tolerance 0
   pub a_tolerance : IsWithin key.Tolerance 1
   pub tolerance : TakesUpTo key.Tolerance (10 ^ 9)
@@ -102,6 +111,9 @@ pub record AreLimits : Type 0 where
   pub no_again_none : ¬ IsWithin key.AgainNone 0
   pub an_again_none : IsWithin key.AgainNone 1
   pub again_none : TakesUpTo key.AgainNone (30 * 24 * 60 * 60)
+  pub no_ahead : ¬ IsWithin key.Ahead 0
+  pub an_ahead : IsWithin key.Ahead 1
+  pub ahead : TakesUpTo key.Ahead (30 * 24 * 60 * 60)
   pub no_publish : ¬ IsWithin key.Publish 0
   pub a_publish : IsWithin key.Publish 1
   pub publish : TakesUpTo key.Publish (24 * 60 * 60)
@@ -134,3 +146,15 @@ pub record AreLimits : Type 0 where
   pub none_together : ¬ IsWithin key.Together 0
   pub one_together : IsWithin key.Together 1
   pub together : TakesUpTo key.Together (2 ^ 8)
+  pub no_wait : ¬ IsWithin key.Wait 0
+  pub a_wait : IsWithin key.Wait 1
+  pub wait : TakesUpTo key.Wait 60
+  pub no_forget : ¬ IsWithin key.Forget 0
+  pub a_forget : IsWithin key.Forget 1
+  pub forget : TakesUpTo key.Forget (24 * 60 * 60)
+  pub no_withdrawn_file : ¬ IsWithin key.WithdrawnFile 0
+  pub a_withdrawn_file : IsWithin key.WithdrawnFile 1
+  pub withdrawn_file : TakesUpTo key.WithdrawnFile (2 ^ 12)
+  pub none_at_most : ¬ IsWithin key.Most 0
+  pub one_at_most : IsWithin key.Most 1
+  pub most : TakesUpTo key.Most (10 ^ 9)

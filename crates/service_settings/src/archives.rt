@@ -1,5 +1,5 @@
 //! The archives of settings.
-ghost use Rattle.std.specs.Prelude.{IfOk, IfSome, length, ◌≤◌};
+ghost use Rattle.std.specs.Prelude.{All, IfOk, IfSome, length, ◌≤◌};
 ghost use Rattle.std.proofs.Props.{props};
 ghost use Rattle.service_settings.specs.Limits.{IsWithin, most_every};
 ghost use Rattle.service_settings.specs.declared.fault.Key.TheVariants.{AtOnce};
@@ -34,15 +34,21 @@ pub struct Archive {
     ghost short_every: { IfSome every (λ milliseconds. milliseconds ≤ most_every) } by { Prim.hlevel props },
 }
 
-/// The archives, of which no two have one name.
-pub(crate) fn archives_at(alloc: Global, table: &Table) -> Result<Vec<Archive>, SettingsFault>
-    ensures { IfOk result (λ archives. IsWithin Key.Archives (length archives.items)) }
+/// The archives, of which no two have one name, and none has more walks at once than the most.
+pub(crate) fn archives_at(
+    alloc: Global,
+    table: &Table,
+    most_at_once: u64,
+) -> Result<Vec<Archive>, SettingsFault>
+    ensures few { IfOk result (λ archives. IsWithin Key.Archives (length archives.items)) }
+    ensures at_once { IfOk result (λ archives. All (λ archive. IfSome archive.at_once (λ own. own ≤ most_at_once))
+        archives.items) }
 {
     let list = list_at(table, Key::Archives)?;
     let mut names = BTreeSet::new(alloc);
     let mut archives = Vec::new(alloc);
     for value in list {
-        let archive = archive_of(alloc, value)?;
+        let archive = archive_of(alloc, value, most_at_once)?;
         if !names.insert(archive.name).map_err(AllocError::from)? {
             return Err(BAD_ARCHIVE);
         }
@@ -51,7 +57,9 @@ pub(crate) fn archives_at(alloc: Global, table: &Table) -> Result<Vec<Archive>, 
     Ok(archives)
 }
 
-fn archive_of(alloc: Global, value: &Value) -> Result<Archive, SettingsFault> {
+fn archive_of(alloc: Global, value: &Value, most_at_once: u64) -> Result<Archive, SettingsFault>
+    ensures { IfOk result (λ archive. IfSome archive.at_once (λ own. own ≤ most_at_once)) }
+{
     let Some(table) = value.as_table() else {
         return Err(BAD_ARCHIVE);
     };
@@ -65,9 +73,7 @@ fn archive_of(alloc: Global, value: &Value) -> Result<Archive, SettingsFault> {
         return Err(BAD_ARCHIVE);
     }
     let timemap = clean_of(alloc, timemap.as_bytes(), Key::Archives)?;
-    let Ok(at_once) = number_if(table, Key::AtOnce) else {
-        return Err(BAD_ARCHIVE);
-    };
+    let at_once = at_once_at(table, most_at_once)?;
     let every = every_at(table)?;
     Ok(Archive {
         name,
@@ -75,6 +81,18 @@ fn archive_of(alloc: Global, value: &Value) -> Result<Archive, SettingsFault> {
         at_once,
         every,
     })
+}
+
+/// How many walks run at once, if the archive has that key.
+fn at_once_at(table: &Table, most: u64) -> Result<Option<u64>, SettingsFault>
+    ensures within { IfOk result (λ at_once. IfSome at_once (IsWithin Key.AtOnce)) }
+    ensures few { IfOk result (λ at_once. IfSome at_once (λ own. own ≤ most)) }
+{
+    match number_if(table, Key::AtOnce) {
+        Ok(Some(own)) if own <= most => Ok(Some(own)),
+        Ok(None) => Ok(None),
+        Ok(Some(_)) | Err(_) => Err(BAD_ARCHIVE),
+    }
 }
 
 /// The milliseconds between two requests, if the archive has that key.

@@ -8,6 +8,9 @@ use memento_time::NoMemory;
 use published_index::MOST_GATES;
 use std::alloc::AllocError;
 
+/// The most walks that can run at once, in threads with small stacks.
+pub(crate) const MAX_WALKS: u64 = 1_000;
+
 /// The keys of settings, in the order in which they are looked for.
 #[derive(Clone, Copy, Debug, PartialEq, Eq)]
 pub enum Key {
@@ -26,6 +29,8 @@ pub enum Key {
     Hosts,
     Log,
     /// Optional.
+    Walks,
+    /// Optional.
     AtOnce,
     /// Optional.
     Tolerance,
@@ -39,6 +44,8 @@ pub enum Key {
     Again,
     /// Optional.
     AgainNone,
+    /// Optional.
+    Ahead,
     /// Optional.
     Publish,
     /// Optional.
@@ -65,11 +72,19 @@ pub enum Key {
     Status,
     /// Optional.
     Together,
+    /// Optional.
+    Wait,
+    /// Optional.
+    Forget,
+    /// Optional.
+    WithdrawnFile,
+    /// Optional.
+    Most,
 }
 
 impl Key {
     /// All keys.
-    pub const ALL: [Key; 32] = [
+    pub const ALL: [Key; 38] = [
         Key::Base,
         Key::Gates,
         Key::Connections,
@@ -82,6 +97,7 @@ impl Key {
         Key::Patience,
         Key::Hosts,
         Key::Log,
+        Key::Walks,
         Key::AtOnce,
         Key::Tolerance,
         Key::Dormant,
@@ -89,6 +105,7 @@ impl Key {
         Key::Rate,
         Key::Again,
         Key::AgainNone,
+        Key::Ahead,
         Key::Publish,
         Key::Pull,
         Key::Agent,
@@ -102,6 +119,10 @@ impl Key {
         Key::Formats,
         Key::Status,
         Key::Together,
+        Key::Wait,
+        Key::Forget,
+        Key::WithdrawnFile,
+        Key::Most,
     ];
 
     /// The key with this name.
@@ -134,6 +155,7 @@ impl Key {
             Key::Patience => "patience",
             Key::Hosts => "hosts",
             Key::Log => "log",
+            Key::Walks => "walks",
             Key::AtOnce => "at_once",
             Key::Tolerance => "tolerance",
             Key::Dormant => "dormant",
@@ -141,6 +163,7 @@ impl Key {
             Key::Rate => "rate",
             Key::Again => "again",
             Key::AgainNone => "again_none",
+            Key::Ahead => "ahead",
             Key::Publish => "publish",
             Key::Pull => "pull",
             Key::Agent => "agent",
@@ -154,6 +177,10 @@ impl Key {
             Key::Formats => "formats",
             Key::Status => "status",
             Key::Together => "together",
+            Key::Wait => "wait",
+            Key::Forget => "forget",
+            Key::WithdrawnFile => "withdrawn_file",
+            Key::Most => "most",
         }
     }
 
@@ -175,17 +202,24 @@ impl Key {
             Key::Patience => (1, 86_400),
             Key::Hosts => (0, 1_000),
             Key::Log | Key::Ready | Key::Alike => (0, 1),
-            Key::AtOnce => (1, MAX_WORKERS as u64),
+            Key::Walks | Key::AtOnce => (1, MAX_WALKS),
             Key::Tolerance => (1, 1_000_000_000),
-            Key::Dormant | Key::Walk | Key::Publish | Key::Pull | Key::SnapshotEvery => (1, 86_400),
+            Key::Dormant
+            | Key::Walk
+            | Key::Publish
+            | Key::Pull
+            | Key::SnapshotEvery
+            | Key::Forget => { (1, 86_400) }
             Key::Rate => (1, 1_000_000),
-            Key::Again | Key::AgainNone => (1, 2_592_000),
+            Key::Again | Key::AgainNone | Key::Ahead => (1, 2_592_000),
             Key::Agent => (1, 256),
             Key::Wanted => (0, 1_000_000),
             Key::Wishes => (1, 60_000),
-            Key::OriginalsFile | Key::Snapshot => (1, 4_096),
+            Key::OriginalsFile | Key::Snapshot | Key::WithdrawnFile => (1, 4_096),
             Key::Formats => (0, 2),
             Key::Together => (1, 256),
+            Key::Wait => (1, 60),
+            Key::Most => (1, 1_000_000_000),
         }
     }
 }

@@ -18,7 +18,7 @@ impl fmt::Display for Holding {
             Key::Base => f.write_str("a URL of http or https without a path"),
             Key::Gates => write!(f, "{range} texts IP:PORT"),
             Key::Originals => write!(f, "{range} addresses of http or https"),
-            Key::Peers => write!(f, "{range} bases of http"),
+            Key::Peers => write!(f, "{range} bases of http, by a name or an IPv4 address"),
             Key::Archives => write!(
                 f,
                 "{range} tables, each with a name of its own and a timemap of http"
@@ -27,26 +27,36 @@ impl fmt::Display for Holding {
             Key::Agent => write!(f, "{range} visible bytes of ASCII and blanks"),
             Key::Formats => write!(f, "{range} of json and cdxj"),
             Key::Status => f.write_str("a text IP:PORT"),
-            Key::OriginalsFile | Key::Snapshot => write!(f, "a path of {range} bytes"),
+            Key::OriginalsFile | Key::Snapshot | Key::WithdrawnFile => {
+                write!(f, "a path of {range} bytes")
+            }
+            Key::Wait => write!(
+                f,
+                "a number from {range}, where wanted is set and together is 2 or more"
+            ),
+            Key::AtOnce => write!(f, "a number from {range}, above 64 only where walks is set"),
             Key::Log | Key::Ready | Key::Alike => f.write_str("true or false"),
             Key::Connections
             | Key::Rounds
             | Key::Pause
             | Key::Workers
             | Key::Patience
-            | Key::AtOnce
+            | Key::Walks
             | Key::Tolerance
             | Key::Dormant
             | Key::Walk
             | Key::Rate
             | Key::Again
             | Key::AgainNone
+            | Key::Ahead
             | Key::Publish
             | Key::Pull
             | Key::Wanted
             | Key::Wishes
             | Key::SnapshotEvery
-            | Key::Together => write!(f, "a number from {range}"),
+            | Key::Together
+            | Key::Forget
+            | Key::Most => write!(f, "a number from {range}"),
         }
     }
 }

@@ -2,26 +2,32 @@
 //!
 //! Keys are looked for in the order of `Key`. The fault is the first key that is missing or holds what it may not. An
 //! optional key may be missing. Other keys aren't looked at: `unknown_keys` tells which.
-ghost use Rattle.std.specs.Prelude.{◌≡◌, ◌<◌, IfOk, IfSome, length};
+ghost use Rattle.std.specs.Prelude.{◌≡◌, ◌≤◌, ◌<◌, All, IfOk, IfSome, length, true};
 ghost use Rattle.std.proofs.Props.{props};
 ghost use Rattle.service_settings.specs.Limits.{IsWithin};
+ghost use Rattle.service_settings.specs.Peers.{is_reached};
+ghost use Rattle.service_settings.specs.Threads.{most_threads};
 ghost use Rattle.service_settings.specs.declared.fault.Key.TheVariants.{Gates, Connections, Rounds, Pause};
-ghost use Rattle.service_settings.specs.declared.fault.Key.TheVariants.{Workers, Originals, Peers, Archives, Patience};
+ghost use Rattle.service_settings.specs.declared.fault.Key.TheVariants.{Originals, Peers, Archives, Patience};
 ghost use Rattle.service_settings.specs.declared.fault.Key.TheVariants.{Hosts, Together};
 
 use crate::archives::{Archive, archives_at};
 use crate::asking::{Asking, agent_at, asking_at};
 use crate::fault::{Key, SettingsFault};
+use crate::forgetting::{Forgetting, forgetting_at};
 use crate::hosts::hosts_at;
 use crate::showing::{forms_at, status_at};
 use crate::storing::{Storing, storing_at};
+use crate::threads::{WalkThreads, most_at_once};
 use crate::timing::{Timing, timing_at};
-use crate::values::{gates_at, number_at, number_or, originals_at, peers_at, service_at, wants};
-use crate::wishing::{Wishing, wishing_at};
-use format_gates::Forms;
+use crate::values::{
+    gates_at, number_at, number_if, number_or, originals_at, peers_at, service_at, wants,
+};
+use crate::wishing::{Wishing, wait_at, wishing_at};
 use memento_time::{Clean, Original};
 use outgoing_requests::{Agent, AllowedHost, DEFAULT_PATIENCE};
 use std::alloc::Global;
+use timemap_formats::Forms;
 use timemap_writer::Service;
 use toml::Table;
 
@@ -44,11 +50,11 @@ pub struct Settings {
     pub rounds: u64,
     /// How many seconds to wait between two rounds.
     pub pause: u64,
-    /// How many walks run at once.
-    pub workers: usize,
+    /// In which threads walks run, and so how many at once.
+    pub threads: WalkThreads,
     /// The originals whose mementos are gathered.
     pub originals: Vec<Original>,
-    /// The bases of other replicas, each without the last `/`.
+    /// The bases of other replicas, each without the last `/`, and one that the program can connect to.
     pub peers: Vec<Clean>,
     /// The archives, of which no two have one name.
     pub archives: Vec<Archive>,
@@ -77,16 +83,23 @@ pub struct Settings {
     pub status: Option<String>,
     /// How many connections a gate serves at once.
     pub together: u64,
+    /// For how many seconds a gate holds a request for an original that is being looked after; `None` if it doesn't.
+    pub wait: Option<u64>,
+    /// What is forgotten of what is known.
+    pub forgetting: Forgetting,
 
     ghost few_gates: { IsWithin Gates (length gates.items) },
     ghost few_connections: { IsWithin Connections connections },
     ghost few_rounds: { IsWithin Rounds rounds },
     ghost short_pause: { IsWithin Pause pause },
-    ghost few_workers: { IsWithin Workers workers },
     ghost few_originals: { IsWithin Originals (length originals.items) },
     ghost few_peers: { IsWithin Peers (length peers.items) },
+    ghost reached_peers: { All (λ peer. is_reached peer ≡ true) peers.items },
     ghost few_archives: { IsWithin Archives (length archives.items) },
+    ghost few_of_each: { All (λ archive. IfSome archive.at_once (λ own. own ≤ most_threads threads.stacks))
+        archives.items } by { Prim.hlevel props },
     ghost fair_patience: { IsWithin Patience patience },
+    ghost few_at_once: { asking.at_once ≤ most_threads threads.stacks },
     ghost few_hosts: { IfSome hosts (λ listed. IsWithin Hosts (length listed.items)) } by { Prim.hlevel props },
 }
 
@@ -116,19 +129,21 @@ struct OwnKeys {
     forms: Forms,
     status: Option<String>,
     together: u64,
+    wait: Option<u64>,
+    forgetting: Forgetting,
 }
 
 /// What stands at the keys from `at_once` on.
 fn own_keys_at(
     alloc: Global,
     table: &Table,
-    workers: u64,
+    threads: WalkThreads,
     archives: usize,
 ) -> Result<OwnKeys, SettingsFault>
-    requires { IsWithin Workers workers }
-    ensures { IfOk result (λ own. IsWithin Together own.together) }
+    ensures at_once { IfOk result (λ own. own.asking.at_once ≤ most_threads threads.stacks) }
+    ensures together { IfOk result (λ own. IsWithin Together own.together) }
 {
-    let asking = asking_at(table, workers, archives)?;
+    let asking = asking_at(table, threads, archives)?;
     let timing = timing_at(table)?;
     let agent = agent_at(alloc, table)?;
     let ready = wants(table, Key::Ready)?;
@@ -137,6 +152,8 @@ fn own_keys_at(
     let forms = forms_at(table)?;
     let status = status_at(alloc, table)?;
     let together = number_or(table, Key::Together, DEFAULT_TOGETHER)?;
+    let wait = wait_at(table, wishing.wanted.is_some() && together > 1)?;
+    let forgetting = forgetting_at(alloc, table)?;
     Ok(OwnKeys {
         asking,
         timing,
@@ -147,6 +164,8 @@ fn own_keys_at(
         forms,
         status,
         together,
+        wait,
+        forgetting,
     })
 }
 
@@ -159,18 +178,20 @@ fn settings_of(alloc: Global, table: &Table) -> Result<Settings, SettingsFault> 
     let workers = number_at(table, Key::Workers)?;
     let originals = originals_at(alloc, table)?;
     let peers = peers_at(alloc, table)?;
-    let archives = archives_at(alloc, table)?;
+    let walks = number_if(table, Key::Walks);
+    let archives = archives_at(alloc, table, most_at_once(&walks))?;
     let patience = number_or(table, Key::Patience, DEFAULT_PATIENCE)?;
     let hosts = hosts_at(alloc, table)?;
     let log = wants(table, Key::Log)?;
-    let own = own_keys_at(alloc, table, workers, archives.len())?;
+    let threads = WalkThreads::new(workers, walks?);
+    let own = own_keys_at(alloc, table, threads, archives.len())?;
     Ok(Settings {
         base,
         gates,
         connections,
         rounds,
         pause,
-        workers: workers as usize,
+        threads,
         originals,
         peers,
         archives,
@@ -186,5 +207,7 @@ fn settings_of(alloc: Global, table: &Table) -> Result<Settings, SettingsFault> 
         forms: own.forms,
         status: own.status,
         together: own.together,
+        wait: own.wait,
+        forgetting: own.forgetting,
     })
 }

@@ -1,8 +1,8 @@
 //! In which forms gates answer, and where the status is shown.
 use crate::fault::{Key, SettingsFault};
 use crate::values::{address_of, list_at};
-use format_gates::Forms;
 use std::alloc::Global;
+use timemap_formats::Forms;
 use toml::Table;
 
 /// In which forms beside link-format gates answer: those that the key `formats` lists.

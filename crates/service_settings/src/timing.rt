@@ -13,6 +13,8 @@ pub struct Timing {
     pub again: Option<u64>,
     /// The same where the archive has nothing of the original.
     pub again_none: Option<u64>,
+    /// How many seconds ahead of this replica's clock what is taken may be looked at; `None` if any number.
+    pub ahead: Option<u64>,
     /// While a round goes on, what came is published each time that this many seconds have passed; `None` if only at
     /// its end.
     pub publish: Option<u64>,
@@ -25,6 +27,7 @@ pub struct Timing {
 pub(crate) fn timing_at(table: &Table) -> Result<Timing, SettingsFault>
     ensures again { IfOk result (λ timing. IfSome timing.again (IsWithin Key.Again)) }
     ensures again_none { IfOk result (λ timing. IfSome timing.again_none (IsWithin Key.AgainNone)) }
+    ensures ahead { IfOk result (λ timing. IfSome timing.ahead (IsWithin Key.Ahead)) }
     ensures publish { IfOk result (λ timing. IfSome timing.publish (IsWithin Key.Publish)) }
     ensures pull { IfOk result (λ timing. IfSome timing.pull (IsWithin Key.Pull)) }
 {
@@ -33,11 +36,13 @@ pub(crate) fn timing_at(table: &Table) -> Result<Timing, SettingsFault>
         Some(seconds) => Some(seconds),
         None => again,
     };
+    let ahead = number_if(table, Key::Ahead)?;
     let publish = number_if(table, Key::Publish)?;
     let pull = number_if(table, Key::Pull)?;
     Ok(Timing {
         again,
         again_none,
+        ahead,
         publish,
         pull,
     })

@@ -1,6 +1,7 @@
 //! The values at the keys of settings: numbers, and lists of texts.
-ghost use Rattle.std.specs.Prelude.{◌≡◌, IfErr, IfOk, IfSome, length};
+ghost use Rattle.std.specs.Prelude.{◌≡◌, All, IfErr, IfOk, IfSome, length, true};
 ghost use Rattle.service_settings.specs.Limits.{IsWithin};
+ghost use Rattle.service_settings.specs.Peers as spec;
 
 use crate::fault::{Key, SettingsFault};
 use memento_time::{Clean, CleanFault, Original};
@@ -79,7 +80,7 @@ pub(crate) fn service_at(alloc: Global, table: &Table) -> Result<Service, Settin
     service_of(alloc, text, Key::Base)
 }
 
-fn service_of(alloc: Global, text: &str, key: Key) -> Result<Service, SettingsFault> {
+pub(crate) fn service_of(alloc: Global, text: &str, key: Key) -> Result<Service, SettingsFault> {
     match Service::new(alloc, text) {
         Ok(service) => Ok(service),
         Err(ServiceFault::BadBase) => Err(SettingsFault::Key(key)),
@@ -157,9 +158,10 @@ fn original_of(alloc: Global, value: &Value) -> Result<Original, SettingsFault> 
     }
 }
 
-/// The bases of the peers, without the last `/`.
+/// The bases of the peers, without the last `/`. Each is one that the program can connect to.
 pub(crate) fn peers_at(alloc: Global, table: &Table) -> Result<Vec<Clean>, SettingsFault>
-    ensures { IfOk result (λ peers. IsWithin Key.Peers (length peers.items)) }
+    ensures few { IfOk result (λ peers. IsWithin Key.Peers (length peers.items)) }
+    ensures reached { IfOk result (λ peers. All (λ peer. spec.is_reached peer ≡ true) peers.items) }
 {
     let list = list_at(table, Key::Peers)?;
     let mut peers = Vec::new(alloc);
@@ -171,12 +173,25 @@ pub(crate) fn peers_at(alloc: Global, table: &Table) -> Result<Vec<Clean>, Setti
     Ok(peers)
 }
 
-fn peer_of(alloc: Global, value: &Value) -> Result<Clean, SettingsFault> {
+/// Whether the program can connect to a base: it speaks http alone, and asks nobody by an address in brackets.
+fn is_reached(base: &[u8]) -> bool
+    ensures { result ≡ spec.is_reached base.now }
+{
+    base.starts_with(b"http://") && !base.starts_with(b"http://[")
+}
+
+fn peer_of(alloc: Global, value: &Value) -> Result<Clean, SettingsFault>
+    ensures { IfOk result (λ peer. spec.is_reached peer ≡ true) }
+{
     let Some(text) = value.as_str() else {
         return Err(SettingsFault::Key(Key::Peers));
     };
     let service = service_of(alloc, text, Key::Peers)?;
-    clean_of(alloc, service.base(), Key::Peers)
+    let peer = clean_of(alloc, service.base(), Key::Peers)?;
+    if !is_reached(peer.as_bytes()) {
+        return Err(SettingsFault::Key(Key::Peers));
+    }
+    Ok(peer)
 }
 
 /// A clean text, or a fault of the key.

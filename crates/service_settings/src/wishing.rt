@@ -1,10 +1,10 @@
 //! What readers may wish for, and where more originals are named.
-ghost use Rattle.std.specs.Prelude.{◌≡◌, ◌≤◌, IfOk, IfSome, length};
+ghost use Rattle.std.specs.Prelude.{◌≡◌, ◌≤◌, IfOk, IfSome, None, false, length};
 ghost use Rattle.std.specs.NonZero.{non_zero_usize_get};
 ghost use Rattle.service_settings.specs.Limits.{IsWithin, limits};
 
 use crate::fault::{Key, SettingsFault};
-use crate::values::{number_or, text_if, wants};
+use crate::values::{number_if, number_or, text_if, wants};
 use std::alloc::Global;
 use std::num::NonZeroUsize;
 use toml::Table;
@@ -44,4 +44,17 @@ pub(crate) fn wishing_at(alloc: Global, table: &Table) -> Result<Wishing, Settin
         alike,
         originals_file,
     })
+}
+
+/// For how many seconds a request is held. That takes wishes, and several connections at once; where it can't be, the
+/// key has to be missing.
+pub(crate) fn wait_at(table: &Table, may_hold: bool) -> Result<Option<u64>, SettingsFault>
+    ensures within { IfOk result (λ wait. IfSome wait (IsWithin Key.Wait)) }
+    ensures held { may_hold ≡ false → IfOk result (λ wait. wait ≡ None) }
+{
+    let wait = number_if(table, Key::Wait)?;
+    if wait.is_some() && !may_hold {
+        return Err(SettingsFault::Key(Key::Wait));
+    }
+    Ok(wait)
 }

@@ -1,2 +1,5 @@
 pub mod Reading
 pub mod Loops
+pub mod SeriesLemmas
+pub mod ExampleLemmas
+pub mod LabelLemmas

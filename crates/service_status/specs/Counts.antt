@@ -8,6 +8,7 @@ use Rattle.service_status.specs.declared.counts.PullEnd.TheVariants as pull
 use Rattle.service_status.specs.declared.counts.PullCounts.{PullCounts}
 use Rattle.service_status.specs.declared.counts.ReplyCounts.{ReplyCounts}
 use Rattle.service_status.specs.declared.counts.WishCounts.{WishCounts}
+use Rattle.service_status.specs.declared.counts.EntryCounts.{EntryCounts}
 
 -- one more, as far as 64 bits can count
 abbrev pub one_more : ℕ → ℕ
@@ -51,7 +52,12 @@ with_wishes more c = record {
   granted = capped_count (c.granted + more.granted);
   ended = capped_count (c.ended + more.ended);
   turned_away = capped_count (c.turned_away + more.turned_away);
+  late = capped_count (c.late + more.late);
 }
+
+-- so many entries more
+abbrev pub with_entries : EntryCounts → EntryCounts → EntryCounts
+with_entries more c = record { taken = capped_count (c.taken + more.taken); left = capped_count (c.left + more.left) }
 
 -- a word for how something ended, and how often it did
 abbrev pub Row : Type 0
@@ -76,4 +82,9 @@ reply_rows c =
     ∷ (codes "405", c.method) ∷ (codes "503", c.refused) ∷ (codes "other", c.other) ∷ []
 
 unfoldable pub wish_rows : WishCounts → List Row
-wish_rows c = (codes "granted", c.granted) ∷ (codes "ended", c.ended) ∷ (codes "turned_away", c.turned_away) ∷ []
+wish_rows c =
+    (codes "granted", c.granted) ∷ (codes "ended", c.ended) ∷ (codes "turned_away", c.turned_away)
+    ∷ (codes "late", c.late) ∷ []
+
+unfoldable pub entry_rows : EntryCounts → List Row
+entry_rows c = (codes "taken", c.taken) ∷ (codes "left", c.left) ∷ []

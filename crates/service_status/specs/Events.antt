@@ -1,12 +1,15 @@
 -- What a status tells after something happened.
-use Rattle.std.specs.Prelude.{ℕ, ◌+◌, ◌-◌, ◌^◌, min}
+use Rattle.std.specs.Prelude.{ℕ, ◌+◌, ◌-◌, ◌^◌, min, true, false}
+use Rattle.service_status.specs.declared.counts.EntryCounts.{EntryCounts}
 use Rattle.service_status.specs.declared.counts.WalkEnd.{WalkEnd}
 use Rattle.service_status.specs.declared.counts.PullEnd.{PullEnd}
 use Rattle.service_status.specs.declared.counts.PullEnd.TheVariants as pull
 use Rattle.service_status.specs.declared.status.ArchiveStatus.{ArchiveStatus}
 use Rattle.service_status.specs.declared.status.PeerStatus.{PeerStatus}
 use Rattle.service_status.specs.declared.status.PublishStatus.{PublishStatus}
-use Rattle.service_status.specs.Counts.{one_more, with_walk, with_pull}
+use Rattle.service_status.specs.declared.status.SnapshotStatus.{SnapshotStatus}
+use Rattle.service_status.specs.declared.status.ForgettingStatus.{ForgettingStatus}
+use Rattle.service_status.specs.Counts.{one_more, capped_count, with_walk, with_pull, with_entries}
 
 -- a walk ended so, and took so many seconds
 abbrev pub after_walk : WalkEnd → ℕ → ArchiveStatus → ArchiveStatus
@@ -34,3 +37,24 @@ after_publish second p = record p { published = one_more p.published; last = sec
 -- memory was refused for a publish
 abbrev pub after_refusal : PublishStatus → PublishStatus
 after_refusal p = record p { refused = one_more p.refused }
+
+-- a snapshot was written in this second, with all that is published
+abbrev pub after_snapshot : ℕ → SnapshotStatus → SnapshotStatus
+after_snapshot second s = record s { written = one_more s.written; last = second; is_behind = false }
+
+-- a snapshot couldn't be written
+abbrev pub after_unwritten : SnapshotStatus → SnapshotStatus
+after_unwritten s = record s { failed = one_more s.failed; is_behind = true }
+
+-- so many entries were forgotten, and this is the floor since then
+abbrev pub after_forgetting : ℕ → ℕ → ForgettingStatus → ForgettingStatus
+after_forgetting entries floor f =
+    record f { forgotten = one_more f.forgotten; entries = capped_count (f.entries + entries); floor = floor }
+
+-- memory was refused for a forgetting
+abbrev pub after_unforgotten : ForgettingStatus → ForgettingStatus
+after_unforgotten f = record f { unforgotten = one_more f.unforgotten }
+
+-- so many entries of a peer's deltas more
+abbrev pub after_entries : EntryCounts → PeerStatus → PeerStatus
+after_entries more p = record p { entries = with_entries more p.entries }

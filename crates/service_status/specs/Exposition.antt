@@ -29,6 +29,10 @@ labels_text [] = []
 labels_text (label ∷ labels) =
     codes "{" ++ label_text label ++ flat_map (λ next. codes "," ++ label_text next) labels ++ codes "}"
 
+-- labels with a comma behind each
+abbrev pub first_labels : List Label → List ℕ
+first_labels labels = flat_map (λ label. label_text label ++ codes ",") labels
+
 -- what a line says of a metric: its labels and its value
 abbrev pub Sample : Type 0
 Sample = List Label × ℕ

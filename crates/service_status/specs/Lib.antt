@@ -7,3 +7,4 @@ pub mod Replies
 pub mod Examples
 pub mod Events
 pub mod Memory
+pub mod Series

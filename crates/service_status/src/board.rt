@@ -1,8 +1,8 @@
 //! A status that the thread of the rounds tells what happens, and that the status' gate shows.
 ghost use Rattle.std.specs.Prelude.{◌≡◌, IfOk, IsSome, None, is_some};
 
-use crate::counts::{PullEnd, WalkEnd, WishCounts};
-use crate::status::{KnownStatus, RoundStatus, Status};
+use crate::counts::{EntryCounts, PullEnd, WalkEnd, WishCounts};
+use crate::status::{KnownStatus, ListStatus, RoomStatus, RoundStatus, Status};
 use memento_time::NoMemory;
 use std::alloc::Global;
 use std::sync::{Arc, Mutex, Wait};
@@ -69,6 +69,16 @@ impl StatusBoard {
         }
     }
 
+    /// Notes until which second the archive at this place is left alone, since it asked for that; 0 if it isn't.
+    pub fn set_aside<R: Wait>(&self, rt: &R, place: usize, until: u64) {
+        if let Some(shared) = &self.shared {
+            let mut status = shared.lock(rt);
+            if let Some(archive) = status.archives.get_mut(place) {
+                archive.aside_until = until;
+            }
+        }
+    }
+
     /// Notes how far the round is.
     pub fn set_round<R: Wait>(&self, rt: &R, round: RoundStatus) {
         if let Some(shared) = &self.shared {
@@ -95,6 +105,36 @@ impl StatusBoard {
     pub fn add_refused<R: Wait>(&self, rt: &R) {
         if let Some(shared) = &self.shared {
             shared.lock(rt).publishes.add_refused();
+        }
+    }
+
+    /// Counts a snapshot that was written in this second, if snapshots are written.
+    pub fn add_snapshot<R: Wait>(&self, rt: &R, second: u64) {
+        if let Some(shared) = &self.shared {
+            let mut status = shared.lock(rt);
+            if let Some(snapshots) = &mut status.snapshots {
+                snapshots.add(second);
+            }
+        }
+    }
+
+    /// Counts a snapshot that couldn't be written, if snapshots are written.
+    pub fn add_unwritten<R: Wait>(&self, rt: &R) {
+        if let Some(shared) = &self.shared {
+            let mut status = shared.lock(rt);
+            if let Some(snapshots) = &mut status.snapshots {
+                snapshots.add_failed();
+            }
+        }
+    }
+
+    /// Notes whether something is published that the last snapshot lacks, if snapshots are written.
+    pub fn set_behind<R: Wait>(&self, rt: &R, is_behind: bool) {
+        if let Some(shared) = &self.shared {
+            let mut status = shared.lock(rt);
+            if let Some(snapshots) = &mut status.snapshots {
+                snapshots.is_behind = is_behind;
+            }
         }
     }
 
@@ -138,6 +178,62 @@ impl StatusBoard {
             if let Some(wishes) = &mut status.wishes {
                 wishes.add(more);
             }
+        }
+    }
+
+    /// Notes how many originals are known by wishes, and how many may be.
+    pub fn set_room<R: Wait>(&self, rt: &R, room: RoomStatus) {
+        if let Some(shared) = &self.shared {
+            shared.lock(rt).room = Some(room);
+        }
+    }
+
+    /// Counts so many entries more of the deltas of the peer with this number, counted from 1.
+    pub fn add_entries<R: Wait>(&self, rt: &R, number: u64, more: EntryCounts) {
+        if let Some(shared) = &self.shared {
+            let mut status = shared.lock(rt);
+            for (of, peer) in (1..).zip(&mut status.peers) {
+                if of == number {
+                    peer.add_entries(more);
+                }
+            }
+        }
+    }
+
+    /// Counts a forgetting of so many entries, after which this is the floor, if something is forgotten at all.
+    pub fn add_forgetting<R: Wait>(&self, rt: &R, entries: u64, floor: u64) {
+        if let Some(shared) = &self.shared {
+            let mut status = shared.lock(rt);
+            if let Some(forgetting) = &mut status.forgetting {
+                forgetting.add(entries, floor);
+            }
+        }
+    }
+
+    /// Counts a forgetting for which memory was refused, if something is forgotten at all.
+    pub fn add_unforgotten<R: Wait>(&self, rt: &R) {
+        if let Some(shared) = &self.shared {
+            let mut status = shared.lock(rt);
+            if let Some(forgetting) = &mut status.forgetting {
+                forgetting.add_unforgotten();
+            }
+        }
+    }
+
+    /// Notes how many mementos unlisted originals have, if something is forgotten at all.
+    pub fn set_unlisted<R: Wait>(&self, rt: &R, mementos: u64) {
+        if let Some(shared) = &self.shared {
+            let mut status = shared.lock(rt);
+            if let Some(forgetting) = &mut status.forgetting {
+                forgetting.mementos = mementos;
+            }
+        }
+    }
+
+    /// Notes what the file of originals came to.
+    pub fn set_list<R: Wait>(&self, rt: &R, list: ListStatus) {
+        if let Some(shared) = &self.shared {
+            shared.lock(rt).list = Some(list);
         }
     }
 }

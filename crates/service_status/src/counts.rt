@@ -1,6 +1,7 @@
 //! Counts by how something ended.
 ghost use Rattle.std.specs.Prelude.{◌≡◌, map};
-ghost use Rattle.service_status.specs.Counts.{with_walk, with_pull, with_wishes, walk_rows, pull_rows, reply_rows, wish_rows};
+ghost use Rattle.service_status.specs.Counts.{with_walk, with_pull, with_wishes, with_entries, walk_rows, pull_rows, reply_rows};
+ghost use Rattle.service_status.specs.Counts.{wish_rows, entry_rows};
 
 /// How a walk ended.
 #[derive(Clone, Copy, Debug, PartialEq, Eq)]
@@ -216,12 +217,15 @@ impl ReplyCounts {
     }
 }
 
-/// How many wishes were granted, ended, and turned away because there were as many as may be.
+/// What became of wishes.
 #[derive(Clone, Copy, Debug, PartialEq, Eq)]
 pub struct WishCounts {
     pub granted: u64,
     pub ended: u64,
+    /// Turned away, because there were as many wishes as may be.
     pub turned_away: u64,
+    /// Not taken, because the wishes of the minute were used up.
+    pub late: u64,
 }
 
 impl WishCounts {
@@ -229,6 +233,7 @@ impl WishCounts {
         granted: 0,
         ended: 0,
         turned_away: 0,
+        late: 0,
     };
 
     /// Counts so many more.
@@ -238,17 +243,47 @@ impl WishCounts {
         self.granted = self.granted.saturating_add(more.granted);
         self.ended = self.ended.saturating_add(more.ended);
         self.turned_away = self.turned_away.saturating_add(more.turned_away);
+        self.late = self.late.saturating_add(more.late);
     }
 
     /// A word for what became of wishes, and of how many it did.
     #[tactic(auto, unfolding(crate::specs::Counts::wish_rows))]
-    pub(crate) fn rows(self) -> [(&'static str, u64); 3]
+    pub(crate) fn rows(self) -> [(&'static str, u64); 4]
         ensures { map (λ row. (row.0.now, row.1)) result ≡ wish_rows self }
     {
         [
             ("granted", self.granted),
             ("ended", self.ended),
             ("turned_away", self.turned_away),
+            ("late", self.late),
         ]
+    }
+}
+
+/// How many entries of a peer's deltas were kept, and how many not, since they are withdrawn, or neither listed nor
+/// young.
+#[derive(Clone, Copy, Debug, PartialEq, Eq)]
+pub struct EntryCounts {
+    pub taken: u64,
+    pub left: u64,
+}
+
+impl EntryCounts {
+    pub const NONE: EntryCounts = EntryCounts { taken: 0, left: 0 };
+
+    /// Counts so many more.
+    pub fn add(&mut self, more: EntryCounts)
+        ensures { self.new ≡ with_entries more self.old }
+    {
+        self.taken = self.taken.saturating_add(more.taken);
+        self.left = self.left.saturating_add(more.left);
+    }
+
+    /// A word for what became of entries, and of how many it did.
+    #[tactic(auto, unfolding(crate::specs::Counts::entry_rows))]
+    pub(crate) fn rows(self) -> [(&'static str, u64); 2]
+        ensures { map (λ row. (row.0.now, row.1)) result ≡ entry_rows self }
+    {
+        [("taken", self.taken), ("left", self.left)]
     }
 }

@@ -6,11 +6,12 @@ use crate::board::StatusBoard;
 use crate::counters::ReplyCounter;
 use crate::replies::reply_to;
 use crate::status::Status;
-use hyper_edge::Answers;
+use gate_server::Answers;
+use memento_time::second_now;
 use published_index::GateFault;
 use std::alloc::AllocGlobal;
 use std::sync::{Arc, Mutex, Wait};
-use std::time::{Clock, Duration, SystemTime, UNIX_EPOCH};
+use std::time::Clock;
 use timegate::{Reply, Request};
 
 /// Answers `/metrics` and `/health` by a board.
@@ -20,16 +21,6 @@ pub struct StatusGate<R> {
     status: Arc<Mutex<Status>>,
     /// The counts of the gates' replies, in the order of the gates.
     counters: Vec<ReplyCounter>,
-}
-
-/// The clock's seconds since 1970, or 0 before 1970 or without a clock.
-fn second_now(rt: &impl Clock) -> u64 {
-    let Ok(now) = SystemTime::now(rt) else {
-        return 0;
-    };
-    now.duration_since(UNIX_EPOCH)
-        .unwrap_or(Duration::ZERO)
-        .as_secs()
 }
 
 impl<R: Clock + Wait + AllocGlobal + Drop> StatusGate<R> {
@@ -101,6 +92,21 @@ impl<G: Answers> Answers for CountingGate<G> {
         match &answered {
             Ok(reply) => self.counter.add(reply.status),
             // A service answers 503 in place of a fault.
+            Err(_) => self.counter.add(503),
+        }
+        answered
+    }
+
+    /// What is held isn't counted until its reply is given.
+    fn answer_or_hold(
+        &mut self,
+        request: &Request,
+        is_held: bool,
+    ) -> Result<Option<Reply>, GateFault> {
+        let answered = self.gate.answer_or_hold(request, is_held);
+        match &answered {
+            Ok(Some(reply)) => self.counter.add(reply.status),
+            Ok(None) => {}
             Err(_) => self.counter.add(503),
         }
         answered

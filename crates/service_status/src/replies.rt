@@ -12,30 +12,12 @@ use memento_time::{Items, NoMemory, Octets};
 use std::alloc::Global;
 use timegate::{Header, Reply, Request};
 
-fn is_get(request: &Request) -> bool
-    ensures { result ≡ is_get request.now }
-{
-    request.method.as_slice() == b"GET".as_slice()
-}
-
-fn is_head(request: &Request) -> bool
-    ensures { result ≡ is_head request.now }
-{
-    request.method.as_slice() == b"HEAD".as_slice()
-}
-
-fn octets(alloc: Global, text: &[u8]) -> Result<Octets, NoMemory>
-    ensures { IfOk result (λ octets. octets ≡ text.now) }
-{
-    Ok(Octets::of(Vec::from_slice(alloc, text)?))
-}
-
 /// The header of a text of this type.
 fn media_header(alloc: Global, media: &[u8]) -> Result<Vec<(Header, Octets)>, NoMemory>
     ensures { IfOk result (λ headers. headers.items ≡ (Media, media.now) ∷ []) }
 {
     let mut headers = Vec::new(alloc);
-    headers.push((Header::ContentType, octets(alloc, media)?))?;
+    headers.push((Header::ContentType, Octets::from_slice(alloc, media)?))?;
     Ok(headers)
 }
 
@@ -49,7 +31,7 @@ fn reply_with(
 ) -> Reply
     ensures { result ≡ reply_with request.now status headers.items body.items }
 {
-    let body = if is_head(request) {
+    let body = if request.is_head() {
         Vec::new(alloc)
     } else {
         body
@@ -95,8 +77,11 @@ fn method_reply(alloc: Global, request: &Request) -> Result<Reply, NoMemory>
     ensures { IfOk result (λ reply. reply ≡ spec.method_reply request.now) }
 {
     let mut headers = Vec::new(alloc);
-    headers.push((Header::Allow, octets(alloc, b"GET, HEAD")?))?;
-    headers.push((Header::ContentType, octets(alloc, b"text/plain")?))?;
+    headers.push((Header::Allow, Octets::from_slice(alloc, b"GET, HEAD")?))?;
+    headers.push((
+        Header::ContentType,
+        Octets::from_slice(alloc, b"text/plain")?,
+    ))?;
     let body = Vec::from_slice(alloc, b"bad method\n")?;
     Ok(reply_with(alloc, request, 405, headers, body))
 }
@@ -106,7 +91,7 @@ fn method_reply(alloc: Global, request: &Request) -> Result<Reply, NoMemory>
 pub fn reply_to(alloc: Global, status: &Status, request: &Request) -> Result<Reply, NoMemory>
     ensures { IfOk result (λ reply. reply ≡ reply_of status.now request.now) }
 {
-    if !is_get(request) && !is_head(request) {
+    if !request.is_get() && !request.is_head() {
         return method_reply(alloc, request);
     }
     let target = request.target.as_slice();

@@ -1,13 +1,13 @@
 //! Archives in memory, and what walks over them give, for the tests of walks.
 use anyhow::{Result, bail};
 use harvester::{Answer, Job, MemoryFetch, WalkFault, harvest_job, walk};
-use memento_time::Items;
+use memento_time::{Items, Octets};
 use std::alloc::{AllocGlobal, Global};
 use std::net::{Net, TcpListener, TcpStream};
 use std::random::RandomSource;
 use std::sync::Wait;
 use std::time::Clock;
-use text_tests::makers::{archive, clean, octets, original};
+use text_tests::makers::{archive, clean, original};
 
 pub(crate) const ALL: &str =
     "<http://arc.example/i>;rel=timemap,<http://arc.example/p1>;rel=timemap,<http://arc.example/p2>;rel=timemap";
@@ -15,13 +15,13 @@ pub(crate) const ALL: &str =
 pub(crate) fn answer(alloc: Global, status: u16, coding: &str, body: &str) -> Result<Answer> {
     let mut encoding = Vec::new(alloc);
     if !coding.is_empty() {
-        encoding.push(octets(alloc, coding.as_bytes())?)?;
+        encoding.push(Octets::from_slice(alloc, coding.as_bytes())?)?;
     }
     Ok(Answer {
         status,
         encoding: Items::of(encoding),
         retry_after: Items::of(Vec::new(alloc)),
-        body: octets(alloc, body.as_bytes())?,
+        body: Octets::from_slice(alloc, body.as_bytes())?,
     })
 }
 

@@ -6,7 +6,7 @@ use harvester::{Answer, Fetch, FetchFault, WalkProgress};
 use hyper_edge::{Answers, GateService, HyperFetch, Readiness, ReadyGate, bind, serve_gate};
 use knowledge_tests::makers::get;
 use memento_time::{Clean, Items, Octets};
-use outgoing_requests::{Agent, CarefulFetch, Limits, Patience};
+use outgoing_requests::{Agent, CarefulFetch, FetchLimits, Patience};
 use published_index::GateFault;
 use std::alloc::{AllocGlobal, Global};
 use std::io::{self, BufRead, BufReader, Write};
@@ -109,7 +109,7 @@ fn body_that_ends_too_early_is_no_answer(rt: HostRuntime) -> Result<()> {
         || HyperFetch.fetch(&rt, &url),
     );
     answered?;
-    assert!(rt; matches!(fetched, Err(FetchFault::Failed)));
+    assert!(rt; matches!(fetched, Err(FetchFault::Broken)));
     Ok(())
 }
 
@@ -203,7 +203,7 @@ where
 }
 
 /// A fetch with a patience of a second, by these limits.
-fn limited(limits: Limits) -> CarefulFetch<'static> {
+fn limited(limits: FetchLimits) -> CarefulFetch<'static> {
     CarefulFetch {
         patience: Patience::of_seconds(1),
         hosts: None,
@@ -217,12 +217,12 @@ fn agents_are_sent(rt: HostRuntime) -> Result<()> {
     let text = "Maplewrench (+mailto:you@example.org)";
     let agent = Agent::new(rt.alloc(), text)?.context("no agent")?;
     assert!(rt; agent.as_str() == text);
-    let nameless = limited(Limits::default());
+    let nameless = limited(FetchLimits::default());
     assert!(rt; agent_seen(&rt, nameless)?.as_slice().is_empty());
     let named = CarefulFetch {
         patience: Patience::of_seconds(1),
         hosts: None,
-        limits: Limits::default(),
+        limits: FetchLimits::default(),
         agent: Some(&agent),
     };
     assert!(rt; agent_seen(&rt, named)?.as_slice() == text.as_bytes());
@@ -248,7 +248,7 @@ fn answer_late(rt: &(impl Clock + AllocGlobal), listener: &TcpListener) -> io::R
 }
 
 /// Whether a page that comes late is fetched in a walk that began just now.
-fn is_fetched_late<R>(rt: &R, limits: Limits) -> Result<bool>
+fn is_fetched_late<R>(rt: &R, limits: FetchLimits) -> Result<bool>
 where
     R: Threads
         + Sync
@@ -276,7 +276,7 @@ where
 
 #[test]
 fn slow_bodies_are_given_up(rt: HostRuntime) -> Result<()> {
-    let mut limits = Limits::default();
+    let mut limits = FetchLimits::default();
     assert!(rt; is_fetched_late(&rt, limits)?);
     limits.rate = Some(100);
     assert!(rt; !is_fetched_late(&rt, limits)?);
@@ -289,7 +289,7 @@ fn slow_bodies_are_given_up(rt: HostRuntime) -> Result<()> {
 #[test]
 fn a_walk_pauses_and_ends(rt: HostRuntime) -> Result<()> {
     let url = clean(rt.alloc(), b"http://127.0.0.1:1/")?;
-    let mut limits = Limits::default();
+    let mut limits = FetchLimits::default();
     limits.every = Some(200);
     let began = Instant::now(&rt)?;
     let mut progress = WalkProgress {

@@ -7,7 +7,8 @@
 //! `publishing` is of mergers and gates, and `edge` of what crosses a socket. Walks are tried over archives that
 //! `archives` makes: `harvesting` which pages are fetched and lost, `limits` how many pages and mementos may come,
 //! `patience` for how long archives ask to be left alone, and `paged` what another aggregator answers of a long list.
-//! `settings` and `log` are of the crates `service_settings` and `service_log`.
+//! `settings` and `log` are of the crates `service_settings` and `service_log`. `uses` shows in a few lines how
+//! `published_index` is used.
 #![tactic(auto)]
 
 #[cfg(test)]
@@ -28,3 +29,5 @@ mod patience;
 mod publishing;
 #[cfg(test)]
 mod settings;
+#[cfg(test)]
+mod uses;

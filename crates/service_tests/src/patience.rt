@@ -2,15 +2,15 @@
 use crate::archives::{ALL, add, answer, walk_unkept};
 use anyhow::Result;
 use harvester::{Answer, MemoryFetch, asked_patience};
-use memento_time::Items;
+use memento_time::{Items, Octets};
 use std::alloc::Global;
-use text_tests::makers::{clean, octets};
+use text_tests::makers::clean;
 
 /// An answer with this status and this value of `Retry-After`.
 fn asking(alloc: Global, status: u16, value: &str) -> Result<Answer> {
     let mut asking = answer(alloc, status, "", "")?;
     let mut values = Vec::new(alloc);
-    values.push(octets(alloc, value.as_bytes())?)?;
+    values.push(Octets::from_slice(alloc, value.as_bytes())?)?;
     asking.retry_after = Items::of(values);
     Ok(asking)
 }

@@ -19,14 +19,15 @@ use std::alloc::{AllocGlobal, Global};
 use std::io::Write;
 use std::sync::Wait;
 use std::thread::{self, JoinHandle, Threads};
+use switching_gates::{GateSlot, SwitchingGate};
 use wishing_gates::WishingGate;
 
 /// How a gate's thread ends.
 type Ending = Result<(), ServeFault>;
 
-/// A gate as its thread serves it: it answers in the settings' forms, once it is ready, and notes what readers wish
-/// for. Its replies are counted.
-type ServedGate<R> = CountingGate<FormGate<WishingGate<ReadyGate<Gate>, R>>>;
+/// A gate as its thread serves it: it goes on with each gate that it is handed, answers in the settings' forms, once it
+/// is ready, and notes what readers wish for. Its replies are counted.
+type ServedGate<R> = CountingGate<FormGate<WishingGate<ReadyGate<SwitchingGate<Gate, R>>, R>>>;
 
 /// A gate's thread, as the thread that makes the rounds sees it.
 #[derive(Drop)]
@@ -72,6 +73,8 @@ struct Place<'a> {
 struct Load {
     connections: u64,
     together: u64,
+    /// For how many seconds requests are held, if they are.
+    wait: Option<u64>,
 }
 
 impl Load {
@@ -80,6 +83,7 @@ impl Load {
         Load {
             connections: settings.connections,
             together: settings.together,
+            wait: settings.wait,
         }
     }
 
@@ -87,6 +91,7 @@ impl Load {
     fn in_turn(self) -> Load {
         Load {
             together: 1,
+            wait: None,
             ..self
         }
     }
@@ -167,18 +172,21 @@ fn served_gate<R, P>(
     gate: Gate,
     means: &Means<P>,
     counter: &ReplyCounter,
+    slot: &GateSlot<Gate>,
 ) -> Result<ServedGate<R>, ServeFault>
 where
     R: SocketRuntime + Clone + Drop,
     P: WalkRules,
 {
-    let (Ok(readiness), Ok(book), Ok(counter)) = (
+    let (Ok(readiness), Ok(book), Ok(counter), Ok(slot)) = (
         means.readiness.share(),
         means.book.share(),
         counter.share(),
+        slot.share(),
     ) else {
         return Err(ServeFault::NoMemory);
     };
+    let gate = SwitchingGate::new(rt.clone()?, gate, slot);
     let gate = WishingGate::new(rt.clone()?, ReadyGate::new(gate, readiness), book);
     let gate = FormGate::new(rt.alloc(), gate, settings.forms);
     Ok(CountingGate::new(gate, counter))
@@ -215,13 +223,16 @@ where
     let mut listeners = Vec::with_capacity(alloc, gates.len())?;
     let mut fault = None;
     let load = Load::of(settings);
-    let places = settings.gates.iter().zip(means.telling.counters());
-    for (number, (gate, (address, counter))) in (1..).zip(gates.into_iter().zip(places)) {
+    let places = settings
+        .gates
+        .iter()
+        .zip(means.telling.counters().iter().zip(&means.slots));
+    for (number, (gate, (address, (counter, slot)))) in (1..).zip(gates.into_iter().zip(places)) {
         let place = Place {
             served: Served::Gate(number),
             address: address.as_str(),
         };
-        let opened = match served_gate(rt, settings, gate, means, counter) {
+        let opened = match served_gate(rt, settings, gate, means, counter, slot) {
             Ok(gate) => open_listener(rt, gate, place, load, log),
             Err(refused) => Err(refused),
         };
@@ -354,10 +365,16 @@ where
     G: Answers,
 {
     if load.together == 1 {
-        serve_gate(rt, bound, service, load.connections)
-    } else {
-        serve_together(rt, bound, service, load.connections, load.together)
+        return serve_gate(rt, bound, service, load.connections);
     }
+    let Some(seconds) = load.wait else {
+        return serve_together(rt, bound, service, load.connections, load.together);
+    };
+    // The other half answers at once, however much is asked for that nobody knows.
+    let Ok(service) = service.holding(bound, seconds, load.together / 2) else {
+        return Err(EdgeFault::NoMemory);
+    };
+    serve_together(rt, bound, &service, load.connections, load.together)
 }
 
 /// Lets the gates serve if all of them are bound and nothing went wrong before. Otherwise no gate serves, and all

@@ -9,7 +9,7 @@
 //! - what is asked for: `terms` (which jobs the settings ask for, and how these are walked) and `jobs` (of an archive
 //!   for an original);
 //! - threads: `gates` (those that answer), `pool` (those that walk) and `pulls` (those that ask peers);
-//! - what they share: `means`, and in it `telling` (the status);
+//! - what they share: `means`, and in it `telling` (the status) and `slots` (where gates are handed over);
 //! - `faults` (why serving ends early).
 #![tactic(auto)]
 
@@ -19,6 +19,7 @@ mod jobs;
 mod means;
 mod pool;
 mod pulls;
+mod slots;
 mod telling;
 mod terms;
 
@@ -27,6 +28,7 @@ pub use gates::{Listeners, open_listeners};
 pub use jobs::original_of;
 pub use means::Means;
 pub use pool::{News, Pool};
-pub use pulls::{PullAnswer, PullRequest, Pullers, brings_nothing};
-pub use telling::{Telling, known_in};
+pub use pulls::{PullAnswer, PullRequest, Pullers};
+pub use slots::forgets;
+pub use telling::Telling;
 pub use terms::Terms;

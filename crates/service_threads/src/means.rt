@@ -1,19 +1,22 @@
 //! The threads that rounds are made with, and what these share with the gates.
 use crate::pool::Pool;
 use crate::pulls::Pullers;
+use crate::slots::slots_of;
 use crate::telling::Telling;
 use crate::terms::Terms;
 use harvest_workers::WalkRules;
 use harvester::SocketRuntime;
 use hyper_edge::Readiness;
 use outgoing_requests::Patience;
+use published_index::Gate;
 use round_values::DEFAULT_AGAIN;
 use service_settings::Settings;
 use std::alloc::{AllocError, Global};
 use std::hash::RandomState;
 use std::sync::Wait;
 use std::thread::Threads;
-use wish_list::Limits;
+use switching_gates::GateSlot;
+use wish_list::WishLimits;
 use wishing_gates::WishBook;
 
 /// The threads that rounds are made with, and what these share with the gates.
@@ -29,6 +32,8 @@ pub struct Means<P: WalkRules> {
     pub telling: Telling,
     /// The secret keys of hashes, where sets of originals are made.
     pub keys: Option<RandomState>,
+    /// Where each gate's thread is handed another gate, in the order of the gates.
+    pub slots: Vec<GateSlot<Gate>>,
 }
 
 /// How many peers are pulled in threads of their own.
@@ -49,7 +54,7 @@ fn book_of(
     let (Some(remembered), Some(keys)) = (settings.wishing.wanted, keys) else {
         return Ok(WishBook::closed());
     };
-    let limits = Limits {
+    let limits = WishLimits {
         remembered,
         again: settings.timing.again.unwrap_or(DEFAULT_AGAIN),
         in_a_minute: settings.wishing.wishes,
@@ -71,12 +76,13 @@ impl<P: WalkRules> Means<P> {
             readiness.set();
         }
         Ok(Means {
-            pool: Pool::new(alloc, settings.workers)?,
+            pool: Pool::new(alloc, settings.threads.count)?,
             pullers: Pullers::new(alloc, peers_pulled(settings))?,
             readiness,
             book: book_of(alloc, settings, keys)?,
             telling: Telling::new(alloc, settings).map_err(|_| AllocError)?,
             keys,
+            slots: slots_of(alloc, settings).map_err(|_| AllocError)?,
         })
     }
 
@@ -89,6 +95,7 @@ impl<P: WalkRules> Means<P> {
             book: _,
             telling: _,
             keys: _,
+            slots: _,
         } = self;
         pool.close(rt);
     }

@@ -5,9 +5,10 @@ use crate::terms::Terms;
 use crossbeam_channel::{Receiver, RecvTimeoutError, Sender, bounded};
 use harvest_workers::{Assignment, WalkReport, WalkRules};
 use harvester::SocketRuntime;
+use service_settings::{SMALL_STACK, Stacks};
 use std::alloc::{AllocError, Global};
 use std::sync::Wait;
-use std::thread::{self, JoinHandle, Threads};
+use std::thread::{self, Builder, JoinHandle, Threads};
 use std::time::{Clock, Duration};
 
 /// What a worker's thread is given.
@@ -77,18 +78,27 @@ impl<P: WalkRules + Send + Sync + 'static> Pool<P> {
         let Some(ends) = self.ends.take() else {
             return;
         };
-        for _ in 0..terms.settings().workers {
+        let threads = terms.settings().threads;
+        for _ in 0..threads.count {
             let Ok(worker) = next_worker(terms, &ends) else {
                 return;
             };
             let Ok(own) = rt.clone() else {
                 return;
             };
-            let Ok(thread) = thread::spawn(rt, move || work(&own, worker)) else {
+            let Ok(thread) = with_stack(threads.stacks).spawn(rt, move || work(&own, worker)) else {
                 return;
             };
             let _ = self.threads.push(thread);
         }
+    }
+}
+
+/// How a thread with such a stack is started.
+fn with_stack(stacks: Stacks) -> Builder {
+    match stacks {
+        Stacks::Whole => Builder::new(),
+        Stacks::Small => Builder::new().stack_size(SMALL_STACK),
     }
 }
 

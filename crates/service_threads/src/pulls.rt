@@ -1,5 +1,6 @@
 //! Pulls from peers in threads of their own.
-ghost use Rattle.std.specs.Prelude.{◌↔◌, ◌<◌, IsTrue};
+ghost use Rattle.std.specs.Prelude.{◌↔◌, ◌<◌, IfOk, IsTrue};
+ghost use Rattle.outgoing_requests.specs.Pulls.{IsBrought};
 
 use crossbeam_channel::{Receiver, Sender, bounded};
 use harvester::SocketRuntime;
@@ -20,13 +21,15 @@ pub struct PullRequest {
     pub cursor: Option<Cursor>,
 }
 
-/// What a peer gave.
+/// What a peer gave: a delta that an answer brought, or a fault.
 #[derive(Drop)]
 pub struct PullAnswer {
     pub peer: u64,
     pub base: Clean,
     pub cursor: Option<Cursor>,
     pub answer: Result<Delta, PullFault>,
+
+    ghost brought: { ∥ IfOk answer IsBrought ∥₁ },
 }
 
 /// What a thread that pulls is given.
@@ -152,16 +155,4 @@ fn next_puller(patience: Patience, ends: &Ends) -> Result<Puller, AllocError> {
         requests: ends.requests.clone()?,
         answers: ends.answers.clone()?,
     })
-}
-
-/// Whether a delta has nothing that isn't known where this cursor is held: no entries, and no further merges.
-pub fn brings_nothing(delta: &Delta, held: Option<Cursor>) -> bool {
-    match held {
-        Some(cursor) => {
-            delta.state.is_empty()
-                && delta.incarnation == cursor.incarnation
-                && delta.end == cursor.number
-        }
-        None => false,
-    }
 }

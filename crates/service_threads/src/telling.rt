@@ -1,63 +1,58 @@
 //! What an operator is told: the status, and how many replies each gate gave.
 ghost use Rattle.std.specs.Prelude.{◌≡◌};
 
-use harvest_lattice::{Entry, State};
+use crate::slots::forgets;
 use harvester::SocketRuntime;
-use memento_time::NoMemory;
+use memento_time::{ArchiveName, Clean, NoMemory};
 use published_index::Merger;
-use round_values::second_now;
+use round_values::{known_in, second_now};
 use service_settings::Settings;
 use service_status::{
-    ArchiveStatus, GateStatus, KnownStatus, PeerStatus, PublishStatus, PullCounts, ReplyCounter,
-    ReplyCounts, RoundStatus, Status, StatusBoard, StatusGate, WalkCounts, WishCounts,
+    ForgettingStatus, ListStatus, ReplyCounter, SnapshotStatus, Status, StatusBoard, StatusGate,
+    WishCounts,
 };
 use std::alloc::Global;
 
-/// The archives of these settings, before any was walked.
-fn archives_of(alloc: Global, settings: &Settings) -> Result<Vec<ArchiveStatus>, NoMemory> {
-    let mut archives = Vec::with_capacity(alloc, settings.archives.len())?;
+/// The version of the program, as CHANGELOG.md names it.
+const VERSION: &str = "0.4.0";
+
+/// The names of the archives of these settings.
+fn names_of(alloc: Global, settings: &Settings) -> Result<Vec<ArchiveName>, NoMemory> {
+    let mut names = Vec::with_capacity(alloc, settings.archives.len())?;
     for archive in &settings.archives {
-        archives.push(ArchiveStatus {
-            name: archive.name,
-            walks: WalkCounts::NONE,
-            seconds: 0,
-            dormant_until: 0,
-        })?;
+        names.push(archive.name)?;
     }
-    Ok(archives)
+    Ok(names)
 }
 
-/// The peers of these settings, before any was pulled.
-fn peers_of(alloc: Global, settings: &Settings) -> Result<Vec<PeerStatus>, NoMemory> {
-    let mut peers = Vec::with_capacity(alloc, settings.peers.len())?;
+/// The bases of the peers of these settings.
+fn bases_of(alloc: Global, settings: &Settings) -> Result<Vec<Clean>, NoMemory> {
+    let mut bases = Vec::with_capacity(alloc, settings.peers.len())?;
     for peer in &settings.peers {
-        peers.push(PeerStatus {
-            base: peer.try_clone()?,
-            pulls: PullCounts::NONE,
-            last: 0,
-        })?;
+        bases.push(peer.try_clone()?)?;
     }
-    Ok(peers)
+    Ok(bases)
 }
 
-/// The gates of these settings, before any was asked.
-fn gates_of(alloc: Global, settings: &Settings) -> Result<Vec<GateStatus>, NoMemory> {
-    let mut gates = Vec::with_capacity(alloc, settings.gates.len())?;
-    for (number, _) in (1..).zip(&settings.gates) {
-        gates.push(GateStatus {
-            number,
-            replies: ReplyCounts::NONE,
-        })?;
+/// The status of a service that begins by these settings.
+fn status_of(alloc: Global, settings: &Settings) -> Result<Status, NoMemory> {
+    let names = names_of(alloc, settings)?;
+    let bases = bases_of(alloc, settings)?;
+    let gates = settings.gates.len();
+    let mut status = Status::begin(alloc, VERSION, &names, bases, gates)?;
+    if settings.storing.snapshot.is_some() {
+        status.snapshots = Some(SnapshotStatus::NONE);
     }
-    Ok(gates)
-}
-
-/// What became of wishes, before there is one, if any are taken.
-fn wishes_of(settings: &Settings) -> Option<WishCounts> {
-    match settings.wishing.wanted {
-        Some(_) => Some(WishCounts::NONE),
-        None => None,
+    if settings.wishing.wanted.is_some() {
+        status.wishes = Some(WishCounts::NONE);
     }
+    if settings.wishing.originals_file.is_some() {
+        status.list = Some(ListStatus::NONE);
+    }
+    if forgets(settings) {
+        status.forgetting = Some(ForgettingStatus::begin(settings.forgetting.most));
+    }
+    Ok(status)
 }
 
 /// The board of a service that begins, closed unless the settings ask for a status.
@@ -65,52 +60,7 @@ fn board_of(alloc: Global, settings: &Settings) -> Result<StatusBoard, NoMemory>
     if settings.status.is_none() {
         return Ok(StatusBoard::closed());
     }
-    let status = Status {
-        clock: 0,
-        is_shown: false,
-        rounds: 0,
-        round: RoundStatus {
-            jobs: 0,
-            done: 0,
-            passed: 0,
-        },
-        publishes: PublishStatus {
-            published: 0,
-            refused: 0,
-            last: 0,
-        },
-        known: KnownStatus {
-            entries: 0,
-            mementos: 0,
-        },
-        resident: None,
-        archives: archives_of(alloc, settings)?,
-        peers: peers_of(alloc, settings)?,
-        gates: gates_of(alloc, settings)?,
-        wishes: wishes_of(settings),
-    };
-    StatusBoard::open(alloc, status)
-}
-
-/// How many mementos an entry has, those of each revision.
-fn mementos_in(entry: &Entry) -> u64 {
-    let mut mementos = 0u64;
-    for revision in 0..entry.revisions() {
-        mementos = mementos.saturating_add(entry.mementos(revision).len() as u64);
-    }
-    mementos
-}
-
-/// How much a state has. Takes time in the number of its entries.
-pub fn known_in(state: &State) -> KnownStatus {
-    let mut mementos = 0u64;
-    for (_, entry) in state.rows() {
-        mementos = mementos.saturating_add(mementos_in(entry));
-    }
-    KnownStatus {
-        entries: state.len() as u64,
-        mementos,
-    }
+    StatusBoard::open(alloc, status_of(alloc, settings)?)
 }
 
 /// What an operator is told, and by what.
@@ -170,8 +120,10 @@ impl Telling {
     /// Notes what a snapshot brought, which is published.
     pub fn tell_snapshot<R: SocketRuntime>(&self, rt: &R, merger: &Merger) {
         if self.board.is_open() {
-            self.board.add_publish(rt, second_now(rt).0);
-            self.board.set_known(rt, known_in(merger.published_state()));
+            let second = second_now(rt);
+            self.board.add_publish(rt, second.0);
+            self.board
+                .set_known(rt, known_in(merger.published_state(), second));
             self.board.set_shown(rt);
         }
     }

@@ -7,7 +7,7 @@ use crate::jobs::job_at;
 use harvest_workers::{Assignment, Errand, RuledFetch, WalkReport, WalkRules, walk_assignment};
 use harvester::SocketRuntime;
 use memento_time::Original;
-use outgoing_requests::{CarefulFetch, Limits, Patience};
+use outgoing_requests::{CarefulFetch, FetchLimits, Patience};
 use round_values::{Second, second_now};
 use service_settings::Settings;
 use std::alloc::{AllocError, Global};
@@ -89,7 +89,7 @@ impl<P: WalkRules> Terms<P> {
         let fetch = CarefulFetch {
             patience: Patience::of_seconds(settings.patience),
             hosts: settings.hosts.as_deref(),
-            limits: Limits {
+            limits: FetchLimits {
                 walk: settings.asking.walk,
                 rate: settings.asking.rate,
                 every,

@@ -8,3 +8,5 @@ mod files;
 mod sections;
 #[cfg(test)]
 mod states;
+#[cfg(test)]
+mod uses;

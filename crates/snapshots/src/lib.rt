@@ -4,6 +4,8 @@
 //! read as a text of its own, and together they are the state (`parts_are_the_state`): the join of what is read is what
 //! was written (`a_snapshot_is_read_back`). The state is cut while it is written, so that at most one section's text
 //! takes memory.
+//!
+//! `crates/snapshot_tests/src/uses.rt` writes a state and reads it back.
 #![tactic(auto)]
 
 mod faults;

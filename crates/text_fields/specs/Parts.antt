@@ -1,5 +1,7 @@
--- The parts of a text that a byte ends.
-use Rattle.std.specs.Prelude.{◌≡◌, ◌≢◌, ℕ, ◌+◌, ◌==◌, List, [], ◌∷◌, ◌++◌, All, take, drop, position, Option}
+-- The parts of a text that a byte ends, and what stands behind a front.
+use Rattle.std.specs.Prelude.{◌≡◌, ◌≢◌, ℕ, ◌+◌, ◌==◌, List, [], ◌∷◌, ◌++◌, All, take, drop, length, position, Option, Some, None}
+use Rattle.std.specs.Prelude.{nat_eq, if◌then◌else◌}
+use Rattle.std.specs.List.{starts_with}
 use Rattle.std.specs.Option.{option_map}
 
 -- the byte that ends a field which another follows
@@ -27,3 +29,7 @@ IsSplit byte text parts = Lacks byte parts.0 × (text ≡ parts.0 ++ byte ∷ pa
 -- what stands before the first of a byte, and what stands behind it
 abbrev pub parts_at : ℕ → List ℕ → Option (List ℕ × List ℕ)
 parts_at byte text = option_map (λ place. (take place text, drop (place + 1) text)) (position (λ b. b == byte) text)
+
+-- what stands behind this front, if the text begins with it
+abbrev pub behind : List ℕ → List ℕ → Option (List ℕ)
+behind front text = if starts_with nat_eq text front then Some (drop (length front) text) else None

@@ -1,7 +1,8 @@
-//! Splits a text at a byte.
-ghost use Rattle.std.specs.Prelude.{◌≡◌, ◌++◌, ◌∷◌, IfSome, IfNone};
+//! Splits a text at a byte, or behind a front.
+ghost use Rattle.std.specs.Prelude.{◌≡◌, ◌++◌, ◌∷◌, IfSome, IfNone, true, false, nat_eq, length, drop};
+ghost use Rattle.std.specs.List.{starts_with};
 ghost use Rattle.std.specs.Option.{option_map};
-ghost use Rattle.text_fields.specs.Parts.{Lacks, parts_at, space, line_end};
+ghost use Rattle.text_fields.specs.Parts.{Lacks, behind, parts_at, space, line_end};
 
 use memchr::memchr;
 
@@ -34,4 +35,14 @@ pub fn next_line(text: &[u8]) -> Option<(&[u8], &[u8])>
     ensures parts { option_map (λ p. (p.0.now, p.1.now)) result ≡ parts_at line_end text.now }
 {
     split_once(text, b'\n')
+}
+
+/// What follows the front, if the text begins with it.
+pub fn behind<'a>(front: &[u8], text: &'a [u8]) -> Option<&'a [u8]>
+    ensures found { IfSome result (λ rest. (starts_with nat_eq text.now front.now ≡ true)
+        × (rest.now ≡ drop (length front.now) text.now)) }
+    ensures none { IfNone result (starts_with nat_eq text.now front.now ≡ false) }
+    ensures rest { option_map (λ rest. rest.now) result ≡ behind front.now text.now }
+{
+    text.strip_prefix(front)
 }

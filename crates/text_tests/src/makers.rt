@@ -70,13 +70,6 @@ pub fn original(alloc: Global, text: &[u8]) -> Result<Original>
     Ok(Original::new(alloc, text)?)
 }
 
-/// These bytes.
-pub fn octets(alloc: Global, text: &[u8]) -> Result<Octets>
-    ensures { IfOk result (λ octets. octets ≡ text.now) }
-{
-    Ok(Octets::of(Vec::from_slice(alloc, text)?))
-}
-
 /// The service at `http://agg.example`.
 pub fn service(alloc: Global) -> Result<Service> {
     Ok(Service::new(alloc, "http://agg.example")?)

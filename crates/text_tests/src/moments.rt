@@ -1,7 +1,5 @@
 //! Seconds and dates, clean texts, names of archives, and lists of mementos (`memento_time`).
-use crate::makers::{
-    FIRST_DAY, THIRD_DAY, archive, clean, memento, mementos, moment, octets, original,
-};
+use crate::makers::{FIRST_DAY, THIRD_DAY, archive, clean, memento, mementos, moment, original};
 use memento_time::{
     ArchiveName, Clean, CleanFault, DateReader, DateWriter, Items, Memento, MementosBuilder,
     Moment, Octets, Original, in_order, is_clean,
@@ -157,7 +155,7 @@ fn copies(rt: HostRuntime) -> Result<(), Fail> {
     let alloc = rt.alloc();
     assert!(rt; is_copied(&clean(alloc, b"a")?)?);
     assert!(rt; is_original_copied(&original(alloc, b"a")?)?);
-    assert!(rt; are_octets_copied(&octets(alloc, b"ab")?)?);
+    assert!(rt; are_octets_copied(&Octets::from_slice(alloc, b"ab")?)?);
     assert!(rt; is_memento_copied(&memento(alloc, 7, b"a")?)?);
     Ok(())
 }
@@ -166,7 +164,7 @@ fn copies(rt: HostRuntime) -> Result<(), Fail> {
 fn bytes(rt: HostRuntime) -> Result<(), Fail> {
     let alloc = rt.alloc();
     assert!(rt; clean(alloc, b"a")?.as_bytes() == b"a".as_slice() && is_clean(b"a"));
-    assert!(rt; octets(alloc, b"ab")?.into_vec().as_slice() == b"ab".as_slice());
+    assert!(rt; Octets::from_slice(alloc, b"ab")?.into_vec().as_slice() == b"ab".as_slice());
     Ok(())
 }
 

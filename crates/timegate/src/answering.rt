@@ -17,7 +17,7 @@ ghost use Rattle.timegate.specs.Served.{IsServed};
 
 use crate::reply::{Header, Reply};
 use crate::request::Request;
-use crate::route::{Route, is_head, is_timegate, route_of};
+use crate::route::{Route, is_timegate, route_of};
 use memento_index::Index;
 use memento_time::{Items, Memento, NoMemory, Octets, Original};
 use replica_exchange::{Cursor, Stamped, write_delta, write_state};
@@ -120,7 +120,10 @@ fn redirect(
     let links = write_gate_links(alloc, service, original, index.list(original))?;
     let mut headers = Vec::new(alloc);
     push_vary(alloc, &mut headers, request)?;
-    headers.push((Header::Location, octets(alloc, memento.uri.as_bytes())?))?;
+    headers.push((
+        Header::Location,
+        Octets::from_slice(alloc, memento.uri.as_bytes())?,
+    ))?;
     headers.push((Header::Link, Octets::of(links)))?;
     Ok(reply_with(request, 302, headers, Vec::new(alloc)))
 }
@@ -140,7 +143,7 @@ fn timemap(
     if mementos.is_empty() {
         return short_reply(alloc, request, 404, Vec::new(alloc), b"no memento\n");
     }
-    let text = if is_head(request) {
+    let text = if request.is_head() {
         Vec::new(alloc)
     } else if pages(mementos) > 1 {
         write_index(alloc, service, original, mementos)?
@@ -169,7 +172,7 @@ fn page(
     let Some(page) = page_of(all, number) else {
         return short_reply(alloc, request, 404, Vec::new(alloc), b"no such page\n");
     };
-    let text = if is_head(request) {
+    let text = if request.is_head() {
         Vec::new(alloc)
     } else {
         write_page(alloc, service, original, all, page)?
@@ -193,7 +196,7 @@ fn links_reply(alloc: Global, request: &Request, text: Vec<u8>) -> Result<Reply,
     ensures { IfOk result (λ answer. answer ≡ links_reply request.now text.items) }
 {
     let mut headers = Vec::new(alloc);
-    let kind = octets(alloc, b"application/link-format")?;
+    let kind = Octets::from_slice(alloc, b"application/link-format")?;
     headers.push((Header::ContentType, kind))?;
     Ok(reply_with(request, 200, headers, text))
 }
@@ -202,7 +205,7 @@ fn links_reply(alloc: Global, request: &Request, text: Vec<u8>) -> Result<Reply,
 fn state(alloc: Global, index: &Index, request: &Request) -> Result<Reply, NoMemory>
     ensures { IfOk result (λ answer. answer ≡ peer_reply request.now (state_text index.now)) }
 {
-    let text = if is_head(request) {
+    let text = if request.is_head() {
         Vec::new(alloc)
     } else {
         write_state(alloc, index.state())?
@@ -220,7 +223,7 @@ fn delta(
     ensures { IfOk result (λ answer. answer
         ≡ peer_reply request.now (delta_text (delta_from stamped.now cursor))) }
 {
-    let text = if is_head(request) {
+    let text = if request.is_head() {
         Vec::new(alloc)
     } else {
         write_delta(alloc, stamped, cursor)?
@@ -233,7 +236,10 @@ fn peer_reply(alloc: Global, request: &Request, text: Vec<u8>) -> Result<Reply, 
     ensures { IfOk result (λ answer. answer ≡ peer_reply request.now text.items) }
 {
     let mut headers = Vec::new(alloc);
-    headers.push((Header::ContentType, octets(alloc, b"text/plain")?))?;
+    headers.push((
+        Header::ContentType,
+        Octets::from_slice(alloc, b"text/plain")?,
+    ))?;
     Ok(reply_with(request, 200, headers, text))
 }
 
@@ -241,7 +247,7 @@ fn bad_method(alloc: Global, request: &Request) -> Result<Reply, NoMemory>
     ensures { IfOk result (λ answer. answer ≡ bad_method request.now) }
 {
     let mut headers = Vec::new(alloc);
-    headers.push((Header::Allow, octets(alloc, b"GET, HEAD")?))?;
+    headers.push((Header::Allow, Octets::from_slice(alloc, b"GET, HEAD")?))?;
     short_reply(alloc, request, 405, headers, b"bad method\n")
 }
 
@@ -257,7 +263,10 @@ fn short_reply(
 {
     let mut headers = headers;
     push_vary(alloc, &mut headers, request)?;
-    headers.push((Header::ContentType, octets(alloc, b"text/plain")?))?;
+    headers.push((
+        Header::ContentType,
+        Octets::from_slice(alloc, b"text/plain")?,
+    ))?;
     let body = Vec::from_slice(alloc, text)?;
     Ok(reply_with(request, status, headers, body))
 }
@@ -271,7 +280,7 @@ fn push_vary(
     ensures { OnOk result (headers.new.items ≡ headers.old.items ++ vary request.now) }
 {
     if is_timegate(request) {
-        headers.push((Header::Vary, octets(alloc, b"accept-datetime")?))?;
+        headers.push((Header::Vary, Octets::from_slice(alloc, b"accept-datetime")?))?;
     }
     Ok(())
 }
@@ -286,7 +295,7 @@ fn reply_with(
     ensures { result ≡ reply_with request.now status headers.items body.items }
 {
     let mut body = body;
-    if is_head(request) {
+    if request.is_head() {
         body.clear();
     }
     Reply {
@@ -294,10 +303,4 @@ fn reply_with(
         headers: Items::of(headers),
         body: Octets::of(body),
     }
-}
-
-fn octets(alloc: Global, text: &[u8]) -> Result<Octets, NoMemory>
-    ensures { IfOk result (λ octets. octets ≡ text.now) }
-{
-    Ok(Octets::of(Vec::from_slice(alloc, text)?))
 }

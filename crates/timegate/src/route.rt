@@ -10,7 +10,7 @@ use memento_time::{Moment, NoMemory, Octets, Original};
 use replica_exchange::Cursor;
 use std::alloc::Global;
 use std::str;
-use text_fields::{read_decimal, split_once};
+use text_fields::{behind, read_decimal, split_once};
 use timemap_reader::{OriginalFault, read_original};
 
 /// What a request asks for, or why it is refused.
@@ -32,18 +32,6 @@ pub enum Route {
     Page(u64, Original),
 }
 
-pub(crate) fn is_head(request: &Request) -> bool
-    ensures { result ≡ is_head request.now }
-{
-    request.method.as_slice() == b"HEAD".as_slice()
-}
-
-fn is_get(request: &Request) -> bool
-    ensures { result ≡ is_get request.now }
-{
-    request.method.as_slice() == b"GET".as_slice()
-}
-
 fn is_state(request: &Request) -> bool
     ensures { result ≡ is_state request.now }
 {
@@ -54,15 +42,6 @@ fn is_whole_delta(request: &Request) -> bool
     ensures { result ≡ is_whole_delta request.now }
 {
     request.target.as_slice() == b"/delta".as_slice()
-}
-
-/// What follows the front, if the bytes begin with it.
-fn behind<'a>(bytes: &'a [u8], front: &[u8]) -> Option<&'a [u8]>
-    ensures found { IfSome result (λ rest. (starts_with nat_eq bytes.now front.now ≡ true)
-        × (rest.now ≡ drop (length front.now) bytes.now)) }
-    ensures none { IfNone result (starts_with nat_eq bytes.now front.now ≡ false) }
-{
-    bytes.strip_prefix(front)
 }
 
 /// The cursor that bytes name: its incarnation, a slash, and its number.
@@ -126,7 +105,7 @@ fn timegate_route(asked: &[Octets], original: Original) -> Route
 fn page_in(bytes: &[u8]) -> Option<(u64, &[u8])>
     ensures { option_map (λ page. (page.0, page.1.now)) result ≡ page_in bytes.now }
 {
-    let (number, rest) = split_once(behind(bytes, b"page/")?, b'/')?;
+    let (number, rest) = split_once(behind(b"page/", bytes)?, b'/')?;
     Some((read_decimal(number)?, rest))
 }
 
@@ -153,7 +132,7 @@ pub(crate) fn route_of(alloc: Global, request: &Request) -> Result<Route, NoMemo
     ensures route { IfOk result (λ route. route ≡ route_of request.now) }
     ensures kept { IfOk result (λ route. IfSome (original_in route) IsAsked) }
 {
-    if !is_get(request) && !is_head(request) {
+    if !request.is_get() && !request.is_head() {
         return Ok(Route::BadMethod);
     }
     if is_state(request) {
@@ -163,16 +142,16 @@ pub(crate) fn route_of(alloc: Global, request: &Request) -> Result<Route, NoMemo
         return Ok(Route::Delta(None));
     }
     let target = request.target.as_slice();
-    if let Some(cursor) = behind(target, b"/delta/") {
+    if let Some(cursor) = behind(b"/delta/", target) {
         return Ok(delta_route(cursor_at(cursor)));
     }
-    if let Some(original) = behind(target, b"/timegate/") {
+    if let Some(original) = behind(b"/timegate/", target) {
         return match original_at(alloc, original)? {
             None => Ok(Route::BadOriginal),
             Some(original) => Ok(timegate_route(request.asked.as_slice(), original)),
         };
     }
-    if let Some(listing) = behind(target, b"/timemap/link/") {
+    if let Some(listing) = behind(b"/timemap/link/", target) {
         return map_route(alloc, listing);
     }
     Ok(Route::NoRoute)

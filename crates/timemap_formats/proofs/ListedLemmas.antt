@@ -16,7 +16,8 @@ use Rattle.memento_time.proofs.SecondOfLemmas.{second_of-Reads}
 use Rattle.timemap_writer.specs.TimeMap.{memento_relations, memento_link, memento_links, timemap_links}
 use Rattle.timemap_formats.specs.declared.listing.Row.{Row}
 use Rattle.timemap_formats.specs.declared.listing.Row.TheVariants.{OfMemento}
-use Rattle.timemap_formats.specs.Listing.{clean_at, behind, before, second_at, ends_of, memento_row, page_row, row_of, with_row}
+use Rattle.timemap_formats.specs.Listing.{clean_at, before, second_at, ends_of, memento_row, page_row, row_of, with_row}
+use Rattle.text_fields.specs.Parts.{behind}
 use Rattle.timemap_formats.specs.Listing.{rows_of, front_at, head_by, head_on, place_at, base_at, head_of, with_rows, listing_below, listing_of}
 use Rattle.timemap_formats.specs.Readback.{memento_rows, mementos_of, timemap_listing}
 use Rattle.timemap_formats.proofs.ReadingLemmas.{clean_at_clean}

@@ -13,15 +13,12 @@ use Rattle.timemap_formats.specs.declared.listing.Row.{Row}
 use Rattle.timemap_formats.specs.declared.listing.Row.TheVariants.{OfMemento, OfPage}
 use Rattle.timemap_formats.specs.declared.listing.Listing.{Listing}
 use Rattle.timemap_formats.specs.declared.listing.Head.{Head}
+use Rattle.text_fields.specs.Parts.{behind}
 
 -- the text, if it is a clean one
 abbrev pub clean_at : List ℕ → Option (List ℕ)
 clean_at text =
     if nat_lt 0 (length text) && nat_le (length text) 8192 && list_all is_clean_byte text then Some text else None
-
--- what stands behind this front, if the text begins with it
-abbrev pub behind : List ℕ → List ℕ → Option (List ℕ)
-behind front text = if starts_with nat_eq text front then Some (drop (length front) text) else None
 
 -- what stands before this end, if the text ends with it
 abbrev pub before : List ℕ → List ℕ → Option (List ℕ)

@@ -15,6 +15,13 @@ pub enum Form {
     Cdxj,
 }
 
+/// In which forms beside link-format TimeMaps are given.
+#[derive(Clone, Copy, Debug, PartialEq, Eq)]
+pub struct Forms {
+    pub json: bool,
+    pub cdxj: bool,
+}
+
 impl Form {
     /// Where the TimeMaps in this form stand, each followed by its original.
     pub fn front(self) -> &'static [u8]

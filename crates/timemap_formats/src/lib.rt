@@ -13,7 +13,7 @@ mod laws;
 mod listing;
 mod reading;
 
-pub use forms::{Form, write_listing};
+pub use forms::{Form, Forms, write_listing};
 pub use laws::{datetimes_are_told, json_is_read, timemaps_are_listed};
 pub use listing::{Ends, Head, Listing, PageLink, Row};
 pub use reading::read_listing;

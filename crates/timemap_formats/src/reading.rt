@@ -1,7 +1,8 @@
 //! Reads what a text in link-format lists.
 ghost use Rattle.std.specs.Prelude.{◌≡◌, ◌≤◌, ◌++◌, length, drop, codes, bytes_eq, IfOk, option_map, None};
 ghost use Rattle.std.specs.Option.{option_and_then};
-ghost use Rattle.timemap_formats.specs.Listing.{clean_at, behind, before, second_at, ends_of, memento_row, page_row};
+ghost use Rattle.timemap_formats.specs.Listing.{clean_at, before, second_at, ends_of, memento_row, page_row};
+ghost use Rattle.text_fields.specs.Parts.{behind};
 ghost use Rattle.timemap_formats.specs.Listing.{row_of, rows_of, base_at, place_at, head_by, head_of};
 ghost use Rattle.timemap_formats.specs.Listing.{listing_below, listing_of, Lists};
 
@@ -9,6 +10,7 @@ use crate::listing::{Ends, Head, Listing, PageLink, Row};
 use link_format::{LinkFault, LinkRef, Links, read_links};
 use memento_time::{Clean, CleanFault, DateReader, Items, Memento, Moment, NoMemory};
 use std::alloc::Global;
+use text_fields::behind;
 
 /// How many links are the head of a listing.
 const HEAD: usize = 3;
@@ -22,13 +24,6 @@ fn clean_at(alloc: Global, text: &[u8]) -> Result<Option<Clean>, NoMemory>
         Err(CleanFault::NotClean) => Ok(None),
         Err(CleanFault::NoMemory) => Err(NoMemory),
     }
-}
-
-/// What follows the front, if the text begins with it.
-fn behind<'a>(front: &[u8], text: &'a [u8]) -> Option<&'a [u8]>
-    ensures { option_map (λ rest. rest.now) result ≡ behind front.now text.now }
-{
-    text.strip_prefix(front)
 }
 
 /// What comes before the end, if the text ends with it.

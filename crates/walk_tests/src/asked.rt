@@ -1,14 +1,14 @@
 //! Walks over archives in memory, whose calls are counted.
 use anyhow::{Result, bail};
 use harvester::{Answer, Fetch, FetchFault, Job, MemoryFetch, Outcome, WalkFault, walk};
-use memento_time::{Clean, Items};
+use memento_time::{Clean, Items, Octets};
 use std::alloc::{AllocGlobal, Global};
 use std::net::{Net, TcpListener, TcpStream};
 use std::random::RandomSource;
 use std::sync::Wait;
 use std::sync::atomic::{AtomicU64, Ordering};
 use std::time::Clock;
-use text_tests::makers::{archive, clean, octets, original};
+use text_tests::makers::{archive, clean, original};
 
 /// An archive in memory. It counts how often it was asked for a URL, and had an answer or none.
 #[derive(Drop)]
@@ -73,7 +73,7 @@ fn add_page(
         status,
         encoding: Items::of(Vec::new(alloc)),
         retry_after: Items::of(Vec::new(alloc)),
-        body: octets(alloc, body)?,
+        body: Octets::from_slice(alloc, body)?,
     };
     pages.add(clean(alloc, url)?, answer)?;
     Ok(())

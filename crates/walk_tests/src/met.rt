@@ -1,7 +1,7 @@
 //! Rounds over an archive in memory, which answers only while two walks go on at once.
 use anyhow::{Result, bail};
 use harvester::{Answer, Fetch, FetchFault, Job, MemoryFetch, have_first_urls, run_round};
-use memento_time::{Clean, Items};
+use memento_time::{Clean, Items, Octets};
 use std::alloc::{AllocGlobal, Global};
 use std::net::{Net, TcpListener, TcpStream};
 use std::random::RandomSource;
@@ -9,7 +9,7 @@ use std::sync::Wait;
 use std::sync::atomic::{AtomicU64, Ordering};
 use std::thread::{self, Threads};
 use std::time::{Clock, Duration};
-use text_tests::makers::{archive, clean, octets, original};
+use text_tests::makers::{archive, clean, original};
 
 /// An archive in memory that gives no answer before it was asked twice.
 #[derive(Drop)]
@@ -58,7 +58,7 @@ fn add_page(pages: &mut MemoryFetch, alloc: Global, url: &[u8]) -> Result<()> {
         status: 200,
         encoding: Items::of(Vec::new(alloc)),
         retry_after: Items::of(Vec::new(alloc)),
-        body: octets(alloc, b"")?,
+        body: Octets::from_slice(alloc, b"")?,
     };
     pages.add(clean(alloc, url)?, answer)?;
     Ok(())

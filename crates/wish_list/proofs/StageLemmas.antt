@@ -5,8 +5,8 @@ use Rattle.std.proofs.lemmas.Bool.{true≢false, cases_eq, false_from_ne_true}
 use Rattle.std.proofs.lemmas.Bool.Decides.{Decides-eqb}
 use Rattle.wish_list.specs.declared.stages.Stage.{Stage}
 use Rattle.wish_list.specs.declared.stages.Stage.TheVariants.{Waits, Out, Has, HasNone, Failed, Skipped, Spared}
-use Rattle.wish_list.specs.declared.stages.Answer.{Answer}
-use Rattle.wish_list.specs.declared.stages.Answer.TheVariants.{Copies, NoCopies, NoHarvest}
+use Rattle.wish_list.specs.declared.stages.WishAnswer.{WishAnswer}
+use Rattle.wish_list.specs.declared.stages.WishAnswer.TheVariants.{Copies, NoCopies, NoHarvest}
 use Rattle.wish_list.specs.Stages.{Act, AreAskedOnce, IsRun, asks, stage_at_first, can, stages_after, holds, is_out, stage_of, times_asked, waits, was_asked}
 use Rattle.wish_list.specs.Stages.Act.{Asks, Comes, Skips}
 
@@ -40,7 +40,7 @@ out_counted Failed h = absurd (true≢false (sym h))
 out_counted Skipped h = absurd (true≢false (sym h))
 out_counted Spared h = absurd (true≢false (sym h))
 
-answer_counted : (answer : Answer) → counts (stage_of answer) ≡ 1
+answer_counted : (answer : WishAnswer) → counts (stage_of answer) ≡ 1
 answer_counted Copies = refl
 answer_counted NoCopies = refl
 answer_counted NoHarvest = refl

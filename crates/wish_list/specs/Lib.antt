@@ -1,3 +1,6 @@
+pub mod Allowance
+pub mod Asked
+pub mod Examples
 pub mod Jobs
 pub mod Queue
 pub mod Stages

@@ -3,8 +3,8 @@ use Rattle.std.specs.Prelude.{◌≡◌, ℕ, ◌+◌, ◌==◌, Bool, true, fal
 use Rattle.std.specs.List.{list_any}
 use Rattle.wish_list.specs.declared.stages.Stage.{Stage}
 use Rattle.wish_list.specs.declared.stages.Stage.TheVariants.{Waits, Out, Has, HasNone, Failed, Skipped, Spared}
-use Rattle.wish_list.specs.declared.stages.Answer.{Answer}
-use Rattle.wish_list.specs.declared.stages.Answer.TheVariants.{Copies, NoCopies, NoHarvest}
+use Rattle.wish_list.specs.declared.stages.WishAnswer.{WishAnswer}
+use Rattle.wish_list.specs.declared.stages.WishAnswer.TheVariants.{Copies, NoCopies, NoHarvest}
 use Rattle.wish_list.specs.declared.stages.Outcome.{Outcome}
 
 -- when a wish is granted, each archive is to be asked, or is spared
@@ -73,7 +73,7 @@ was_asked Skipped = false
 was_asked Spared = false
 
 -- how far an archive is that gave this
-abbrev pub stage_of : Answer → Stage
+abbrev pub stage_of : WishAnswer → Stage
 stage_of Copies = Has
 stage_of NoCopies = HasNone
 stage_of NoHarvest = Failed
@@ -81,7 +81,7 @@ stage_of NoHarvest = Failed
 -- what happens to the archives with a wish: one is asked, gives an answer, or is skipped
 pub data Act : Type 0 where
   Asks : ℕ → Act
-  Comes : ℕ → Answer → Act
+  Comes : ℕ → WishAnswer → Act
   Skips : ℕ → Act
 
 -- there is such an archive, and this holds of it

@@ -4,7 +4,7 @@ ghost use Rattle.wish_list.specs.Jobs.{Changes, ChangesAt, TakesEnded, begun_for
 ghost use Rattle.wish_list.specs.Stages.{ready};
 ghost use Rattle.wish_list.specs.Stages.Act.{Asks, Comes};
 
-use crate::stages::{Answer, Outcome, Stages};
+use crate::stages::{Outcome, Stages, WishAnswer};
 use memento_time::{NoMemory, Original};
 use std::alloc::Global;
 
@@ -129,7 +129,7 @@ impl WishJobs {
     }
 
     /// An archive answers for an original, if it is being asked for it. Returns whether it was.
-    pub fn answer(&mut self, original: &Original, archive: usize, answer: Answer) -> bool
+    pub fn answer(&mut self, original: &Original, archive: usize, answer: WishAnswer) -> bool
         ensures { Changes original.now (Comes archive answer) result self.old.wishes.items self.new.wishes.items }
     {
         match place_of(&self.wishes, original) {

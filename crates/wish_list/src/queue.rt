@@ -2,6 +2,7 @@
 ghost use Rattle.std.specs.Prelude.{◌≡◌, ◌++◌, ◌∷◌, [], ◌≤◌, ◌+◌, length, false, IfOk, IfNone, IfSome, OnOk, OnErr, count_by, position, filter};
 ghost use Rattle.wish_list.specs.Queue.{Grants, PutsBack, is_of, is_taken_in, is_unshown, is_waiting, isnt_of, most_wishes, stands, stands_from};
 
+use crate::asked::AskedOriginal;
 use memento_time::{NoMemory, Original};
 use std::alloc::Global;
 use std::marker::Model;
@@ -12,12 +13,12 @@ pub const MOST_WISHES: usize = 1_000;
 /// An original that readers asked for.
 #[derive(Debug, Drop)]
 pub struct Wish {
-    pub original: Original,
+    pub original: AskedOriginal,
     /// Something of it was shown to the reader.
     pub is_shown: bool,
     /// Archives are being asked.
     pub is_granted: bool,
-    /// The minute in which it was taken.
+    /// The minute to which it counts.
     pub minute: u64,
 }
 
@@ -49,7 +50,7 @@ fn oldest_waiting(wishes: &[Wish]) -> Option<usize>
 fn is_of(wish: &Wish, original: &Original) -> bool
     ensures { result ≡ is_of original.now wish.now }
 {
-    *original == wish.original
+    *original == *wish.original.as_original()
 }
 
 fn is_taken_in(wish: &Wish, original: &Original, minute: u64) -> bool
@@ -136,7 +137,7 @@ impl Queue {
             return Ok(None);
         };
         let wish = &mut self.wishes[place];
-        let original = wish.original.try_clone()?;
+        let original = wish.original.as_original().try_clone()?;
         wish.is_granted = true;
         Ok(Some(original))
     }

@@ -30,7 +30,7 @@ pub enum Stage {
 
 /// What an archive that was asked gave.
 #[derive(Clone, Copy, Debug)]
-pub enum Answer {
+pub enum WishAnswer {
     /// A harvest with copies.
     Copies,
     /// A harvest without any.
@@ -77,13 +77,13 @@ fn first_stage(is_spared: bool) -> Stage
 }
 
 /// How far an archive is that gave this.
-fn stage_of(answer: Answer) -> Stage
+fn stage_of(answer: WishAnswer) -> Stage
     ensures { result ≡ stage_of answer }
 {
     match answer {
-        Answer::Copies => Stage::Has,
-        Answer::NoCopies => Stage::HasNone,
-        Answer::NoHarvest => Stage::Failed,
+        WishAnswer::Copies => Stage::Has,
+        WishAnswer::NoCopies => Stage::HasNone,
+        WishAnswer::NoHarvest => Stage::Failed,
     }
 }
 
@@ -221,7 +221,7 @@ impl Stages {
     }
 
     /// An archive answers, if it is being asked. Returns whether it was.
-    pub(crate) fn come(&mut self, archive: usize, answer: Answer) -> bool
+    pub(crate) fn come(&mut self, archive: usize, answer: WishAnswer) -> bool
         ensures could { result ≡ can (Comes archive answer) self.old }
         ensures after { self.new ≡ after (Comes archive answer) self.old }
     {

@@ -1,6 +1,5 @@
 //! What readers wish for, and when it was looked after.
-ghost use Rattle.std.specs.Prelude.{◌≤◌};
-
+use crate::allowance::Allowance;
 use crate::queue::Queue;
 use crate::table::Table;
 use original_sets::OriginalSet;
@@ -8,7 +7,7 @@ use std::num::NonZeroUsize;
 
 /// How much may be wished for.
 #[derive(Clone, Copy, Debug)]
-pub struct Limits {
+pub struct WishLimits {
     /// How many originals are remembered that are shown; as many more that aren't.
     pub remembered: NonZeroUsize,
     /// The seconds in which an original isn't looked after again.
@@ -34,10 +33,23 @@ pub enum Decision {
     Listed,
 }
 
+/// What was found when an original was looked after.
+#[derive(Clone, Copy, Debug)]
+pub struct Found {
+    /// Whether something of it is shown.
+    pub is_shown: bool,
+    /// Whether each archive gave a harvest.
+    pub is_whole: bool,
+    /// The second in which it was looked after.
+    pub second: u64,
+}
+
 /// What readers wish for, and when it was looked after.
 #[derive(Drop)]
 pub struct Wishes {
-    pub(crate) limits: Limits,
+    /// The seconds in which an original isn't looked after again.
+    pub(crate) again: u64,
+    pub(crate) allowance: Allowance,
     pub(crate) queue: Queue,
     /// Originals of which something is shown.
     pub(crate) shown: Table,
@@ -49,9 +61,6 @@ pub struct Wishes {
     pub(crate) room: usize,
     /// How many wishes were turned away since that was last told, because there were as many as may be.
     pub(crate) turned_away: u64,
-    /// The minute of the last wish that was taken, and how many more may be taken in it.
-    pub(crate) minute: u64,
-    pub(crate) left: u64,
-
-    ghost few_left: { left ≤ limits.in_a_minute },
+    /// How many wishes came too late since that was last told, because their minute was used up.
+    pub(crate) late: u64,
 }

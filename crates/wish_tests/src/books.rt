@@ -1,6 +1,6 @@
 //! Tests of the book of wishes, and of gates that note in it.
 use anyhow::{Context, Result};
-use hyper_edge::Answers;
+use gate_server::Answers;
 use knowledge_tests::makers::{get, request};
 use memento_time::{Items, Octets, Original};
 use original_sets::OriginalSet;
@@ -10,11 +10,11 @@ use std::hash::RandomState;
 use std::num::NonZeroUsize;
 use std::random::RandomSource;
 use std::test::*;
-use std::time::Clock;
+use std::time::{Clock, SystemTime, UNIX_EPOCH};
 use text_tests::makers::original;
 use timegate::{Reply, Request};
-use wish_list::{Decision, Limits, Outcome};
-use wishing_gates::{WishBook, WishingGate, asked_original};
+use wish_list::{AskedOriginal, Decision, Outcome, WishLimits};
+use wishing_gates::{WishBook, WishingGate, asked_original, wished_at};
 
 const A: &[u8] = b"http://a.example/";
 
@@ -25,6 +25,11 @@ const FOUND: Outcome = Outcome {
     is_whole: true,
     is_asked: true,
 };
+
+/// The original that a text names, to be wished for.
+fn asked(alloc: Global, text: &[u8]) -> Result<AskedOriginal> {
+    wished_at(alloc, text)?.context("no original")
+}
 
 /// Answers each request with this status.
 #[derive(Drop)]
@@ -49,9 +54,16 @@ impl Answers for Told {
     }
 }
 
+/// The clock's second.
+fn now(rt: &impl Clock) -> Result<u64> {
+    let now = SystemTime::now(rt).ok().context("no clock")?;
+    let since = now.duration_since(UNIX_EPOCH).ok().context("before 1970")?;
+    Ok(since.as_secs())
+}
+
 /// A book in which one wish is taken in a minute.
 fn book_in<R: RandomSource + AllocGlobal>(rt: &R) -> Result<WishBook> {
-    let limits = Limits {
+    let limits = WishLimits {
         remembered: NonZeroUsize::new(9).context("no room")?,
         again: 1_000,
         in_a_minute: 1,
@@ -80,8 +92,10 @@ where
 fn a_closed_book_takes_nothing(rt: HostRuntime) -> Result<()> {
     let book = WishBook::closed();
     assert!(rt; !book.is_open() && !book.share()?.is_open());
-    assert!(rt; book.note(original(rt.alloc(), A)?, false, 60).is_none());
+    assert!(rt; book.note(asked(rt.alloc(), A)?, false, 60).is_none());
     assert!(rt; book.grant(&rt).is_none());
+    assert!(rt; book.is_settled(&original(rt.alloc(), A)?, 60).is_none());
+    assert!(rt; book.turned_away(&rt) == 0 && book.late(&rt) == 0);
     assert!(rt; ask(&rt, &book, 404, b"/timegate/http://a.example/")? == 404);
     Ok(())
 }
@@ -92,7 +106,7 @@ type Made = (&'static [u8], bool, u64, Decision);
 /// Whether a book decides just this on these wishes, one after the other.
 fn decides(alloc: Global, book: &WishBook, made: &[Made]) -> Result<bool> {
     for (uri, is_shown, second, decision) in made {
-        if book.note(original(alloc, uri)?, *is_shown, *second) != Some(*decision) {
+        if book.note(asked(alloc, uri)?, *is_shown, *second) != Some(*decision) {
             return Ok(false);
         }
     }
@@ -134,6 +148,9 @@ fn a_wish_that_ended_is_fresh(rt: HostRuntime) -> Result<()> {
         (B, true, 120, Decision::Added),
     ];
     assert!(rt; decides(alloc, &book, &made)?);
+    assert!(rt; book.late(&rt) == 1 && book.late(&rt) == 0);
+    assert!(rt; book.is_settled(&original(alloc, A)?, 60) == Some(true));
+    assert!(rt; book.is_settled(&original(alloc, B)?, 60) == Some(false));
     Ok(())
 }
 
@@ -195,8 +212,71 @@ fn a_gate_notes_what_it_shows(rt: HostRuntime) -> Result<()> {
     Ok(())
 }
 
+/// Other spellings of one original: another case, a dot segment, a port that its scheme has anyway, a fragment.
+const SPELLINGS: [&[u8]; 5] = [
+    b"HTTP://A.example/",
+    b"http://A.EXAMPLE",
+    b"http://a.example/x/../",
+    b"http://a.example:80/",
+    b"http://a.example/#top",
+];
+
+/// The target of the TimeGate of what bytes name.
+fn timegate(alloc: Global, named: &[u8]) -> Result<Vec<u8>> {
+    let mut target = Vec::from_slice(alloc, b"/timegate/".as_slice())?;
+    target.extend_from_slice(named)?;
+    Ok(target)
+}
+
+#[test]
+fn however_it_is_spelled_what_is_shown_is_noted_under_one_name(rt: HostRuntime) -> Result<()> {
+    let a = original(rt.alloc(), A)?;
+    for spelling in SPELLINGS {
+        let book = book_in(&rt)?;
+        let target = timegate(rt.alloc(), spelling)?;
+        assert!(rt; ask(&rt, &book, 302, &target)? == 302);
+        assert!(rt; is(book.grant(&rt), &a));
+        assert!(rt; ask(&rt, &book, 302, &target)? == 302);
+        assert!(rt; book.grant(&rt).is_none(), "it waits");
+    }
+    Ok(())
+}
+
+#[test]
+fn what_is_no_timegate_or_timemap_wishes_for_nothing(rt: HostRuntime) -> Result<()> {
+    let book = book_in(&rt)?;
+    for target in [
+        b"/timemap/link/page/1/http://a.example/".as_slice(),
+        b"/timemap/link/page/x".as_slice(),
+        b"/state".as_slice(),
+        b"/delta".as_slice(),
+        b"/other/http://a.example/".as_slice(),
+        b"/timegate/nothing".as_slice(),
+    ] {
+        assert!(rt; ask(&rt, &book, 200, target)? == 200);
+        assert!(rt; book.grant(&rt).is_none());
+    }
+    Ok(())
+}
+
+#[test]
+fn spellings_of_what_was_looked_after_wish_for_nothing(rt: HostRuntime) -> Result<()> {
+    let a = original(rt.alloc(), A)?;
+    let book = book_in(&rt)?;
+    assert!(rt; ask(&rt, &book, 302, b"/timegate/http://a.example/")? == 302);
+    assert!(rt; is(book.grant(&rt), &a));
+    book.end(&rt, &a, true, FOUND, now(&rt)?);
+    for spelling in SPELLINGS {
+        assert!(rt; ask(&rt, &book, 302, &timegate(rt.alloc(), spelling)?)? == 302);
+        assert!(rt; book.grant(&rt).is_none());
+    }
+    assert!(rt; ask(&rt, &book, 302, b"/timegate/http://a.example/")? == 302);
+    assert!(rt; book.grant(&rt).is_none());
+    Ok(())
+}
+
 /// The original that a request by this method for a target asks for, if it asks for one.
-fn asked_by(alloc: Global, method: &[u8], target: &[u8]) -> Result<Option<Original>> {
+fn asked_by(alloc: Global, method: &[u8], target: &[u8]) -> Result<Option<AskedOriginal>> {
     let request = request(alloc, method, target, &[])?;
     Ok(asked_original(alloc, &request)?)
 }
@@ -208,8 +288,8 @@ fn a_request_asks_for_an_original(rt: HostRuntime) -> Result<()> {
         b"/timegate/http://a.example/".as_slice(),
         b"/timemap/link/http://a.example/".as_slice(),
     ] {
-        let asked = asked_by(rt.alloc(), b"HEAD", target)?;
-        assert!(rt; is(asked, &a));
+        let asked = asked_by(rt.alloc(), b"HEAD", target)?.context("no original")?;
+        assert!(rt; *asked.as_original() == a);
         assert!(rt; asked_by(rt.alloc(), b"POST", target)?.is_none());
     }
     Ok(())

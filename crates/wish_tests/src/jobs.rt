@@ -3,7 +3,7 @@ use anyhow::{Context, Result};
 use std::alloc::{AllocGlobal, Global};
 use std::test::*;
 use text_tests::makers::original;
-use wish_list::{Answer, Ask, WishJobs};
+use wish_list::{Ask, WishAnswer, WishJobs};
 
 const A: &[u8] = b"http://a.example/";
 
@@ -41,9 +41,9 @@ fn a_wish_is_over_once_its_archives_have_answered(rt: HostRuntime) -> Result<()>
     let a = original(rt.alloc(), A)?;
     let mut jobs = one_spared(rt.alloc())?;
     assert!(rt; jobs.ask(FIRST) && jobs.ask(LAST));
-    assert!(rt; jobs.answer(&a, 0, Answer::NoCopies));
+    assert!(rt; jobs.answer(&a, 0, WishAnswer::NoCopies));
     assert!(rt; jobs.take_ended().is_none(), "one is being asked");
-    assert!(rt; jobs.answer(&a, 2, Answer::Copies));
+    assert!(rt; jobs.answer(&a, 2, WishAnswer::Copies));
     let ended = jobs.take_ended().context("no end")?;
     assert!(rt; ended.original == a && jobs.len() == 0);
     assert!(rt; ended.outcome.is_found && ended.outcome.is_whole && ended.outcome.is_asked);

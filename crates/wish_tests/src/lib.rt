@@ -11,4 +11,6 @@ mod jobs;
 #[cfg(test)]
 mod lists;
 #[cfg(test)]
+mod uses;
+#[cfg(test)]
 mod wishes;

@@ -7,7 +7,8 @@ use std::num::NonZeroUsize;
 use std::random::RandomSource;
 use std::test::*;
 use text_tests::makers::original;
-use wish_list::{Decision, Limits, Queue, RETRY, Wish, Wishes};
+use wish_list::{AskedOriginal, Decision, Found, Queue, RETRY, Wish, WishLimits, Wishes};
+use wishing_gates::wished_at;
 
 const A: &[u8] = b"http://a.example/";
 
@@ -15,9 +16,18 @@ const B: &[u8] = b"http://b.example/";
 
 const C: &[u8] = b"http://c.example/";
 
+const D: &[u8] = b"http://d.example/";
+
+const E: &[u8] = b"http://e.example/";
+
+/// The original that a text names, to be wished for.
+fn asked(alloc: Global, text: &[u8]) -> Result<AskedOriginal> {
+    wished_at(alloc, text)?.context("no original")
+}
+
 /// No wishes, of which two may be taken in a minute.
 fn no_wishes<R: RandomSource + AllocGlobal>(rt: &R) -> Result<Wishes> {
-    let limits = Limits {
+    let limits = WishLimits {
         remembered: NonZeroUsize::new(9).context("no room")?,
         again: 1_000,
         in_a_minute: 2,
@@ -31,11 +41,25 @@ type Made = (&'static [u8], bool, u64, Decision);
 /// Whether just this is decided on these wishes, one after the other.
 fn decides(alloc: Global, wishes: &mut Wishes, made: &[Made]) -> Result<bool> {
     for (uri, is_shown, second, decision) in made {
-        if wishes.wish(original(alloc, uri)?, *is_shown, *second)? != *decision {
+        if wishes.wish(asked(alloc, uri)?, *is_shown, *second)? != *decision {
             return Ok(false);
         }
     }
     Ok(true)
+}
+
+/// Wishes for an original of which nothing is shown, and ends the wish in this second. It counts in no minute.
+fn note(alloc: Global, wishes: &mut Wishes, uri: &[u8], is_whole: bool, second: u64) -> Result<()> {
+    let original = original(alloc, uri)?;
+    let _ = wishes.wish(asked(alloc, uri)?, false, second)?;
+    let found = Found {
+        is_shown: false,
+        is_whole,
+        second,
+    };
+    wishes.note(&original, found)?;
+    wishes.end(&original, false);
+    Ok(())
 }
 
 #[test]
@@ -53,6 +77,53 @@ fn a_wish_is_taken_once_and_two_in_a_minute(rt: HostRuntime) -> Result<()> {
 }
 
 #[test]
+fn a_minute_is_given_once_in_whatever_order_gates_read_the_clock(rt: HostRuntime) -> Result<()> {
+    let mut wishes = no_wishes(&rt)?;
+    let made = [
+        (A, false, 119, Decision::Added),
+        (B, false, 119, Decision::Added),
+        (C, false, 120, Decision::Added),
+        (D, false, 119, Decision::Added),
+        (E, false, 119, Decision::Late),
+        (E, false, 179, Decision::Late),
+        (E, false, 180, Decision::Added),
+    ];
+    assert!(rt; decides(rt.alloc(), &mut wishes, &made)?);
+    assert!(rt; wishes.late() == 2 && wishes.late() == 0);
+    Ok(())
+}
+
+#[test]
+fn a_clock_that_was_ahead_keeps_no_wish(rt: HostRuntime) -> Result<()> {
+    let mut wishes = no_wishes(&rt)?;
+    let made = [
+        (A, false, 3_456_060, Decision::Added),
+        (B, false, 3_456_060, Decision::Added),
+        (C, false, 3_456_060, Decision::Late),
+        (C, false, 60, Decision::Added),
+    ];
+    assert!(rt; decides(rt.alloc(), &mut wishes, &made)?);
+    Ok(())
+}
+
+#[test]
+fn what_was_looked_after_ahead_of_the_clock_is_due(rt: HostRuntime) -> Result<()> {
+    let alloc = rt.alloc();
+    let mut wishes = no_wishes(&rt)?;
+    note(alloc, &mut wishes, A, true, 3_456_000)?;
+    note(alloc, &mut wishes, B, true, 1_059)?;
+    let made = [
+        (B, false, 60, Decision::Fresh),
+        (A, false, 60, Decision::Added),
+    ];
+    assert!(rt;
+        decides(alloc, &mut wishes, &made)?,
+        "B is ahead by less than `again`"
+    );
+    Ok(())
+}
+
+#[test]
 fn a_wish_is_granted_and_put_back(rt: HostRuntime) -> Result<()> {
     let a = original(rt.alloc(), A)?;
     let mut wishes = no_wishes(&rt)?;
@@ -66,17 +137,66 @@ fn a_wish_is_granted_and_put_back(rt: HostRuntime) -> Result<()> {
 
 #[test]
 fn what_was_looked_after_is_fresh(rt: HostRuntime) -> Result<()> {
-    let (a, b) = (original(rt.alloc(), A)?, original(rt.alloc(), B)?);
+    let alloc = rt.alloc();
     let mut wishes = no_wishes(&rt)?;
-    wishes.note(&a, false, true, 2_000)?;
-    wishes.note(&b, false, false, 2_000)?;
+    note(alloc, &mut wishes, A, true, 2_000)?;
+    note(alloc, &mut wishes, B, false, 2_000)?;
     let made = [
         (B, false, 1_999 + RETRY, Decision::Fresh),
         (B, false, 2_000 + RETRY, Decision::Added),
         (A, false, 2_999, Decision::Fresh),
         (A, false, 3_000, Decision::Added),
     ];
-    assert!(rt; decides(rt.alloc(), &mut wishes, &made)?);
+    assert!(rt; decides(alloc, &mut wishes, &made)?);
+    Ok(())
+}
+
+#[test]
+fn ten_minutes_are_six_hundred_seconds(rt: HostRuntime) -> Result<()> {
+    assert!(rt; RETRY == 600);
+    Ok(())
+}
+
+#[test]
+fn what_was_not_wished_for_is_not_noted(rt: HostRuntime) -> Result<()> {
+    let alloc = rt.alloc();
+    let mut wishes = no_wishes(&rt)?;
+    let found = Found {
+        is_shown: false,
+        is_whole: true,
+        second: 60,
+    };
+    wishes.note(&original(alloc, A)?, found)?;
+    assert!(rt; decides(alloc, &mut wishes, &[(A, false, 60, Decision::Added)])?);
+    Ok(())
+}
+
+#[test]
+fn a_text_is_settled_if_it_is_that_of_what_was_looked_after(rt: HostRuntime) -> Result<()> {
+    let alloc = rt.alloc();
+    let mut wishes = no_wishes(&rt)?;
+    assert!(rt;
+        !wishes.is_settled(&original(alloc, A)?, 60)?,
+        "nothing is known of it"
+    );
+    assert!(rt; decides(alloc, &mut wishes, &[(A, true, 60, Decision::Added)])?);
+    let found = Found {
+        is_shown: true,
+        is_whole: true,
+        second: 60,
+    };
+    wishes.note(&original(alloc, A)?, found)?;
+    wishes.end(&original(alloc, A)?, true);
+    assert!(rt; wishes.is_settled(&original(alloc, A)?, 1_059)?);
+    assert!(rt;
+        !wishes.is_settled(&original(alloc, A)?, 1_060)?,
+        "it is due"
+    );
+    assert!(rt; !wishes.is_settled(&original(alloc, b"HTTP://A.example/")?, 60)?);
+    let mut listed = OriginalSet::with_room(alloc, 1, RandomState::new(&rt)?)?;
+    assert!(rt; listed.insert(Key::new(&original(alloc, B)?)?)?);
+    drop(wishes.set_listed(listed));
+    assert!(rt; wishes.is_settled(&original(alloc, B)?, 60)?);
     Ok(())
 }
 
@@ -156,7 +276,7 @@ fn room_is_bounded_for_what_is_not_shown(rt: HostRuntime) -> Result<()> {
 fn one_wish(alloc: Global) -> Result<Queue> {
     let mut queue = Queue::new(alloc);
     queue.push(Wish {
-        original: original(alloc, A)?,
+        original: asked(alloc, A)?,
         is_shown: false,
         is_granted: false,
         minute: 7,

@@ -3,14 +3,18 @@ use Rattle.std.proofs.Common.{◌≡◌, ◌⊎◌, ℕ, Bool, true, false, not,
 use Rattle.std.specs.Prelude.{codes, is_some, nat_eq, if◌then◌else◌}
 use Rattle.std.specs.List.{starts_with}
 use Rattle.std.proofs.lemmas.Bool.{cases_Bool, true≢false}
+use Rattle.std.proofs.lemmas.Option.{none-some}
 use Rattle.std.proofs.lemmas.Slice.Eq.{bytes_eq-Decides}
+use Rattle.std.specs.Str.{is_utf8}
 use Rattle.memento_time.specs.SecondOf.{asked_of}
 use Rattle.timegate.specs.declared.request.Request.{Request}
 use Rattle.timegate.specs.declared.route.Route.{Route}
 use Rattle.timegate.specs.declared.route.Route.TheVariants.{BadMethod, State, Delta, NoRoute, TimeMap}
-use Rattle.timegate.specs.Route.{cursor_at, datetime_route, delta_route, deltas, is_delta, is_get, is_head, is_state, is_timegate, is_timemap, is_whole_delta, listing_route}
+use Rattle.timegate.specs.Route.{IsAsked, cursor_at, datetime_route, delta_route, deltas, is_delta, is_get, is_head, is_state, is_timegate, is_timemap, is_whole_delta, listing_route}
 use Rattle.timegate.specs.Route.{map_route, number_and_rest, original_at, original_route, page_in, page_part, route_of, slash, timegate_route, timegates, timemaps}
 use Rattle.text_fields.specs.Parts.{parts_at}
+use Rattle.timemap_reader.specs.Original.{original_of}
+use Rattle.wish_list.specs.Asked.{IsRead}
 use Rattle.replica_exchange.specs.declared.cursor.Cursor.{Cursor}
 use Rattle.timegate.proofs.Promises.{asking, at_target, front_is}
 use Rattle.wishing_gates.specs.Asked.{asked_in, gate_original, is_dated, is_page, list_in, listing_original}
@@ -162,3 +166,11 @@ asked-listing q page method gate = elim (cases_Bool (is_timemap q)) [
   | inl listing ↦ asked-map q (drop 14 q.target) page method listing refl ∙ listed_if (is_timemap q) (original_at (drop 14 q.target)) listing
   | inr other ↦ asked-elsewhere q page gate other ∙ unlisted_if (is_timemap q) (original_at (drop 14 q.target)) other
 ]
+
+named_as_text : (is_text : Bool) (named : Option (List ℕ)) (original : List ℕ) → (if is_text then named else None) ≡ Some original → named ≡ Some original
+named_as_text true named original is = is
+named_as_text false named original is = absurd (none-some original is)
+
+-- an original that is asked about is as `read_original` writes it
+pub read_of_asked : (original : List ℕ) → IsAsked original → IsRead original
+read_of_asked original asked = record { itself = named_as_text (is_utf8 original) (original_of original) original asked.itself }

@@ -1,12 +1,12 @@
 //! The book of wishes that the gates and the thread that hands out walks share.
-ghost use Rattle.std.specs.Prelude.{◌≡◌, IfOk, IsSome, None, is_some};
+ghost use Rattle.std.specs.Prelude.{◌≡◌, IfOk, IsSome, None, false, is_some};
 
 use memento_time::{NoMemory, Original};
 use original_sets::OriginalSet;
 use std::alloc::Global;
 use std::hash::RandomState;
 use std::sync::{Arc, Mutex, Wait};
-use wish_list::{Decision, Limits, Outcome, Wishes};
+use wish_list::{AskedOriginal, Decision, Found, Outcome, WishLimits, Wishes};
 
 /// Wishes that gates and the thread that hands out walks share, or a closed book, which takes none.
 #[derive(Drop)]
@@ -24,7 +24,7 @@ impl WishBook {
 
     /// A book without wishes that takes them within these limits. The keys of hashes are to be secret, as readers
     /// choose originals.
-    pub fn open(alloc: Global, limits: Limits, keys: RandomState) -> Result<WishBook, NoMemory>
+    pub fn open(alloc: Global, limits: WishLimits, keys: RandomState) -> Result<WishBook, NoMemory>
         ensures { IfOk result (λ book. IsSome book.shared) }
     {
         let wishes = Mutex::new(Wishes::new(alloc, limits, keys)?);
@@ -55,12 +55,36 @@ impl WishBook {
     /// Takes a wish for an original that was asked for in this second, of which something was shown or nothing. Doesn't
     /// wait: while another thread has the book, and where memory is refused, nothing is taken, and a reader who still
     /// misses the original asks again.
-    pub fn note(&self, original: Original, is_shown: bool, now: u64) -> Option<Decision>
+    pub fn note(&self, original: AskedOriginal, is_shown: bool, now: u64) -> Option<Decision>
         ensures closed { self.now.shared ≡ None → result ≡ None }
     {
         let shared = self.shared.as_ref()?;
         let mut wishes = shared.try_lock()?;
         wishes.wish(original, is_shown, now).ok()
+    }
+
+    /// Whether there is a wish for an original, granted or not. Doesn't wait: while another thread has the book, there
+    /// may be.
+    pub fn may_be_wished(&self, original: &Original) -> bool
+        ensures closed { self.now.shared ≡ None → result ≡ false }
+    {
+        let Some(shared) = &self.shared else {
+            return false;
+        };
+        match shared.try_lock() {
+            Some(wishes) => wishes.is_wished(original),
+            None => true,
+        }
+    }
+
+    /// Whether something that is shown has this text, and no wish for it is to be taken in this second. Doesn't wait:
+    /// while another thread has the book, and where memory is refused, nothing is told.
+    pub fn is_settled(&self, text: &Original, now: u64) -> Option<bool>
+        ensures closed { self.now.shared ≡ None → result ≡ None }
+    {
+        let shared = self.shared.as_ref()?;
+        let mut wishes = shared.try_lock()?;
+        wishes.is_settled(text, now).ok()
     }
 
     /// Grants the oldest wish that waits: its original. It is to be put back or ended.
@@ -92,7 +116,12 @@ impl WishBook {
     ) {
         if let Some(shared) = &self.shared {
             let mut wishes = shared.lock(rt);
-            let _ = wishes.note(original, is_shown, outcome.is_whole, now);
+            let found = Found {
+                is_shown,
+                is_whole: outcome.is_whole,
+                second: now,
+            };
+            let _ = wishes.note(original, found);
             wishes.end(original, outcome.is_asked);
         }
     }
@@ -119,6 +148,16 @@ impl WishBook {
     {
         match &self.shared {
             Some(shared) => shared.lock(rt).turned_away(),
+            None => 0,
+        }
+    }
+
+    /// How many wishes came too late since this was last asked, because as many as may be were taken in their minute.
+    pub fn late<R: Wait>(&self, rt: &R) -> u64
+        ensures closed { self.now.shared ≡ None → result ≡ 0 }
+    {
+        match &self.shared {
+            Some(shared) => shared.lock(rt).late(),
             None => 0,
         }
     }

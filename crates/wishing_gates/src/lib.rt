@@ -12,4 +12,4 @@ mod requests;
 pub use book::WishBook;
 pub use gates::WishingGate;
 pub use laws::absent_where_nothing_is_shown;
-pub use requests::asked_original;
+pub use requests::{asked_original, wished_at};

@@ -1,13 +1,15 @@
 //! What a request wishes for.
 ghost use Rattle.std.specs.Prelude.{◌≡◌, ◌||◌, true, false, nat_eq, drop, length, IfOk, IfSome, IfNone};
 ghost use Rattle.std.specs.List.{starts_with};
-ghost use Rattle.timegate.specs.Route.{is_get, is_head};
+ghost use Rattle.timegate.specs.Route.{IsAsked, is_get, is_head, original_at};
 ghost use Rattle.wishing_gates.specs.Asked as spec;
 ghost use Rattle.wishing_gates.specs.Asked.{asked_in, gate_original, listing_original};
 
 use memento_time::{Moment, NoMemory, Octets, Original};
 use std::alloc::Global;
+use text_fields::behind;
 use timegate::{Request, original_at};
+use wish_list::AskedOriginal;
 
 /// Whether the target is that of a page of a TimeMap, or begins like one.
 fn is_page(request: &Request) -> bool
@@ -38,13 +40,31 @@ fn is_dated(asked: &[Octets]) -> bool
     }
 }
 
-/// What follows the front, if the bytes begin with it.
-fn behind<'a>(bytes: &'a [u8], front: &[u8]) -> Option<&'a [u8]>
-    ensures found { IfSome result (λ rest. (starts_with nat_eq bytes.now front.now ≡ true)
-        × (rest.now ≡ drop (length front.now) bytes.now)) }
-    ensures none { IfNone result (starts_with nat_eq bytes.now front.now ≡ false) }
+/// What stands behind the front of a TimeGate's or a TimeMap's target.
+pub(crate) fn named(target: &[u8]) -> Option<&[u8]> {
+    match behind(b"/timegate/", target) {
+        Some(named) => Some(named),
+        None => behind(b"/timemap/link/", target),
+    }
+}
+
+/// An original that a request names, to be wished for.
+#[tactic(auto, using(crate::proofs::AskedLemmas::read_of_asked))]
+fn to_wish(original: Original) -> AskedOriginal
+    requires { IsAsked original }
+    ensures { result ≡ original }
 {
-    bytes.strip_prefix(front)
+    AskedOriginal::new(original)
+}
+
+/// The original that bytes name, which may be wished for.
+pub fn wished_at(alloc: Global, bytes: &[u8]) -> Result<Option<AskedOriginal>, NoMemory>
+    ensures { IfOk result (λ original. original ≡ original_at bytes.now) }
+{
+    match original_at(alloc, bytes)? {
+        Some(original) => Ok(Some(to_wish(original))),
+        None => Ok(None),
+    }
 }
 
 /// The original that stands behind `/timegate/`, if a TimeGate can be asked with these values of `Accept-Datetime`.
@@ -52,28 +72,29 @@ fn gate_original(
     alloc: Global,
     named: &[u8],
     asked: &[Octets],
-) -> Result<Option<Original>, NoMemory>
+) -> Result<Option<AskedOriginal>, NoMemory>
     ensures { IfOk result (λ original. original ≡ gate_original named.now asked.now) }
 {
     if is_dated(asked) {
-        original_at(alloc, named)
+        wished_at(alloc, named)
     } else {
         Ok(None)
     }
 }
 
 /// The original that stands behind `/timemap/link/`, if the target begins so.
-fn listing_original(alloc: Global, target: &[u8]) -> Result<Option<Original>, NoMemory>
+fn listing_original(alloc: Global, target: &[u8]) -> Result<Option<AskedOriginal>, NoMemory>
     ensures { IfOk result (λ original. original ≡ listing_original target.now) }
 {
-    match behind(target, b"/timemap/link/") {
-        Some(named) => original_at(alloc, named),
+    match behind(b"/timemap/link/", target) {
+        Some(named) => wished_at(alloc, named),
         None => Ok(None),
     }
 }
 
-/// The original whose TimeGate or TimeMap a request asks for, if it asks for one. A page of a TimeMap isn't one.
-pub fn asked_original(alloc: Global, request: &Request) -> Result<Option<Original>, NoMemory>
+/// The original whose TimeGate or TimeMap a request asks for, if it asks for one, as replies name it. A page of a
+/// TimeMap isn't one.
+pub fn asked_original(alloc: Global, request: &Request) -> Result<Option<AskedOriginal>, NoMemory>
     ensures { IfOk result (λ original. original ≡ asked_in request.now) }
 {
     if is_page(request) {
@@ -83,7 +104,7 @@ pub fn asked_original(alloc: Global, request: &Request) -> Result<Option<Origina
         return Ok(None);
     }
     let target = request.target.as_slice();
-    match behind(target, b"/timegate/") {
+    match behind(b"/timegate/", target) {
         Some(named) => gate_original(alloc, named, request.asked.as_slice()),
         None => listing_original(alloc, target),
     }

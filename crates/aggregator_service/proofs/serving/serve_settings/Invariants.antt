@@ -4,9 +4,13 @@ use Rattle.harvest_workers.specs.Errands.{archive_of}
 use Rattle.service_threads.specs.Jobs.{IsJobOf, MayAnswer}
 use Rattle.aggregator_service.proofs.serving.serve_settings.Given as goal
 
+-- the service begins with the merger as it is then
+abbrev pub ghosts-serve_opened-P-Begins : goal.ghosts-serve_opened-P-Begins
+ghosts-serve_opened-P-Begins g a = record { begun = a.opened.merger }
+
 -- the jobs of these settings, and what may be fetched by them
-abbrev pub ghosts-serve_gates : goal.ghosts-serve_gates
-ghosts-serve_gates g a = record {
+abbrev pub ghosts-serve_opened-P-WalkRules : goal.ghosts-serve_opened-P-WalkRules
+ghosts-serve_opened-P-WalkRules g a = record {
   jobs = λ errand. IsJobOf (arc_value a.settings.now) (archive_of errand);
   answers = MayAnswer (arc_value a.settings.now);
   faults = λ _ _. ⊤;

@@ -9,10 +9,10 @@ pub returns : goal.returns
 returns c =
     let old = c.args.list.now.items in
     let rest = c.args.rest.now in
-    let one = text_of c.args.is_secure (not c.args.has_www) rest in
-    let other = text_of (not c.args.is_secure) (not c.args.has_www) rest in
+    let one = text_of c.args.front.is_secure (not c.args.front.has_www) rest in
+    let other = text_of (not c.args.front.is_secure) (not c.args.front.has_www) rest in
     let may : c.may_swap.result ≡ true = grind (arith, common_steps) in
-    let on : swapped_spellings c.args.is_secure c.args.has_www rest ≡ one ∷ other ∷ [] =
+    let on : swapped_spellings c.args.front.is_secure c.args.front.has_www rest ≡ one ∷ other ∷ [] =
     ap (λ (b : Bool). if b then one ∷ other ∷ [] else []) (sym c.may_swap.ensures ∙ may) in
     c.in_ok-add_spelling-2.ensures
     ∙ (ap (λ (xs : List (List ℕ)). xs ++ filter is_itself (other ∷ [])) c.in_ok-add_spelling.ensures

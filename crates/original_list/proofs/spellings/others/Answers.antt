@@ -8,10 +8,10 @@ use Rattle.original_list.proofs.spellings.others.Goals as goal
 pub returns : goal.returns
 returns c =
     let rest = c.args.rest.now in
-    let first = text_of (not c.args.is_secure) c.args.has_www rest in
-    let more = swapped_spellings c.args.is_secure c.args.has_www rest in
+    let first = text_of (not c.args.front.is_secure) c.args.front.has_www rest in
+    let more = swapped_spellings c.args.front.is_secure c.args.front.has_www rest in
     let named : c.is_named.result ≡ true = grind (arith, common_steps) in
-    let on : others c.args.is_secure c.args.has_www rest ≡ first ∷ more =
+    let on : others c.args.front.is_secure c.args.front.has_www rest ≡ first ∷ more =
     ap (λ (b : Bool). if b then first ∷ more else []) (sym c.is_named.ensures ∙ named) in
     c.in_ok-add_swapped.ensures
     ∙ (ap (λ (xs : List (List ℕ)). xs ++ filter is_itself more)

@@ -1,5 +1,5 @@
 use Rattle.std.proofs.Common.{refl}
-use Rattle.replica_exchange.proofs.SpellingLemmas.{front_found, front_refused}
+use Rattle.text_fields.proofs.FrontLemmas.{front_found, front_refused}
 use Rattle.replica_exchange.proofs.fields.skip.Goals as goal
 
 pub returns-in-Some-clause-found : goal.returns-in-Some-clause-found

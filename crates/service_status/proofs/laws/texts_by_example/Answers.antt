@@ -1,4 +1,7 @@
 use Rattle.std.proofs.Common.{refl}
+use Rattle.service_status.proofs.ExampleLemmas.{kinds_fit, version_example, archives_example, walks_example, peers_example, pulls_example, replies_example}
+use Rattle.service_status.proofs.ExampleLemmas.{wishes_example, snapshots_example, no_snapshots_example, room_example, list_example, forgetting_example}
+use Rattle.service_status.proofs.ExampleLemmas.{entries_example, known_example}
 use Rattle.std.specs.Fmt.{digits}
 use Rattle.service_status.specs.Metrics.{name_of, help_of, kind_of}
 use Rattle.service_status.specs.Replies.{reply_of}
@@ -12,6 +15,21 @@ returns c = record {
   escapes = refl;
   rounds = λ s is. rw is refl;
   publishes = λ s is. rw is refl;
+  kinds = kinds_fit;
+  version = version_example;
+  archives = archives_example;
+  walks = walks_example;
+  peers = peers_example;
+  pulls = pulls_example;
+  replies = replies_example;
+  wishes = wishes_example;
+  snapshots = snapshots_example;
+  no_snapshots = no_snapshots_example;
+  room = room_example;
+  list = list_example;
+  forgetting = forgetting_example;
+  entries = entries_example;
+  known = known_example;
   healthy = λ s is. rw is refl;
   early_health = λ s is. rw is refl;
   head = λ s. refl;

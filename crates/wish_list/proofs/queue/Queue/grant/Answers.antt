@@ -32,6 +32,6 @@ returns-clause-some c =
       wish = wish;
       oldest = ap (λ (ws : List Wish). position is_waiting ws) (sym c.self.view_is) ∙ first;
       there = subst (λ (ws : List Wish). slice_get ws place ≡ Some wish) c.self.view_is at.2;
-      original_is = sym c.in_ok-original.ensures;
+      original_is = sym c.as_original.ensures.value ∙ sym c.in_ok-original.ensures;
       after = ap (λ (ws : List Wish). slice_set ws place (with_grant true wish)) c.self.view_is;
     }

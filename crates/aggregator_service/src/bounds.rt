@@ -1,0 +1,73 @@
+//! What the book of wishes is told: how many unknown originals may be wished for, and which originals rounds look
+//! after.
+use memento_time::{NoMemory, Original};
+use original_sets::{Key, OriginalSet};
+use published_index::Merger;
+use round_values::room_left;
+use service_settings::Settings;
+use std::alloc::{AllocGlobal, Global};
+use std::hash::RandomState;
+use std::sync::Wait;
+use wishing_gates::WishBook;
+
+/// The set of these originals.
+fn set_of(
+    alloc: Global,
+    originals: &[Original],
+    keys: RandomState,
+) -> Result<OriginalSet, NoMemory> {
+    let mut set = OriginalSet::with_room(alloc, originals.len(), keys)?;
+    for original in originals {
+        let _ = set.insert(Key::new(original)?)?;
+    }
+    Ok(set)
+}
+
+/// Tells the book how many more unknown originals may be wished for, by what is published, if rounds look after so many
+/// originals. Returns how many more the settings' `wanted` allows, if they have it.
+pub(crate) fn tell_room<R: Wait>(
+    rt: &R,
+    book: &WishBook,
+    settings: &Settings,
+    listed: usize,
+    merger: &Merger,
+) -> Option<usize> {
+    let wanted = settings.wishing.wanted?;
+    let entries = merger.published_state().len();
+    let left = room_left(settings.archives.len(), listed, wanted.get(), entries);
+    // With `forget` what is known gives way to what is wished for.
+    let is_forgotten = settings.forgetting.every.is_some();
+    let room = if is_forgotten { wanted.get() } else { left };
+    book.set_room(rt, room);
+    Some(left)
+}
+
+/// Tells the book which originals rounds look after. Where memory is refused, those of before stay.
+pub(crate) fn tell_listed<R: Wait + AllocGlobal>(
+    rt: &R,
+    book: &WishBook,
+    listed: &[Original],
+    keys: RandomState,
+) {
+    if !book.is_open() {
+        return;
+    }
+    if let Ok(listed) = set_of(rt.alloc(), listed, keys) {
+        book.set_listed(rt, listed);
+    }
+}
+
+/// Tells the book of a service that begins what it may take before the first round: rounds look after the originals of
+/// the settings, and so much is published.
+pub(crate) fn tell_bounds<R: Wait + AllocGlobal>(
+    rt: &R,
+    book: &WishBook,
+    keys: Option<RandomState>,
+    settings: &Settings,
+    merger: &Merger,
+) {
+    let _ = tell_room(rt, book, settings, settings.originals.len(), merger);
+    if let Some(keys) = keys {
+        tell_listed(rt, book, &settings.originals, keys);
+    }
+}

@@ -1,0 +1,259 @@
+//! What is withdrawn, and what is known beyond what is wanted, is forgotten while rounds are made.
+ghost use Rattle.std.specs.Prelude.{IfOk};
+ghost use Rattle.service_ledger.specs.Leads.{IsPart};
+
+use crate::making::Rounds;
+use crate::standing::Standing;
+use forgetting::{BeginFault, Forgot, Ways};
+use harvest_lattice::Harvest;
+use harvest_schedule::Turn;
+use harvest_workers::WalkRules;
+use harvester::SocketRuntime;
+use memento_time::{NoMemory, Original};
+use replica_exchange::{Cursor, Delta, TakeFault};
+use round_values::{Log, Millis, PublishEnd, Stopwatch};
+use service_ledger::{Begins, Ledger};
+use service_log::{Line, PeerFault, Want};
+use service_threads::{Means, ServeFault, Terms, forgets, original_of};
+use std::io::Write;
+use std::rt::Files;
+
+/// What a publish comes to that shows what was kept of all that was known.
+const FORGOTTEN: PublishEnd = PublishEnd {
+    is_appended: true,
+    is_published: true,
+};
+
+/// Reads what is withdrawn before the first gate answers, and forgets it. `Device` if it can't be read: nothing of it
+/// is to be shown.
+pub(crate) fn begin_rule<R, P, L>(
+    rt: &R,
+    terms: &Terms<P>,
+    means: &Means<P>,
+    standing: &mut Standing,
+    ledger: &mut Ledger<P>,
+    log: Log<L>,
+) -> Result<(), ServeFault>
+where
+    R: SocketRuntime + Files,
+    P: WalkRules + Begins,
+    L: Write + Copy,
+{
+    let (true, Some(keys)) = (forgets(terms.settings()), means.keys) else {
+        return Ok(());
+    };
+    let ways = Ways {
+        rt,
+        settings: terms.settings(),
+        keys,
+        slots: &means.slots,
+        watch: Stopwatch::start(rt),
+        log,
+    };
+    match ledger.begin(&mut standing.forgetting, &ways) {
+        Ok(Some(forgot)) => log.tell(
+            rt.alloc(),
+            Line::Forgotten(forgot.told(ways.watch.now(rt).0)),
+        ),
+        Ok(None) => return Ok(()),
+        Err(BeginFault::Unread) => return Err(ServeFault::Device),
+        Err(BeginFault::NoMemory) => return Err(ServeFault::NoMemory),
+    }
+    standing.keeping.note_publish(FORGOTTEN);
+    if let Some(path) = &terms.settings().storing.snapshot {
+        standing
+            .keeping
+            .keep(rt, path.as_str(), ledger.merger(), log);
+    }
+    Ok(())
+}
+
+impl<'a, R, P, L> Rounds<'a, R, P, L>
+where
+    R: SocketRuntime + Files,
+    P: WalkRules + Begins,
+    L: Write + Copy,
+{
+    /// By what something is forgotten, if these settings have it.
+    fn ways(&self) -> Option<Ways<'a, R, L>> {
+        if !forgets(self.settings()) {
+            return None;
+        }
+        Some(Ways {
+            rt: self.rt,
+            settings: self.settings(),
+            keys: self.means.keys?,
+            slots: &self.means.slots,
+            watch: self.watch,
+            log: self.log,
+        })
+    }
+
+    /// Reads what is withdrawn and what is listed, and forgets at once what is withdrawn. Then a snapshot is written,
+    /// which has it no more.
+    pub(crate) fn read_rule(&mut self) {
+        let Some(ways) = self.ways() else {
+            return;
+        };
+        let begun = self.now();
+        let settings = self.settings();
+        let list = self.standing.listing.originals(settings);
+        let is_wider = self
+            .standing
+            .forgetting
+            .take_rule(self.rt, settings, ways.keys, list, self.log);
+        if is_wider {
+            for lead in self.standing.leads.iter_mut() {
+                *lead = None;
+            }
+        }
+        if !self.standing.forgetting.has_news() || !self.publish_pending() {
+            return;
+        }
+        let ended = self
+            .ledger
+            .forget_withdrawn(&mut self.standing.forgetting, &ways);
+        if self.note_forgotten(ended, begun) {
+            self.keep();
+        }
+    }
+
+    /// Publishes what is pending, since who begins anew has none of it. Returns whether nothing is pending any more.
+    fn publish_pending(&mut self) -> bool {
+        if self.standing.has_pending() {
+            self.publish();
+        }
+        !self.standing.has_pending()
+    }
+
+    /// Forgets what is known beyond what is wanted, where that is due, nothing is pending, and all that is listed is
+    /// known.
+    pub(crate) fn tend_forgetting(&mut self) {
+        let is_known = self.standing.listing.is_whole(self.settings());
+        if self.standing.has_pending() || !is_known {
+            return;
+        }
+        if let Some(ways) = self.ways() {
+            let begun = self.now();
+            let ended = self
+                .ledger
+                .forget_oldest(&mut self.standing.forgetting, &ways);
+            let _ = self.note_forgotten(ended, begun);
+        }
+    }
+
+    /// Notes how a forgetting ended that began at this moment. Returns whether something is forgotten.
+    fn note_forgotten(&mut self, ended: Result<Option<Forgot>, NoMemory>, begun: Millis) -> bool {
+        match ended {
+            Ok(Some(forgot)) => {
+                let floor = self.standing.forgetting.floor();
+                let board = self.means.telling.board();
+                board.add_forgetting(self.rt, forgot.entries, floor);
+                let took = self.now().since(begun);
+                self.log
+                    .tell(self.alloc(), Line::Forgotten(forgot.told(took)));
+                self.standing.keeping.note_publish(FORGOTTEN);
+                self.tell_behind();
+                self.tell_room();
+                true
+            }
+            Ok(None) => false,
+            Err(_) => {
+                self.means.telling.board().add_unforgotten(self.rt);
+                self.log.tell(self.alloc(), Line::Unforgotten);
+                false
+            }
+        }
+    }
+
+    /// The cursor that is held for a peer.
+    pub(crate) fn held(&self, peer: u64) -> Option<Cursor> {
+        if forgets(self.settings()) {
+            self.standing.forgetting.held(peer)
+        } else {
+            self.ledger.merger().cursor(peer)
+        }
+    }
+
+    /// What is kept of what the answer of the peer with this number brought.
+    pub(crate) fn sift(&self, peer: u64, delta: Delta) -> Result<Delta, PeerFault>
+        requires { ∥ IsPart delta ∥₁ }
+        ensures { IfOk result (λ sifted. ∥ IsPart sifted ∥₁) }
+    {
+        let Some(ways) = self.ways() else {
+            return Ok(delta);
+        };
+        let sifted = self.standing.forgetting.sift(
+            self.alloc(),
+            ways.settings,
+            ways.keys,
+            self.ledger.merger(),
+            delta,
+        );
+        match sifted {
+            Ok(sifted) => {
+                let board = self.means.telling.board();
+                board.add_entries(self.rt, peer, sifted.entries);
+                Ok(sifted.delta)
+            }
+            Err(_) => Err(PeerFault::Take(TakeFault::NoMemory)),
+        }
+    }
+
+    /// Whether what the job of a turn would bring is withdrawn.
+    pub(crate) fn is_withdrawn(&self, turn: Turn) -> bool {
+        let settings = self.settings();
+        let (Some(archive), Some(original)) = (
+            settings.archives.get(turn.archive),
+            original_of(self.standing.list(settings), turn),
+        ) else {
+            return false;
+        };
+        self.standing
+            .forgetting
+            .has_withdrawn(archive.name, original)
+    }
+
+    /// Whether a harvest is withdrawn.
+    pub(crate) fn is_withdrawn_harvest(&self, harvest: &Harvest) -> bool {
+        self.standing
+            .forgetting
+            .has_withdrawn(harvest.archive(), harvest.original())
+    }
+
+    /// Whether all that archives have of an original is withdrawn.
+    pub(crate) fn is_withdrawn_original(&self, original: &Original) -> bool {
+        let forgetting = &self.standing.forgetting;
+        let archives = &self.settings().archives;
+        archives
+            .iter()
+            .all(|archive| forgetting.has_withdrawn(archive.name, original))
+    }
+
+    /// Whether there is room for a wish's harvest. One for which there is none is counted.
+    pub(crate) fn has_room(&mut self, harvest: &Harvest) -> bool {
+        let Some(ways) = self.ways() else {
+            return true;
+        };
+        let now = self.now();
+        let has_room = self
+            .standing
+            .forgetting
+            .has_room(ways.settings, self.ledger.merger(), harvest, now);
+        if !has_room {
+            self.standing.dropped = self.standing.dropped.saturating_add(1);
+        }
+        has_room
+    }
+
+    /// Tells the log how many harvests of wishes weren't kept for lack of room since the last round, if some weren't.
+    pub(crate) fn tell_dropped(&mut self, round: u64) {
+        let count = self.standing.dropped;
+        if count > 0 {
+            self.standing.dropped = 0;
+            let want = Want::Mementos;
+            self.log
+                .tell(self.alloc(), Line::Wanting { round, count, want });
+        }
+    }
+}

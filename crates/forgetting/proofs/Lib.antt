@@ -1,0 +1,2 @@
+pub mod RenewingLemmas
+mod GoneLemmas

@@ -1,0 +1,3 @@
+mod HostLemmas
+mod JobLemmas
+mod QueuedLemmas

@@ -1,0 +1,4 @@
+pub mod RestrictionLemmas
+mod FloorLemmas
+mod AmountLemmas
+mod ExampleLemmas

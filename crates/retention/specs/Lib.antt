@@ -1,0 +1,5 @@
+pub mod Restriction
+pub mod Rules
+pub mod Amounts
+pub mod Floors
+pub mod Examples

@@ -1,0 +1,3 @@
+mod DeltaLemmas
+pub mod ReplyLemmas
+mod AgreementLemmas

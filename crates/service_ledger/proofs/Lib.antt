@@ -1,0 +1,3 @@
+mod MadeLemmas
+mod SourceLemmas
+pub mod CallLemmas

@@ -1,0 +1,8 @@
+use Rattle.service_ledger.proofs.CallLemmas.{after_forgetting}
+use Rattle.service_ledger.proofs.ledgers.Ledger.forget_oldest.Goals as goal
+
+pub invariant_of-self : goal.invariant_of-self
+invariant_of-self g c = record {
+  leads = after_forgetting g.P.WalkRules.jobs g.P.WalkRules.answers g.P.WalkRules.faults g.P.Begins.begun c.args.self.now.merger c.tend.new.merger c.args.self.now.leads
+      c.tend.result c.args.forgetting.now.withdrawn c.args.forgetting.now.listed c.tend.ensures.some c.tend.ensures.none c.tend.ensures.err;
+}

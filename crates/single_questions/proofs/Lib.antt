@@ -1,0 +1,4 @@
+mod DatetimeLemmas
+mod NameLemmas
+mod OutcomeLemmas
+mod QuestionLemmas

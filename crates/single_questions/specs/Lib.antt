@@ -1,0 +1,5 @@
+pub mod Datetimes
+pub mod Failings
+pub mod Gathered
+pub mod Outcomes
+pub mod Wants
