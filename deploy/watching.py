@@ -10,9 +10,9 @@ line, or the unit's start if none came since, is older than `oldest` and the set
 86,400 if the settings have no `log = true`, or none of `publish`, `pull`, `tolerance` and `again`: then nothing is written
 before a round's end. A gate that is silent while others answer may serve a slow reader, and is only told.
 
-Says in one line what it found. Ends with status 0 if all is well, if the unit isn't running, and if it was started
-within the grace (60); with 1 if it is dead, which `--restart` has systemd restart; with 2 if it can't tell.
-deploy/maplewrench-watch.timer runs it each minute.
+Says in one line what it found. Ends with status 0 if all is well, if the unit isn't running, if it was stopped or started
+meanwhile, and if it was started within the grace (60); with 1 if it is dead, which `--restart` has systemd restart unless
+somebody has just stopped it; with 2 if it can't tell. deploy/maplewrench-watch.timer runs it each minute.
 """
 import concurrent.futures
 import pathlib
@@ -99,8 +99,10 @@ def look(given):
         silent = "".join(f", {gate} {SILENT}" for gate, does in gates.items() if does == SILENT)
         answered = sum(does == ANSWERS for does in gates.values())
         return 0, f"well: {answered} of {len(gates)} gates answer, last line {age:.0f} s ago{silent}"
+    if start_of(given.unit) != started:
+        return 0, f"{given.unit} was stopped or started meanwhile"
     if given.restart:
-        said_by("systemctl", "restart", given.unit)
+        said_by("systemctl", "try-restart", given.unit)
     return 1, f"dead{', restarted' if given.restart else ''}: {', '.join(faults)}"
 
 

@@ -226,8 +226,6 @@ IN_CODE = re.compile(r"( *(?://[/!]?|--) {1,3})((?:- |\d+\. )?)(?=[^ ])")
 WORD = re.compile(r"(?:`[^`]*`|\]\([^)]*\)|\S)+")
 # Words that would begin a list, a heading, a table or a quotation, if they stood first in a line.
 MARK = re.compile(r"[-+*>|]|#+|\d+[.)]")
-# Crates whose comments aren't within the columns yet.
-UNFILLED = {"harvest_schedule", "memento_time", "text_fields"}
 PROOF_WIDTH = 200
 # Crates whose proofs aren't yet.
 WIDE = set()
@@ -276,9 +274,8 @@ def prose():
     """The files with prose that is to be within the columns."""
     yield from documents()
     for crate in crates():
-        if crate not in UNFILLED:
-            for pattern in ("src/**/*.rt", "specs/**/*.antt", "proofs/**/*.antt"):
-                yield from sorted((TOP / "crates" / crate).glob(pattern))
+        for pattern in ("src/**/*.rt", "specs/**/*.antt", "proofs/**/*.antt"):
+            yield from sorted((TOP / "crates" / crate).glob(pattern))
 
 
 def long_paragraphs(path):

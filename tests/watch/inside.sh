@@ -130,4 +130,35 @@ sleep 5
 [ "$(systemctl is-active maplewrench.service)" = inactive ] || fails "a service that was stopped stays so"
 watched "isn't running" --since "@$since" || fails "and that is said"
 holds "a service that an operator stopped is left alone"
+
+# An operator stops the service while the watch looks: behind its question whether the unit runs, and behind all its questions.
+systemctl stop maplewrench-watch.timer
+cat >/tmp/stopped_meanwhile.py <<'END'
+import subprocess, sys
+sys.path.insert(0, "/usr/lib/maplewrench")
+import watching
+running = watching.start_of
+stop = ["systemctl", "stop", "maplewrench.service"]
+def refuse(gates, patience):
+    subprocess.run(stop, check=True)
+    return dict.fromkeys(gates, watching.REFUSES)
+def stopped_last(unit):
+    started = running(unit)
+    if asked.append(unit) or len(asked) == 2:
+        subprocess.run(stop, check=True)
+    return started
+asked = []
+if sys.argv.pop(1) == "between":
+    watching.ask_gates = refuse
+else:
+    watching.ask_gates, watching.start_of = lambda gates, patience: dict.fromkeys(gates, watching.REFUSES), stopped_last
+watching.main()
+END
+for when in between behind; do
+    systemctl start maplewrench.service
+    sleep 2
+    python3 /tmp/stopped_meanwhile.py $when /etc/maplewrench/settings.toml --grace 0 --restart || true
+    [ "$(systemctl is-active maplewrench.service)" = inactive ] || fails "a service that an operator stopped while the watch looked stays so: $when"
+done
+holds "a service that an operator stops while the watch looks is left alone"
 echo "systemd restarted services that hung or lost a gate, and left alone what was well, however long its round took"

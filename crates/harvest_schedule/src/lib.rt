@@ -8,8 +8,9 @@
 //! round. Walks for readers are beyond the list of a round: `begin_walk` and `end_walk`. The tests in `src/tests.rt`
 //! begin with such a round.
 //!
-//! A time is a number of milliseconds that the caller counts. `lanes` has the jobs of one archive, `moods` what is known
-//! of an archive's readiness, `schedules` all archives, and `turns` how a job is named; `laws` says what holds of rounds.
+//! A time is a number of milliseconds that the caller counts. `lanes` has the jobs of one archive, `moods` what is
+//! known of an archive's readiness, `schedules` all archives, and `turns` how a job is named; `laws` says what holds of
+//! rounds.
 #![tactic(auto)]
 
 mod lanes;
