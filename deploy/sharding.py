@@ -1,19 +1,23 @@
 """Cuts a large collection into shards: the settings of each program, and an nginx that leads each request to its shard.
 
     deploy/shards ORIGINALS SHARDS FOLDER --settings FILE [--base URL] [--replicas R] [--gates G] [--port P] [--entry E]
-                  [--hosts IP[,IP..]] [--program PROGRAM] [--from OLD]
+                  [--hosts IP[,IP..]] [--program PROGRAM] [--from OLD] [--image IMAGE]
 
 ORIGINALS has an address a line; blank lines and lines that begin with `#` are left out. Each of the SHARDS (1 to 100) is served
 by R replicas (2), which pull from each other, and each replica by G gates for readers (2) and one for peers, so that no pull waits
 behind a slow reader. FILE has the settings that all have in common; its `gates`, `originals` and `peers` are written anew for
 each program, with `log = true` and `ready = true` unless FILE has those keys. Where FILE has a `snapshot`, each program has one of its
-own beside it (shard-K-replica-R.NAME). Replica r of shard k runs on host number k R + r of IP.. (127.0.0.1), round again after the
-last, with its gates on ports from P (8300) on, the one for peers last.
+own beside it (shard-K-replica-R.NAME). Where FILE has an `originals_file`, the originals of a shard stand in a file of their own
+beside it (shard-K.NAME) and not in settings: this writes FOLDER/originals/shard-K.NAME, which you copy to the hosts of the shard.
+Replica r of shard k runs on host number k R + r of IP.. (127.0.0.1), round again after the last, with its gates on ports from P
+(8300) on, the one for peers last.
 
 FILE may not have `alike`, and IP.. may not be of IPv6 where replicas pull from each other.
 
 Writes FOLDER/shard-K-replica-R.toml, FOLDER/shards.conf for nginx's `http` block, and FOLDER/programs, a line for each program:
-its host and its settings. The entry listens on 127.0.0.1:E (8200), the other servers of shards.conf on the ports behind it.
+its host and its settings. With `--image` it also writes FOLDER/HOST.compose.yaml for each host, by which `docker compose` or
+`podman compose` runs the programs of that host as containers of this image. The entry listens on 127.0.0.1:E (8200), the other
+servers of shards.conf on the ports behind it.
 Says for each shard how many originals it has; with `--from OLD` how many move, if there were OLD shards before.
 An original that isn't plain (see PLAIN) is read by PROGRAM (`aggregator`), so that it is filed as it will be asked for.
 """
@@ -32,6 +36,7 @@ TOP = pathlib.Path(__file__).resolve().parent.parent
 SLOTS = 1000               # nginx splits by steps of 0.1 %
 MOST_ORIGINALS = 100_000   # of one program's settings
 MOST_BYTES = 1_048_576     # of their text
+MOST_LISTED = 268_435_456  # bytes of a file of originals
 LABEL = "[a-z0-9](?:[a-z0-9-]*[a-z0-9])?"
 
 # Spellings that the aggregator writes as they stand: a host of small letters whose last label begins with a letter (else it may be
@@ -125,22 +130,85 @@ def place_replicas(given):
     return places
 
 
+def snapshot_of(common, name):
+    """Where a program keeps what it knows, if the settings in common have a snapshot."""
+    if "snapshot" not in common:
+        return {}
+    kept = pathlib.Path(common["snapshot"])
+    return {"snapshot": str(kept.with_name(f"{name}.{kept.name}"))}
+
+
+def file_of(common, shard):
+    """The file with the originals of a shard, where its programs find it."""
+    listed = pathlib.Path(common["originals_file"])
+    return listed.with_name(f"shard-{shard}.{listed.name}")
+
+
 def programs_of(given, common, places, originals_of):
     """The name and the text of each program's settings."""
+    has_file = "originals_file" in common
     for (shard, replica), (_, gates) in places.items():
         peers = [f"http://{places[shard, other][1][-1]}" for other in range(1, given.replicas + 1) if other != replica]
         name = f"shard-{shard}-replica-{replica}"
-        own = {"gates": gates, "peers": peers, "originals": originals_of[shard]}
-        if "snapshot" in common:
-            kept = pathlib.Path(common["snapshot"])
-            own["snapshot"] = str(kept.with_name(f"{name}.{kept.name}"))
-        text = settings_text(common | own)
-        many = len(originals_of[shard]) > MOST_ORIGINALS
+        originals = {"originals": [], "originals_file": str(file_of(common, shard))} if has_file else {"originals": originals_of[shard]}
+        text = settings_text(common | {"gates": gates, "peers": peers} | originals | snapshot_of(common, name))
+        many = not has_file and len(originals_of[shard]) > MOST_ORIGINALS
         if many or len(text.encode()) > MOST_BYTES:
             what = f"{len(originals_of[shard])} originals" if many else f"settings of {len(text.encode())} bytes"
             raise Refused(f"shard {shard} would have {what}, where a program takes {MOST_ORIGINALS} in {MOST_BYTES} bytes: "
-                          "take more shards")
+                          "take more shards, or set originals_file")
         yield f"{name}.toml", text
+
+
+def files_of(common, originals_of):
+    """The name and the text of each shard's file of originals, if the settings in common have one."""
+    if "originals_file" not in common:
+        return
+    for shard, originals in originals_of.items():
+        text = "".join(f"{original}\n" for original in originals)
+        if len(text.encode()) > MOST_LISTED:
+            raise Refused(f"shard {shard} would have a file of {len(text.encode())} bytes, where a program takes {MOST_LISTED}: take more shards")
+        yield file_of(common, shard).name, text
+
+
+COMPOSE = """\
+# Written by deploy/shards: the programs of the host {host}. In a folder with their settings{and_originals}:
+#
+#     podman compose -f {host}.compose.yaml up -d
+services:
+{services}
+volumes:
+{volumes}
+"""
+
+SERVICE = """\
+  {name}:
+    image: {image}
+    network_mode: host
+    restart: always
+    read_only: true
+    cap_drop: [ALL]
+    security_opt: ["no-new-privileges:true"]
+    mem_limit: 4g
+    stop_signal: SIGKILL
+    volumes:
+      - ./{name}.toml:/etc/maplewrench/settings.toml:ro
+{originals}      - {name}:/var/lib/maplewrench"""
+
+
+def composes_of(given, common, places):
+    """The name and the text of each host's compose file, if an image is named. A folder of originals is mounted as a whole, so that
+    a file that is put in the place of another is seen."""
+    names = collections.defaultdict(list)
+    for (shard, replica), (host, _) in places.items():
+        names[host].append(f"shard-{shard}-replica-{replica}")
+    originals = ""
+    if "originals_file" in common:
+        originals = f"      - ./originals:{pathlib.Path('/var/lib/maplewrench', common['originals_file']).parent}:ro\n"
+    for host, its in names.items() if given.image else ():
+        services = "\n\n".join(SERVICE.format(name=name, image=given.image, originals=originals) for name in its)
+        yield f"{host}.compose.yaml", COMPOSE.format(host=host, services=services, volumes="\n".join(f"  {name}:" for name in its),
+                                                     and_originals=" and the folder originals/" if originals else "")
 
 
 NGINX = """\
@@ -251,14 +319,16 @@ def write(given):
     originals = read_originals(given.originals, given.program)
     owner, places = owners(given.shards), place_replicas(given)
     slots = {original: slot_of(original) for original in originals}
-    originals_of = {shard: [o for o in originals if owner[slots[o]] == shard] for shard in range(1, given.shards + 1)}
+    originals_of = {shard: [] for shard in range(1, given.shards + 1)}
+    for original, slot in slots.items():
+        originals_of[owner[slot]].append(original)
     programs = dict(programs_of(given, common, places, originals_of))
-    given.folder.mkdir(parents=True, exist_ok=True)
-    for name, text in programs.items():
+    written = programs | {f"originals/{name}": text for name, text in files_of(common, originals_of)}
+    written |= dict(composes_of(given, common, places)) | {"shards.conf": nginx_text(given, places)}
+    written["programs"] = "".join(f"{host} {name}\n" for (host, _), name in zip(places.values(), programs))
+    for name, text in written.items():
+        (given.folder / name).parent.mkdir(parents=True, exist_ok=True)
         (given.folder / name).write_text(text, encoding="utf-8")
-    (given.folder / "shards.conf").write_text(nginx_text(given, places))
-    hosts = [host for host, _ in places.values()]
-    (given.folder / "programs").write_text("".join(f"{host} {name}\n" for host, name in zip(hosts, programs)))
     for shard, its in originals_of.items():
         print(f"shard {shard}: {len(its)} originals")
     if given.old:
@@ -282,6 +352,7 @@ def main():
     built = TOP / "crates/aggregator/out/aggregator"
     arguments.add_argument("--program", default=str(built) if built.exists() else shutil.which("aggregator") or "aggregator")
     arguments.add_argument("--from", dest="old", type=int, choices=range(1, 101))
+    arguments.add_argument("--image")
     try:
         write(arguments.parse_args())
     except (Refused, OSError, UnicodeDecodeError, tomllib.TOMLDecodeError) as error:

@@ -7,17 +7,20 @@ spellings, and what readers see of a replica or a shard that is down.
 import argparse
 import collections
 import contextlib
+import itertools
 import pathlib
 import random
 import re
 import socket
 import subprocess
 import tempfile
+import threading
 import time
 import tomllib
 
 import playing
-from playing import BASE, PROGRAM, TOP, free_ports, holds, needs, nginx_of_shards, settings_text, start, start_archive
+from playing import (BASE, PROGRAM, TOP, Played, free_ports, holds, link, needs, nginx_of_shards, reload_nginx, reply, settings_text, start,
+                     start_archive)
 import sharding
 
 SHARDS, REPLICAS, GATES = 3, 2, 2
@@ -37,6 +40,10 @@ SPELLED = {
 }
 ODD_LINES = ["HTTP://Odd.Example", "http://odd.example:8080/x", "http://odd.example/ü", "http://München.example", "http://192.0.513/",
              "http://odd.example/it's"]
+
+
+def read_lines(path):
+    return path.read_text().splitlines()
 
 
 def get(port, target):
@@ -182,6 +189,116 @@ def try_snapshots(folder):
               ran.returncode == 0 and len(written) == 4 and all(path == wanted.format(name) for name, path in written.items()))
 
 
+def try_files(folder):
+    """Each shard's originals stand in a file of their own, which its programs name; and each host has its compose file."""
+    (folder / "filed.toml").write_text('originals_file = "/srv/lists/web"\n' + common_settings(folder, 1).read_text())
+    many = {f"http://a.example/{number:040}" for number in range(30_000)}
+    words = (write_originals(folder, sorted(many)), 2, folder / "filed", "--settings", folder / "filed.toml", "--hosts", "10.0.3.1,10.0.3.2")
+    ran = run_shards(*words, "--image", "localhost/a:1")
+    listed = {shard: (folder / f"filed/originals/shard-{shard}.web").read_text().splitlines() for shard in (1, 2)}
+    holds(f"each of {len(many)} originals stands in the file of one shard: {ran.stderr.strip()}",
+          sorted(listed[1] + listed[2]) == sorted(many) and min(map(len, listed.values())) > 10_000)
+    named = {file.stem: tomllib.loads(file.read_text()) for file in (folder / "filed").glob("*.toml")}
+    holds("and settings name it alone", len(named) == 4 and all(
+        (keys["originals"], keys["originals_file"]) == ([], f"/srv/lists/shard-{name[6]}.web") for name, keys in named.items()))
+    for number, host in enumerate(("10.0.3.1", "10.0.3.2"), 1):
+        text = (folder / f"filed/{host}.compose.yaml").read_text()
+        wanted = [f"shard-{shard}-replica-{number}" for shard in (1, 2)]
+        holds(f"the containers of {host} are {wanted}", re.findall(r"(?m)^  (\S+):$", text.partition("\nvolumes:")[0]) == wanted)
+        mounted = [folder / "filed" / name for name in re.findall(r"- \./([^:]+):", text)]
+        holds("each with its settings and the folder of originals", len(mounted) == 4 and all(file.exists() for file in mounted)
+              and text.count("./originals:/srv/lists:ro") == 2)
+    ran = run_shards(*words[:2], folder / "unnamed", *words[3:])
+    holds("without an image there is no compose file", ran.returncode == 0 and not list((folder / "unnamed").glob("*.yaml")))
+    try:
+        sharding.MOST_LISTED, most = 10_000, sharding.MOST_LISTED
+        list(sharding.files_of({"originals_file": "web"}, listed))
+        holds("a file that is too long is refused", False)
+    except sharding.Refused as fault:
+        holds(f"a file that is too long is refused: {fault}", "take more shards" in str(fault))
+    finally:
+        sharding.MOST_LISTED = most
+
+
+class Growing:
+    """Shards of one replica each, whose originals stand in files, behind nginx."""
+
+    def __init__(self, stack, folder):
+        self.stack, self.folder, self.lists, self.programs = stack, folder, folder / "lists", {}
+        self.originals = [f"http://grown.example/{number}" for number in range(60)]
+        self.first = free_ports(3 * 2 + 5, in_a_row=True)[0]
+        self.entry = self.first + 3 * 2
+        self.lists.mkdir()
+        archive = Played(stack, lambda target: reply(link(f"http://kept.example/1/{target.removeprefix(BASE)}")))
+        (folder / "grown.toml").write_text(settings_text(gates=["127.0.0.1:1"], archives=[("archive.test", archive.address + BASE)], rounds=1_000_000,
+                                                         pause=1, workers=4, originals_file=str(self.lists / "web")))
+        self.conf, self.nginx = folder / "grown.conf", None
+
+    def cut(self, shards, *more):
+        self.cut_into = self.folder / f"grown-{shards}"
+        ran = run_shards(write_originals(self.folder, self.originals), shards, self.cut_into, "--settings", self.folder / "grown.toml", "--port", self.first,
+                         "--entry", self.entry, "--replicas", 1, "--gates", 1, *more)
+        holds(f"{shards} shards are cut: {ran.stdout.strip()!r}{ran.stderr}", ran.returncode == 0)
+
+    def give_files(self):
+        """Each file of originals takes the place of the one before, as an operator copies it."""
+        for file in (self.cut_into / "originals").iterdir():
+            (self.lists / "new").write_bytes(file.read_bytes())
+            (self.lists / "new").replace(self.lists / file.name)
+
+    def start(self, shard):
+        self.programs[shard] = start(self.stack, PROGRAM, "serve", self.cut_into / f"shard-{shard}-replica-1.toml", stdout=subprocess.PIPE, text=True)
+
+    def makes_round_of(self, shard):
+        """Whether one of the next rounds of a shard looks after as many originals as its file has now."""
+        count = len(read_lines(self.lists / f"shard-{shard}.web"))
+        lines = (line for line in self.programs[shard].stdout if line.startswith("round "))
+        return any(f" jobs {count} " in line for line in itertools.islice(lines, 10))
+
+    def lead(self):
+        """nginx leads readers as the last cut says."""
+        self.conf.write_text((self.cut_into / "shards.conf").read_text())
+        if self.nginx:
+            reload_nginx(self.nginx.pid)
+        else:
+            self.nginx = nginx_of_shards(self.stack, self.conf, self.entry)
+
+
+def try_growth(stack, folder):
+    """A shard is added while readers ask: all are led to copies meanwhile, and the other shards let go of what moved."""
+    service = Growing(stack, folder)
+    service.cut(2)
+    service.give_files()
+    for shard in (1, 2):
+        service.start(shard)
+    holds("two shards look after what their files name", all(service.makes_round_of(shard) for shard in (1, 2)))
+    service.lead()
+    seen, over = collections.Counter(), threading.Event()
+
+    def read():
+        for original in itertools.cycle(service.originals):
+            if over.is_set():
+                return
+            seen[get(service.entry, "/timegate/" + original)[0]] += 1
+
+    reader = threading.Thread(target=read)
+    reader.start()
+    try:
+        service.cut(3, "--from", 2)
+        before = read_lines(service.lists / "shard-1.web")
+        (service.lists / "shard-3.web").write_bytes((service.cut_into / "originals/shard-3.web").read_bytes())
+        service.start(3)
+        holds("the new shard looks after what moves", service.makes_round_of(3))
+        service.lead()
+        service.give_files()
+        holds("and then the others don't", all(service.makes_round_of(shard) for shard in (1, 2))
+              and set(read_lines(service.lists / "shard-1.web")) < set(before))
+    finally:
+        over.set()
+        reader.join()
+    holds(f"readers were led to copies meanwhile: {dict(seen)}", set(seen) == {302} and seen[302] > 100)
+
+
 def try_peers(service):
     """Peers pull at gates that no reader is led to."""
     led = set(re.findall(r"server (127\.0\.0\.1:\d+);", (service.folder / "shards.conf").read_text()))
@@ -258,6 +375,8 @@ def main():
         try_refusals(folder)
         try_log(folder)
         try_snapshots(folder)
+        try_files(folder)
+        try_growth(stack, folder)
         service = Shards(stack, folder, start_archive(stack, "--copies", 3), PLAIN + ODD_LINES)
         try_peers(service)
         try_all(service)
