@@ -1,8 +1,9 @@
 #!/usr/bin/env python3
 """`tests/edits/run` notices a contract that was weakened: in a repository of two small crates, whose proofs take seconds.
 
-An edit that the prover refuses is recorded. The record no longer counts if anything changes that the verdict stands on, and prose
-isn't among that. Without the clause that refused the edit it is NOT REFUSED, and nothing is recorded.
+An edit that the prover refuses is recorded. The record no longer counts if anything changes that the verdict stands on: prose isn't
+among that, nor what a crate below has in its bodies or what the edit's crate doesn't name. Without the clause that refused the
+edit it is NOT REFUSED, and nothing is recorded.
 """
 import contextlib
 import os
@@ -20,7 +21,7 @@ from editing import counted
 
 RT = os.environ.get("RT", "rt")
 EDIT = "tiny/always_the_first.edit"
-LOW, TINY = "crates/low/src/lib.rt", "crates/tiny/src/lib.rt"
+LOW, RULE, TINY = "crates/low/src/lib.rt", "crates/low/specs/Rule.antt", "crates/tiny/src/lib.rt"
 FILES = {
     "HANDLES": "Handles allowed: none.\n",
     "crates.txt": "low:\ntiny: low\n",
@@ -28,6 +29,7 @@ FILES = {
 #![tactic(auto)]
 
 ghost use Rattle.std.specs.Prelude.{◌≡◌};
+ghost use Rattle.low.specs.Rule.{kept};
 
 /// A text of two lines.
 pub const TEXT: &str = "one
@@ -35,10 +37,33 @@ pub const TEXT: &str = "one
 
 /// The number itself.
 pub fn itself(a: u8) -> u8
-    ensures same { result ≡ a }
+    ensures same { result ≡ kept a }
 {
     a
 }
+
+/// A number.
+pub struct Counted {
+    /// Which.
+    pub number: u8,
+}
+
+impl Counted {
+    /// It.
+    pub fn counted(&self) -> u8
+        ensures { result ≡ self.now.number }
+    {
+        self.number
+    }
+}
+""",
+    "crates/low/specs/Lib.antt": "pub mod Rule\n",
+    RULE: """-- What is kept.
+use Rattle.std.specs.Prelude.{ℕ}
+
+-- of a number all
+abbrev pub kept : ℕ → ℕ
+kept n = n
 """,
     TINY: """// What is tried.
 #![tactic(auto)]
@@ -152,17 +177,41 @@ def try_record(small):
         ("its crate's line in crates.txt", "crates.txt", "tiny: low", "tiny: low itoa"),
         ("what HANDLES allows", "HANDLES", "none", "Threads"),
         ("a contract", TINY, "b ≤ result", "b ≤ b"),
-        ("code of the crate below", LOW, "    a\n", "    (a)\n"),
-        ("a line of a text that looks like a comment", LOW, "// two", "// too"),
+        ("a contract of the crate below", LOW, "result ≡ kept a", "kept a ≡ result"),
+        ("a definition that this contract cites", RULE, "kept n = n", "kept n = 0"),
+        ("a name that leads to this contract", TINY, "use low::itself;", "use low::itself;\nuse low::TEXT;"),
         ("the edit", f"crates/{EDIT.replace('/', '/edits/')}", "b < b", "a < a"),
         ("code of its crate", TINY, "itself(a)", "a"),
     )
     for what, file, old, new in changed:
         with small.having(file, old, new):
             small.ends(f"it no longer counts if {what} changes", 1, "0 passed, 1 failed", "--check")
-    for file, old, new in ((TINY, "/// The greater of two numbers.", "/// The greater one.\n/// Or both."), (LOW, "// What stands below.", "")):
+    unread = (
+        ("prose", TINY, "/// The greater of two numbers.", "/// The greater one.\n/// Or both."),
+        ("prose of the crate below", LOW, "// What stands below.", ""),
+        ("a body of the crate below", LOW, "    a\n", "    (a)\n"),
+        ("what its crate doesn't name", LOW, "// two", "// too"),
+        ("a method of a type that its crate doesn't name", LOW, "result ≡ self.now.number", "self.now.number ≡ result"),
+        ("what comes beside", LOW, "/// A number.", "/// Another.\npub fn another() -> u8 {\n    0\n}\n\n/// A number."),
+        ("a definition that comes beside", RULE, "-- of a number all", "abbrev pub other : ℕ → ℕ\nother n = 0\n\n-- of a number all"),
+    )
+    for what, file, old, new in unread:
         with small.having(file, old, new):
-            small.ends("it still counts if prose changes", 0, "1 passed, 0 failed", "--check")
+            small.ends(f"it still counts if {what} changes", 0, "1 passed, 0 failed", "--check")
+
+
+def try_names(small):
+    """What a crate names counts as soon as it does: a constant, and the methods of a type."""
+    named = "use low::{Counted, TEXT, itself};\n\n/// What is named.\npub fn named(it: &Counted) -> u8 {\n    let _ = TEXT;\n    it.counted()\n}"
+    with small.having(TINY, "use low::itself;", named):
+        small.ends("an edit of a crate that names more is refused", 0, "1 passed, 0 failed")
+        for what, old, new in (("a line of a text that looks like a comment", "// two", "// too"),
+                               ("the contract of a method", "result ≡ self.now.number", "self.now.number ≡ result"),
+                               ("a type of a field", "pub number: u8", "pub number: u16")):
+            with small.having(LOW, old, new):
+                small.ends(f"it no longer counts if {what} changes", 1, "0 passed, 1 failed", "--check")
+        with small.having(LOW, "        self.number\n", "        (self.number)\n"):
+            small.ends("it still counts if the method's body changes", 0, "1 passed, 0 failed", "--check")
 
 
 def try_misplaced(small):
@@ -187,6 +236,8 @@ def main():
         small.ends("an edit that breaks a contract is refused", 0, "1 passed, 0 failed")
         same("and recorded", small.is_recorded(), [(EDIT, "refused")])
         try_record(small)
+        try_names(small)
+        small.ends("it is refused again without these names", 0, "1 passed, 0 failed")
         try_misplaced(small)
         with small.having(TINY, SECOND, ""):
             small.ends("it counts as not tried once the contract is weakened", 1, "0 passed, 1 failed", "--check")

@@ -4,7 +4,8 @@
 says of `must-fail/`. The verdict on it is the prover's, and stands on
 
 - the toolchain, and what HANDLES allows;
-- the line in crates.txt and the sources (`src/`, `specs/`, `proofs/`) of its crate and of all crates below that;
+- the line in crates.txt and the sources (`src/`, `specs/`, `proofs/`) of its crate;
+- what its crate reaches by name of the crates below: contracts, types, definitions, and no bodies (`reaching.py`);
 - the edit's own text, and the files that it leaves.
 
 Of these `tried` has a checksum for each edit. Of a source only the lines count that hold a token, so that prose can be rewritten.
@@ -25,6 +26,7 @@ from dataclasses import dataclass
 HERE = pathlib.Path(__file__).resolve().parent
 sys.path.insert(0, str(HERE.parent / "planted"))
 from planting import RT, TOP, alone_in, read_text, replaced, run_rt, write_whole
+from reaching import OWN, Below, Item, items_of_code, items_of_logic, rows_as_tokens, words_of
 
 # A line for each edit that was tried and refused: CRATE/X.edit CHECKSUM VERDICT.
 TRIED = HERE / "tried"
@@ -122,17 +124,22 @@ def planted(edit, top=TOP):
 # ---- checksums ----
 
 
-def counted(paths):
-    """Of each of these files the lines that count: those that hold a token, or all if rattle can't tell."""
+def tokens_of(paths):
+    """Of each of these files its bytes, and the rows that list its tokens: None if rattle can't tell."""
     if not paths:
         return []
     rattle = pathlib.Path(shutil.which(RT)).resolve().with_name("rattle")
     ran = subprocess.run([rattle, "fmt", "--tokens", *paths], stdin=subprocess.DEVNULL, capture_output=True)
     rows = re.split(rb"^file \d+\n", ran.stdout, flags=re.M)[1:]
     if ran.returncode == 0 and len(rows) == len(paths):
-        return [lines_with_tokens(pathlib.Path(path).read_bytes(), listed) for path, listed in zip(paths, rows)]
+        return [(pathlib.Path(path).read_bytes(), listed) for path, listed in zip(paths, rows)]
     half = len(paths) // 2
-    return counted(paths[:half]) + counted(paths[half:]) if half else [pathlib.Path(paths[0]).read_bytes()]
+    return tokens_of(paths[:half]) + tokens_of(paths[half:]) if half else [(pathlib.Path(paths[0]).read_bytes(), None)]
+
+
+def counted(paths):
+    """Of each of these files the lines that count: those that hold a token, or all if rattle can't tell."""
+    return [text if listed is None else lines_with_tokens(text, listed) for text, listed in tokens_of(paths)]
 
 
 def lines_with_tokens(text, listed):
@@ -148,15 +155,25 @@ def checksum(*parts):
     return hashlib.sha256(ascii(parts).encode()).hexdigest()[:16]
 
 
-def sums_of_sources(top, names):
-    """Of each of these crates a checksum of its sources."""
-    files = [(name, str(it)) for name in names for part in PARTS for it in sorted(pathlib.Path(top, "crates", name, part).rglob("*")) if it.is_file()]
-    read = [path for _, path in files if path.endswith((".rt", ".antt"))]
-    texts = dict(zip(read, counted(read)))
-    told = {name: [] for name in names}
-    for name, path in files:
-        told[name].append((os.path.relpath(path, top), texts[path] if path in texts else pathlib.Path(path).read_bytes()))
-    return {name: checksum(told[name]) for name in names}
+class Sources:
+    """The sources of some crates: of each a checksum of all that counts, its words, and its items for the crates above."""
+
+    def __init__(self, top, names):
+        files = [(name, it) for name in names for part in PARTS for it in sorted(pathlib.Path(top, "crates", name, part).rglob("*")) if it.is_file()]
+        read = [str(path) for _, path in files if path.suffix in (".rt", ".antt")]
+        tokens = dict(zip(read, tokens_of(read)))
+        told, self.words, self.items = ({name: kind() for name in names} for kind in (list, set, list))
+        for name, path in files:
+            text, listed = tokens.get(str(path)) or (path.read_bytes(), None)
+            told[name].append((os.path.relpath(path, top), text if listed is None else lines_with_tokens(text, listed)))
+            if listed is None:
+                self.items[name].append(Item("", "", (text.decode(errors="replace"),)))
+                continue
+            found = rows_as_tokens(text, listed)
+            self.words[name] |= words_of([token.text for token in found])
+            if path.name not in OWN:
+                self.items[name] += items_of_code(found) if path.suffix == ".rt" else items_of_logic(found)
+        self.sums = {name: checksum(files) for name, files in told.items()}
 
 
 def counted_of_planted(edits, top):
@@ -183,14 +200,30 @@ def checksums(edits, top=TOP):
     planted."""
     crates = read_crates(top)
     below = {name: with_those_below(crates, name) for name in {it.crate for it in edits}}
-    sources, left = sums_of_sources(top, sorted(set().union(*below.values()))), counted_of_planted(edits, top)
+    sources, left = Sources(top, sorted(set().union(*below.values()))), counted_of_planted(edits, top)
     shared = toolchain(), read_text(f"{top}/HANDLES").split()
+    reach = {name: Reach(sources, name, its) for name, its in below.items()}
 
     def of(edit):
-        stands_on = [(crates[name].line, sources[name]) for name in below[edit.crate]]
+        stands_on = crates[edit.crate].line, sources.sums[edit.crate], reach[edit.crate].sum_of(edit)
         return checksum(shared, stands_on, str(edit), edit.text, left[edit]) if left[edit] else None
 
     return {edit: of(edit) for edit in edits}
+
+
+class Reach:
+    """What a crate reaches of those below it."""
+
+    def __init__(self, sources, crate, below):
+        self.below = Below(item for name in below if name != crate for item in sources.items[name])
+        self.words = sources.words[crate]
+        self.known, shown = self.below.reached(self.words)
+        self.sum = checksum(shown)
+
+    def sum_of(self, edit):
+        """A checksum of what is reached. An edit may name more than its crate does."""
+        more = set(re.findall(r"[^\W\d]\w*", edit.text)) - self.known
+        return checksum(self.below.reached(self.words | more)[1]) if more & self.below.waiting.keys() else self.sum
 
 
 def toolchain():
