@@ -145,7 +145,7 @@ def type_of_impl(tokens):
     tokens = tokens[:until]
     splits = [at for at, token in enumerate(tokens) if token.text == "for" and tokens[at + 1:at + 2] and tokens[at + 1].text != "<"]
     own = tokens[splits[-1] + 1:] if splits else tokens
-    path, depth = [], 0
+    path = []
     for token in own:
         if token.text == "<" and path:
             break
