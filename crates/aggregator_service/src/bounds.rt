@@ -25,7 +25,7 @@ fn set_of(
 
 /// Tells the book how many more unknown originals may be wished for, by what is published, if rounds look after so many
 /// originals. Returns how many more the settings' `wanted` allows, if they have it.
-pub(crate) fn tell_room<R: Wait>(
+pub(crate) fn book_room<R: Wait>(
     rt: &R,
     book: &WishBook,
     settings: &Settings,
@@ -43,7 +43,7 @@ pub(crate) fn tell_room<R: Wait>(
 }
 
 /// Tells the book which originals rounds look after. Where memory is refused, those of before stay.
-pub(crate) fn tell_listed<R: Wait + AllocGlobal>(
+pub(crate) fn book_listed<R: Wait + AllocGlobal>(
     rt: &R,
     book: &WishBook,
     listed: &[Original],
@@ -59,15 +59,15 @@ pub(crate) fn tell_listed<R: Wait + AllocGlobal>(
 
 /// Tells the book of a service that begins what it may take before the first round: rounds look after the originals of
 /// the settings, and so much is published.
-pub(crate) fn tell_bounds<R: Wait + AllocGlobal>(
+pub(crate) fn book_bounds<R: Wait + AllocGlobal>(
     rt: &R,
     book: &WishBook,
     keys: Option<RandomState>,
     settings: &Settings,
     merger: &Merger,
 ) {
-    let _ = tell_room(rt, book, settings, settings.originals.len(), merger);
+    let _ = book_room(rt, book, settings, settings.originals.len(), merger);
     if let Some(keys) = keys {
-        tell_listed(rt, book, &settings.originals, keys);
+        book_listed(rt, book, &settings.originals, keys);
     }
 }

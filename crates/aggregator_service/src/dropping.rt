@@ -97,7 +97,7 @@ where
         };
         let begun = self.now();
         let settings = self.settings();
-        let list = self.standing.listing.originals(settings);
+        let list = self.standing.originals.listed(settings);
         let is_wider = self
             .standing
             .forgetting
@@ -129,7 +129,7 @@ where
     /// Forgets what is known beyond what is wanted, where that is due, nothing is pending, and all that is listed is
     /// known.
     pub(crate) fn tend_forgetting(&mut self) {
-        let is_known = self.standing.listing.is_whole(self.settings());
+        let is_known = self.standing.originals.is_whole(self.settings());
         if self.standing.has_pending() || !is_known {
             return;
         }
@@ -153,8 +153,8 @@ where
                 self.log
                     .tell(self.alloc(), Line::Forgotten(forgot.told(took)));
                 self.standing.keeping.note_publish(FORGOTTEN);
-                self.tell_behind();
-                self.tell_room();
+                self.show_behind();
+                self.book_room();
                 true
             }
             Ok(None) => false,
@@ -246,8 +246,8 @@ where
         has_room
     }
 
-    /// Tells the log how many harvests of wishes weren't kept for lack of room since the last round, if some weren't.
-    pub(crate) fn tell_dropped(&mut self, round: u64) {
+    /// Logs how many harvests of wishes weren't kept for lack of room since the last round, if some weren't.
+    pub(crate) fn log_dropped(&mut self, round: u64) {
         let count = self.standing.dropped;
         if count > 0 {
             self.standing.dropped = 0;

@@ -2,7 +2,7 @@
 ghost use Rattle.harvester.specs.Unkept.{Comes};
 ghost use Rattle.service_ledger.specs.Leads.{IsWalked};
 
-use crate::bounds::{tell_listed, tell_room};
+use crate::bounds::{book_listed, book_room};
 use crate::making::Rounds;
 use forgetting::Forgetting;
 use harvest_lattice::Harvest;
@@ -96,7 +96,7 @@ where
             let Some(original) = self.means.book.grant(self.rt) else {
                 return;
             };
-            if self.take_wish(&original).is_err() {
+            if self.begin_wish(&original).is_err() {
                 self.means.book.put_back(self.rt, &original);
                 return;
             }
@@ -109,7 +109,7 @@ where
     }
 
     /// Takes on a granted wish.
-    fn take_wish(&mut self, original: &Original) -> Result<(), NoMemory> {
+    fn begin_wish(&mut self, original: &Original) -> Result<(), NoMemory> {
         let settings = self.settings();
         let second = second_now(self.rt);
         let alloc = self.alloc();
@@ -203,7 +203,7 @@ where
             }
             Err(assignment) => {
                 let report = self.terms.walk(self.rt, assignment);
-                self.take_wished(archive, report.open());
+                self.accept_wish_walk(archive, report.open());
                 false
             }
         }
@@ -242,7 +242,7 @@ where
     }
 
     /// Takes in what came of a wish's walk. If the archive was busy, and is waited for, the job comes again.
-    pub(crate) fn take_wished(&mut self, archive: usize, opened: Opened)
+    pub(crate) fn accept_wish_walk(&mut self, archive: usize, opened: Opened)
         requires own { ∥ P.jobs opened.errand opened.job ∥₁ }
         requires comes { ∥ Comes P.answers P.faults opened.job opened.begun opened.result opened.asked ∥₁ }
     {
@@ -256,7 +256,7 @@ where
         } = opened;
         let answer = answer_to(&walked);
         let is_taken = match walked {
-            Ok(harvest) => self.take_wished_harvest(harvest, self.now()),
+            Ok(harvest) => self.accept_wished(harvest, self.now()),
             Err(_) => {
                 self.standing.desk.count_failed();
                 true
@@ -283,7 +283,7 @@ where
 
     /// Appends the harvest of a wish's walk, if it is kept. Returns whether it could be taken: there was memory for it,
     /// and it isn't too far ahead of the clock.
-    fn take_wished_harvest(&mut self, harvest: Harvest, now: Millis) -> bool
+    fn accept_wished(&mut self, harvest: Harvest, now: Millis) -> bool
         requires { ∥ IsWalked P.jobs P.answers P.faults harvest ∥₁ }
     {
         if self.is_withdrawn_harvest(&harvest) || self.is_left_out(&harvest) {
@@ -305,7 +305,7 @@ where
         is_taken
     }
 
-    /// Publishes what wishes brought, where that is due, ends wishes that are over, and tells the log of them.
+    /// Publishes what wishes brought, where that is due, ends wishes that are over, and logs them.
     pub(crate) fn tend_wishes(&mut self) {
         if !self.means.book.is_open() {
             return;
@@ -348,10 +348,10 @@ where
     }
 
     /// Tells the book how many more unknown originals may be wished for, by what is published.
-    pub(crate) fn tell_room(&self) {
+    pub(crate) fn book_room(&self) {
         let settings = self.settings();
         let listed = self.standing.list(settings).len();
-        let room = tell_room(
+        let room = book_room(
             self.rt,
             &self.means.book,
             settings,
@@ -359,20 +359,20 @@ where
             self.ledger.merger(),
         );
         if let (Some(room), Some(wanted)) = (room, settings.wishing.wanted) {
-            self.tell_wanted(room, wanted.get());
+            self.show_room(room, wanted.get());
         }
     }
 
     /// Tells the book which originals rounds look after. Where memory is refused, those of before stay.
-    pub(crate) fn tell_listed(&self) {
+    pub(crate) fn book_listed(&self) {
         if let Some(keys) = self.means.keys {
             let listed = self.standing.list(self.settings());
-            tell_listed(self.rt, &self.means.book, listed, keys);
+            book_listed(self.rt, &self.means.book, listed, keys);
         }
     }
 
-    /// Tells the log how many wishes were turned away since the last round, if any were.
-    pub(crate) fn tell_turned_away(&self, number: u64) {
+    /// Logs how many wishes were turned away since the last round, if any were.
+    pub(crate) fn log_turned_away(&self, number: u64) {
         let count = self.means.book.turned_away(self.rt);
         if count > 0 {
             let line = Line::Wanting {

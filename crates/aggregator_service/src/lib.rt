@@ -14,7 +14,7 @@
 //!   wishes what it may take;
 //! - `listing` reads the file of originals anew for each round, and checks it;
 //! - `dropping` has forgotten what is withdrawn, and what is known beyond what is wanted;
-//! - `watching` tells the status.
+//! - `watching` shows in the status what happens.
 #![tactic(auto)]
 
 mod bounds;

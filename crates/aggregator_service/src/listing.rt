@@ -22,29 +22,29 @@ use std::rt::Files;
 
 /// The originals that rounds look after.
 #[derive(Drop)]
-pub(crate) struct Listing {
+pub(crate) struct Originals {
     /// Those of the settings and of the file; `None` if those of the settings alone.
-    originals: Option<Vec<Original>>,
+    all: Option<Vec<Original>>,
 }
 
-impl Listing {
+impl Originals {
     /// Nothing is read yet.
-    pub(crate) const NONE: Listing = Listing { originals: None };
+    pub(crate) const NONE: Originals = Originals { all: None };
 
-    pub(crate) fn originals<'a>(&'a self, settings: &'a Settings) -> &'a [Original]
-        ensures { result.now ≡ list_of self.now.originals settings.now.originals }
+    pub(crate) fn listed<'a>(&'a self, settings: &'a Settings) -> &'a [Original]
+        ensures { result.now ≡ list_of self.now.all settings.now.originals }
     {
-        match &self.originals {
-            Some(originals) => originals,
+        match &self.all {
+            Some(all) => all,
             None => &settings.originals,
         }
     }
 
     /// Whether all originals of these settings are known: none stand in a file that wasn't read yet.
     pub(crate) fn is_whole(&self, settings: &Settings) -> bool
-        ensures { result ≡ (is_some self.now.originals || not (is_some settings.now.wishing.originals_file)) }
+        ensures { result ≡ (is_some self.now.all || not (is_some settings.now.wishing.originals_file)) }
     {
-        self.originals.is_some() || settings.wishing.originals_file.is_none()
+        self.all.is_some() || settings.wishing.originals_file.is_none()
     }
 }
 
@@ -132,13 +132,18 @@ where
         else {
             return;
         };
-        if let Err(matter) = self.take_list(path.as_str(), keys, number) {
-            self.tell_list(number, matter);
+        if let Err(matter) = self.accept_list(path.as_str(), keys, number) {
+            self.log_list(number, matter);
         }
     }
 
     /// Takes the originals of a file into the list of the rounds.
-    fn take_list(&mut self, path: &str, keys: RandomState, number: u64) -> Result<(), ListMatter> {
+    fn accept_list(
+        &mut self,
+        path: &str,
+        keys: RandomState,
+        number: u64,
+    ) -> Result<(), ListMatter> {
         let text = match read_file(self.rt, path) {
             Ok(text) => text,
             Err(fault) => return Err(matter_of(fault)),
@@ -149,24 +154,24 @@ where
         if self.settings().timing.again.is_some() {
             shuffle(&mut originals, self.seed);
         }
-        self.standing.listing.originals = Some(originals);
-        self.tell_bad(number, &listed);
-        self.tell_bad_lines(listed.bad_count as u64);
+        self.standing.originals.all = Some(originals);
+        self.log_bad(number, &listed);
+        self.show_bad_lines(listed.bad_count as u64);
         Ok(())
     }
 
-    /// Tells the log which lines hold no originals.
-    fn tell_bad(&self, number: u64, listed: &Listed) {
+    /// Logs which lines hold no originals.
+    fn log_bad(&self, number: u64, listed: &Listed) {
         for line in &listed.bad {
-            self.tell_list(number, ListMatter::Bad(*line as u64));
+            self.log_list(number, ListMatter::Bad(*line as u64));
         }
         let more = listed.bad_count.saturating_sub(listed.bad.len());
         if more > 0 {
-            self.tell_list(number, ListMatter::More(more as u64));
+            self.log_list(number, ListMatter::More(more as u64));
         }
     }
 
-    fn tell_list(&self, round: u64, matter: ListMatter) {
+    fn log_list(&self, round: u64, matter: ListMatter) {
         self.log.tell(self.alloc(), Line::List { round, matter });
     }
 }

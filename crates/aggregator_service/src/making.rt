@@ -90,7 +90,7 @@ where
         self.watch.now(self.rt)
     }
 
-    /// Makes the round with this number, and tells the log what went wrong. What is refused for lack of memory isn't
+    /// Makes the round with this number, and logs what went wrong. What is refused for lack of memory isn't
     /// appended and isn't counted.
     pub(crate) fn make(&mut self, number: u64) -> Round {
         let settings = self.settings();
@@ -99,24 +99,24 @@ where
         let alloc = self.alloc();
         self.standing.begin(alloc, settings, number);
         self.standing.begun = second_now(self.rt);
-        self.tell_listed();
-        self.tell_room();
-        self.tell_progress();
+        self.book_listed();
+        self.book_room();
+        self.show_progress();
         self.harvest();
         let tells = tells_more(settings);
         self.standing
             .notes
             .tell(self.alloc(), number, settings, tells, self.log);
-        self.tell_turned_away(number);
-        self.tell_dropped(number);
+        self.log_turned_away(number);
+        self.log_dropped(number);
         if !self.means.pullers.are_some() {
             self.pull_all();
         } else if settings.timing.pull.is_none() {
             self.pull_beside();
         }
-        self.tell_left_out(number);
+        self.log_left_out(number);
         self.publish();
-        self.tell_round();
+        self.show_round();
         let round = self.standing.round;
         self.standing.round = Round::NONE;
         round
@@ -127,7 +127,7 @@ where
         let begun = self.now();
         self.standing.dues.progress.done(begun);
         for _ in self.rt.forever() {
-            self.take_waiting();
+            self.accept_waiting();
             self.hand_wishes();
             let handed = self.hand_out();
             let now = self.now().0;
@@ -136,13 +136,13 @@ where
             }
             if handed == Handed::Enough {
                 let wait = self.wait_time();
-                if self.take_news(wait) == Heard::Gone {
+                if self.accept_news(wait) == Heard::Gone {
                     break;
                 }
             }
             self.tend();
         }
-        self.tell_left();
+        self.log_left();
         self.standing.end();
     }
 
@@ -223,7 +223,7 @@ where
     /// The job of a turn of the round, to be handed out in this second.
     fn assignment_of(&self, turn: Turn, now: Second) -> Option<Assignment<P>>
         ensures errand { IfSome result (λ it. it.errand ≡ OfRound turn) }
-        ensures original { IfSome result (λ it. slice_get (list_of self.now.standing.listing.originals
+        ensures original { IfSome result (λ it. slice_get (list_of self.now.standing.originals.all
             (arc_value self.now.terms.now.settings).originals) turn.original ≡ Some it.job.original) }
         ensures revision { IfSome result (λ it. it.job.revision ≡ revision_by_rule (arc_value self.now.terms.now.settings)
             (record { round = self.now.standing.begun.0; second = now.0 })) }
@@ -251,24 +251,24 @@ where
     /// Walks a job in this thread.
     fn walk_here(&mut self, turn: Turn, assignment: Assignment<P>) {
         let report = self.terms.walk(self.rt, assignment);
-        self.take_opened(turn, report.open());
+        self.accept_round_walk(turn, report.open());
     }
 
     /// Goes on with wishes for at most so many milliseconds. Returns how many have passed. What peers gave is left to
     /// the caller.
     pub(crate) fn serve_wishes(&mut self, most: u64) -> u64 {
         let begun = self.now();
-        self.take_waiting();
+        self.accept_waiting();
         self.hand_wishes();
         let now = self.now();
         let wait = self.standing.desk.wait(now).min(most);
-        let heard = self.take_news(wait);
+        let heard = self.accept_news(wait);
         if heard == Heard::Gone {
             let _ = thread::sleep(self.rt, Duration::from_millis(wait));
         }
         self.tend_wishes();
         self.tend_snapshot();
-        self.tell_memory();
+        self.show_memory();
         // Without a clock no time passes by the watch, and the pause would not end.
         let waited = if heard == Heard::Report { 0 } else { wait };
         self.now().since(begun).max(waited)
@@ -292,7 +292,7 @@ where
             let _ = thread::sleep(self.rt, Duration::from_millis(left));
             self.tend_peers();
             self.tend_snapshot();
-            self.tell_memory();
+            self.show_memory();
         }
     }
 

@@ -40,7 +40,7 @@ where
                 break;
             };
             let before = self.standing.round.pulls;
-            self.take_pull(answer);
+            self.accept_pull(answer);
             if self.standing.round.pulls != before {
                 gave = gave.saturating_add(1);
             }
@@ -72,13 +72,13 @@ where
         unreachable!()
     }
 
-    /// Pulls each peer, one after the other, and tells the log of those that bring nothing.
+    /// Pulls each peer, one after the other, and logs those that bring nothing.
     pub(crate) fn pull_all(&mut self) {
         let settings = self.settings();
         let patience = Patience::of_seconds(settings.patience);
         for (number, peer) in (1..).zip(&settings.peers) {
             let taken = self.pull_one(number, peer, patience);
-            self.tell_pull(number, pull_end(&taken));
+            self.show_pull(number, pull_end(&taken));
             if let Err(fault) = taken {
                 let line = Line::Peer {
                     round: self.standing.number,
@@ -100,7 +100,7 @@ where
         if self.settings().timing.ahead.is_some() || forgets(self.settings()) {
             let asked = self.cursor_of(number);
             let answer = pull_within(self.rt, patience, peer, asked);
-            return self.take_answer(number, asked, answer);
+            return self.accept_answer(number, asked, answer);
         }
         self.ledger
             .pull(self.rt, &mut self.standing.round, number, peer, patience)
@@ -139,8 +139,8 @@ where
         }
     }
 
-    /// Takes in what a peer gave, and tells the log, once in a round, if it gave nothing.
-    pub(crate) fn take_pull(&mut self, answer: PullAnswer) {
+    /// Takes in what a peer gave, and logs, once in a round, if it gave nothing.
+    pub(crate) fn accept_pull(&mut self, answer: PullAnswer) {
         let PullAnswer {
             peer,
             base,
@@ -148,8 +148,8 @@ where
             answer,
         } = answer;
         self.standing.set_pulled(peer, false);
-        let taken = self.take_answer(peer, cursor, answer);
-        self.tell_pull(peer, pull_end(&taken));
+        let taken = self.accept_answer(peer, cursor, answer);
+        self.show_pull(peer, pull_end(&taken));
         if let Err(fault) = taken {
             if self.standing.notes.tells_peer(peer) {
                 let line = Line::Peer {
@@ -163,7 +163,7 @@ where
     }
 
     /// Takes the delta that a peer gave when it was asked from this cursor, if it gave one.
-    fn take_answer(
+    fn accept_answer(
         &mut self,
         peer: u64,
         asked: Option<Cursor>,
@@ -176,14 +176,14 @@ where
             Err(fault) => return Err(PeerFault::Pull(fault)),
         };
         if self.settings().timing.ahead.is_some() {
-            self.take_timely(peer, asked, delta)
+            self.accept_timely(peer, asked, delta)
         } else {
-            self.take_whole(peer, delta)
+            self.accept_whole(peer, delta)
         }
     }
 
     /// Takes all of a delta. A round that pulls at its end appends it, whatever it brings.
-    fn take_whole(&mut self, peer: u64, delta: Delta) -> Result<TakenAs, PeerFault>
+    fn accept_whole(&mut self, peer: u64, delta: Delta) -> Result<TakenAs, PeerFault>
         requires { ∥ IsPart delta ∥₁ }
     {
         if forgets(self.settings()) {
@@ -203,7 +203,7 @@ where
 
     /// Appends what isn't ahead of the clock of a delta that was asked for from this cursor, and counts what is. The
     /// held cursor moves if that is all of the delta, and the delta follows on it.
-    fn take_timely(
+    fn accept_timely(
         &mut self,
         peer: u64,
         asked: Option<Cursor>,
@@ -231,14 +231,14 @@ where
         };
         if left_out == 0 && follows(self.held(peer), &delta) {
             self.standing.set_lead(peer, None);
-            return self.take_whole(peer, delta);
+            return self.accept_whole(peer, delta);
         }
-        self.take_some(peer, asked, delta)
+        self.accept_some(peer, asked, delta)
     }
 
     /// Appends what was taken of a delta that was asked for from this cursor. The held cursor stays, and the peer is
     /// asked from the delta's end.
-    fn take_some(
+    fn accept_some(
         &mut self,
         peer: u64,
         asked: Option<Cursor>,

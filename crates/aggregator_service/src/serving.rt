@@ -6,7 +6,7 @@ ghost use Rattle.service_threads.specs.Jobs.{Covers};
 ghost use Rattle.round_values.specs.Keeping.{Starts};
 ghost use Rattle.round_values.specs.Lines.{round_line};
 
-use crate::bounds::tell_bounds;
+use crate::bounds::book_bounds;
 use crate::dropping::begin_rule;
 use crate::making::Rounds;
 use crate::standing::Standing;
@@ -193,7 +193,7 @@ where
         means.readiness.set();
         means.telling.tell_snapshot(rt, ledger.merger());
     }
-    tell_bounds(
+    book_bounds(
         rt,
         &means.book,
         means.keys,

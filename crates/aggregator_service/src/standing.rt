@@ -2,7 +2,7 @@
 ghost use Rattle.std.specs.Prelude.{◌≡◌, IfSome, None};
 ghost use Rattle.aggregator_service.specs.Listing.{list_of};
 
-use crate::listing::Listing;
+use crate::listing::Originals;
 use forgetting::Forgetting;
 use harvest_schedule::{Limits, Mood, Pace, Schedule, Turn};
 use memento_time::Original;
@@ -37,7 +37,7 @@ pub(crate) struct Standing {
     pub(crate) passed: u64,
     /// Granted wishes.
     pub(crate) desk: Desk,
-    pub(crate) listing: Listing,
+    pub(crate) originals: Originals,
     /// When all mementos were counted last, if the status is told of them.
     pub(crate) counted: Option<Millis>,
     /// When the memory that is held was looked at last, if the status is told of it.
@@ -134,7 +134,7 @@ impl Standing {
             out: 0,
             passed: 0,
             desk: Desk::new(alloc, windows_of(settings))?,
-            listing: Listing::NONE,
+            originals: Originals::NONE,
             counted: None,
             measured: None,
             forgetting: Forgetting::new(alloc, settings, incarnation, now),
@@ -144,9 +144,9 @@ impl Standing {
 
     /// The originals that rounds look after.
     pub(crate) fn list<'a>(&'a self, settings: &'a Settings) -> &'a [Original]
-        ensures { result.now ≡ list_of self.now.listing.originals settings.now.originals }
+        ensures { result.now ≡ list_of self.now.originals.all settings.now.originals }
     {
-        self.listing.originals(settings)
+        self.originals.listed(settings)
     }
 
     /// Whether something was appended that isn't published.

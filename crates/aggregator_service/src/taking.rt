@@ -39,10 +39,10 @@ where
     L: Write + Copy,
 {
     /// Waits so many milliseconds for what comes, and takes it in.
-    pub(crate) fn take_news(&mut self, wait: u64) -> Heard {
+    pub(crate) fn accept_news(&mut self, wait: u64) -> Heard {
         match self.means.pool.news(self.rt, wait) {
             News::Report(report) => {
-                self.take_reported(report);
+                self.accept_report(report);
                 Heard::Report
             }
             News::Nothing => Heard::Nothing,
@@ -52,26 +52,26 @@ where
 
     /// Takes in the reports that wait. A job is handed out only then, since one of them may say that its archive is
     /// busy.
-    pub(crate) fn take_waiting(&mut self) {
+    pub(crate) fn accept_waiting(&mut self) {
         for _ in 0..self.means.pool.hands() {
             let Some(report) = self.means.pool.waiting(self.rt) else {
                 return;
             };
-            self.take_reported(report);
+            self.accept_report(report);
         }
     }
 
     /// Takes in what a worker reports.
-    fn take_reported(&mut self, report: WalkReport<P>) {
+    fn accept_report(&mut self, report: WalkReport<P>) {
         let opened = report.open();
         match opened.errand {
             Errand::Round(turn) => {
                 self.standing.out = self.standing.out.saturating_sub(1);
-                self.take_opened(turn, opened);
+                self.accept_round_walk(turn, opened);
             }
             Errand::Wish { archive } => {
                 self.standing.desk.end_out();
-                self.take_wished(archive, opened);
+                self.accept_wish_walk(archive, opened);
             }
         }
     }
@@ -85,7 +85,7 @@ where
         }
     }
 
-    /// Tells the schedule, the status and the log how a walk ended. Returns for how many seconds its archive is left
+    /// Notes in the schedule how a walk ended, shows it, and logs it. Returns for how many seconds its archive is left
     /// alone, if it asked for that.
     pub(crate) fn note_walk(&mut self, opened: &Opened) -> Option<u64> {
         let archive = opened.errand.archive();
@@ -105,14 +105,14 @@ where
             Errand::Wish { archive } => self.standing.schedule.end_walk(archive, verdict, now),
         };
         let end = walk_end(&opened.result, asked.is_some());
-        self.tell_walk(archive, end, Second(opened.begun));
-        self.tell_mood(archive, is_asleep(before));
-        self.tell_aside(archive, before, Millis(now));
+        self.show_walk(archive, end, Second(opened.begun));
+        self.log_mood(archive, is_asleep(before));
+        self.log_aside(archive, before, Millis(now));
         asked
     }
 
     /// Takes in what came of a job of the round.
-    pub(crate) fn take_opened(&mut self, turn: Turn, opened: Opened)
+    pub(crate) fn accept_round_walk(&mut self, turn: Turn, opened: Opened)
         requires own { ∥ P.jobs opened.errand opened.job ∥₁ }
         requires comes { ∥ Comes P.answers P.faults opened.job opened.begun opened.result opened.asked ∥₁ }
     {
@@ -128,12 +128,12 @@ where
         } = opened;
         self.standing.notes.add(turn.archive, &job.first, &walked);
         if let Ok(harvest) = walked {
-            self.take_walked(turn, harvest);
+            self.accept_harvest(turn, harvest);
         }
     }
 
     /// Appends the harvest of a walk.
-    fn take_walked(&mut self, turn: Turn, harvest: Harvest)
+    fn accept_harvest(&mut self, turn: Turn, harvest: Harvest)
         requires { ∥ IsWalked P.jobs P.answers P.faults harvest ∥₁ }
     {
         if self.is_withdrawn_harvest(&harvest) || self.is_left_out(&harvest) {
@@ -163,8 +163,8 @@ where
         last_taken(self.settings().timing.ahead, second_now(self.rt))
     }
 
-    /// Tells the log how many harvests weren't taken since the last round, if there were some.
-    pub(crate) fn tell_left_out(&mut self, round: u64) {
+    /// Logs how many harvests weren't taken since the last round, if there were some.
+    pub(crate) fn log_left_out(&mut self, round: u64) {
         let count = self.standing.left_out;
         if count > 0 {
             self.standing.left_out = 0;
@@ -177,8 +177,8 @@ where
         }
     }
 
-    /// Tells the log, once each in a round, that an archive is dormant, and that it answers again.
-    pub(crate) fn tell_mood(&mut self, place: usize, was_asleep: bool) {
+    /// Logs, once each in a round, that an archive is dormant, and that it answers again.
+    pub(crate) fn log_mood(&mut self, place: usize, was_asleep: bool) {
         let settings = self.settings();
         let (Some(failures), Some(archive)) = (
             settings.asking.tolerance,
@@ -200,11 +200,11 @@ where
         } else {
             Matter::Awake(left)
         };
-        self.tell_archive(self.standing.number, archive, matter);
+        self.log_archive(self.standing.number, archive, matter);
     }
 
-    /// Tells the log, once each time, that an archive asked to be left alone for long.
-    fn tell_aside(&self, place: usize, before: Option<Mood>, now: Millis) {
+    /// Logs, once each time, that an archive asked to be left alone for long.
+    fn log_aside(&self, place: usize, before: Option<Mood>, now: Millis) {
         let (Some(Mood::Aside { until, .. }), Some(archive)) = (
             self.standing.schedule.mood(place),
             self.settings().archives.get(place),
@@ -215,7 +215,7 @@ where
         // Walks that were out when it was set aside tell nothing new.
         if seconds >= LONG && !is_left_alone(before, now) {
             let left = self.standing.schedule.left(place) as u64;
-            self.tell_archive(
+            self.log_archive(
                 self.standing.number,
                 archive,
                 Matter::Aside(Respite {
@@ -226,7 +226,7 @@ where
         }
     }
 
-    fn tell_archive(&self, round: u64, archive: &Archive, matter: Matter<'_>) {
+    fn log_archive(&self, round: u64, archive: &Archive, matter: Matter<'_>) {
         let line = Line::Archive {
             round,
             name: name_text(&archive.name),
@@ -235,12 +235,12 @@ where
         self.log.tell(self.alloc(), line);
     }
 
-    /// Tells the log of jobs that weren't handed out, since their archive was dormant.
-    pub(crate) fn tell_left(&self) {
+    /// Logs jobs that weren't handed out, since their archive was dormant.
+    pub(crate) fn log_left(&self) {
         for (place, archive) in (0..).zip(&self.settings().archives) {
             let left = self.standing.schedule.left(place);
             if left > 0 {
-                self.tell_archive(self.standing.number, archive, Matter::Left(left as u64));
+                self.log_archive(self.standing.number, archive, Matter::Left(left as u64));
             }
         }
     }

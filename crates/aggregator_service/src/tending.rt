@@ -22,13 +22,13 @@ where
     P: WalkRules + Begins,
     L: Write + Copy,
 {
-    /// Does what is due: takes in what peers gave, pulls, publishes, and tells the log how far the round is.
+    /// Does what is due: takes in what peers gave, pulls, publishes, and logs how far the round is.
     pub(crate) fn tend(&mut self) {
         self.tend_peers();
         self.tend_wishes();
         self.tend_snapshot();
-        self.tell_progress();
-        self.tell_memory();
+        self.show_progress();
+        self.show_memory();
         let now = self.now();
         if self.standing.dues.progress.is_due(now) {
             self.standing.dues.progress.done(now);
@@ -47,7 +47,7 @@ where
             let Some(answer) = self.means.pullers.answered(self.rt) else {
                 break;
             };
-            self.take_pull(answer);
+            self.accept_pull(answer);
         }
         let now = self.now();
         if self.standing.dues.pull.is_due(now) {
@@ -76,10 +76,10 @@ where
             self.means.readiness.set();
             self.means.telling.tell_shown(self.rt);
         }
-        self.tell_publish(is_published);
+        self.show_publish(is_published);
         let now = self.now();
         self.standing.desk.note_publish(is_published, now);
-        self.tell_room();
+        self.book_room();
         let end = PublishEnd {
             is_appended,
             is_published,
@@ -88,7 +88,7 @@ where
         if is_published {
             self.standing.forgetting.note_publish();
         }
-        self.tell_behind();
+        self.show_behind();
         self.tend_forgetting();
         self.tend_snapshot();
     }
@@ -112,7 +112,7 @@ where
                 .keep(self.rt, path.as_str(), self.ledger.merger(), self.log);
             let now = self.now();
             self.standing.keeping.tried(now);
-            self.tell_kept();
+            self.show_kept();
         }
     }
 }

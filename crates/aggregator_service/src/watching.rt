@@ -1,4 +1,4 @@
-//! What the status is told by the rounds.
+//! What the status shows of the rounds.
 use crate::making::Rounds;
 use harvest_schedule::Mood;
 use harvest_workers::WalkRules;
@@ -50,8 +50,8 @@ where
     P: WalkRules + Begins,
     L: Write + Copy,
 {
-    /// Tells the status of a walk of the archive at this place, which began in this second.
-    pub(crate) fn tell_walk(&self, place: usize, end: WalkEnd, begun: Second) {
+    /// Shows a walk of the archive at this place, which began in this second.
+    pub(crate) fn show_walk(&self, place: usize, end: WalkEnd, begun: Second) {
         let board = self.means.telling.board();
         if !board.is_open() {
             return;
@@ -67,16 +67,16 @@ where
         }
     }
 
-    /// Tells the status how a pull from the peer with this number ended.
-    pub(crate) fn tell_pull(&self, number: u64, end: PullEnd) {
+    /// Shows how a pull from the peer with this number ended.
+    pub(crate) fn show_pull(&self, number: u64, end: PullEnd) {
         let board = self.means.telling.board();
         if board.is_open() {
             board.add_pull(self.rt, number, end, second_now(self.rt).0);
         }
     }
 
-    /// Tells the status how far the round is.
-    pub(crate) fn tell_progress(&self) {
+    /// Shows how far the round is.
+    pub(crate) fn show_progress(&self) {
         let board = self.means.telling.board();
         if !board.is_open() {
             return;
@@ -90,8 +90,8 @@ where
         board.set_round(self.rt, round);
     }
 
-    /// Tells the status each second how much memory is held, and how many wishes came too late.
-    pub(crate) fn tell_memory(&mut self) {
+    /// Shows each second how much memory is held, and how many wishes came too late.
+    pub(crate) fn show_memory(&mut self) {
         let board = self.means.telling.board();
         if !board.is_open() {
             return;
@@ -112,8 +112,8 @@ where
         }
     }
 
-    /// Tells the status whether a snapshot was written that was tried just now.
-    pub(crate) fn tell_kept(&self) {
+    /// Shows whether a snapshot was written that was tried just now.
+    pub(crate) fn show_kept(&self) {
         let board = self.means.telling.board();
         if !board.is_open() {
             return;
@@ -125,14 +125,14 @@ where
         }
     }
 
-    /// Tells the status whether something is published that the last snapshot lacks.
-    pub(crate) fn tell_behind(&self) {
+    /// Shows whether something is published that the last snapshot lacks.
+    pub(crate) fn show_behind(&self) {
         let is_behind = self.standing.keeping.is_behind();
         self.means.telling.board().set_behind(self.rt, is_behind);
     }
 
-    /// Tells the status how many of the wanted originals are known, if so many more may be wished for.
-    pub(crate) fn tell_wanted(&self, room: usize, wanted: usize) {
+    /// Shows how many of the wanted originals are known, if so many more may be wished for.
+    pub(crate) fn show_room(&self, room: usize, wanted: usize) {
         let room = RoomStatus {
             used: wanted.saturating_sub(room) as u64,
             most: wanted as u64,
@@ -140,8 +140,8 @@ where
         self.means.telling.board().set_room(self.rt, room);
     }
 
-    /// Tells the status that the file of originals was read, and how many of its lines hold none.
-    pub(crate) fn tell_bad_lines(&self, bad: u64) {
+    /// Shows that the file of originals was read, and how many of its lines hold none.
+    pub(crate) fn show_bad_lines(&self, bad: u64) {
         let last = second_now(self.rt).0;
         self.means
             .telling
@@ -149,8 +149,8 @@ where
             .set_list(self.rt, ListStatus { bad, last });
     }
 
-    /// Tells the status what a publish came to. What is known is counted once a minute.
-    pub(crate) fn tell_publish(&mut self, is_published: bool) {
+    /// Shows what a publish came to. What is known is counted once a minute.
+    pub(crate) fn show_publish(&mut self, is_published: bool) {
         let board = self.means.telling.board();
         if !board.is_open() {
             return;
@@ -169,7 +169,7 @@ where
         }
     }
 
-    /// Tells the status how much is published.
+    /// Shows how much is published.
     fn count_known(&mut self) {
         let known = known_in(self.ledger.merger().published_state(), second_now(self.rt));
         self.means.telling.board().set_known(self.rt, known);
@@ -180,14 +180,14 @@ where
         self.standing.counted = Some(now);
     }
 
-    /// Tells the status that a round is over, and how much is known.
-    pub(crate) fn tell_round(&mut self) {
+    /// Shows that a round is over, and how much is known.
+    pub(crate) fn show_round(&mut self) {
         let board = self.means.telling.board();
         if !board.is_open() {
             return;
         }
-        self.tell_progress();
-        self.tell_memory();
+        self.show_progress();
+        self.show_memory();
         board.add_round(self.rt);
         self.count_known();
     }
