@@ -8,16 +8,18 @@ That what is read is what is served by is shown by tests/rounds.
 """
 import os
 import pathlib
+import re
 import subprocess
 import sys
 import tempfile
 
-from playing import PROGRAM
+from playing import PROGRAM, TOP
 
 MOST_BYTES = 1_048_576    # of settings
 OWN = {"walks": (1, 1_000), "tolerance": (1, 1_000_000_000), "dormant": (1, 86_400), "walk": (1, 86_400), "rate": (1, 1_000_000),
        "again": (1, 2_592_000), "again_none": (1, 2_592_000), "ahead": (1, 2_592_000), "publish": (1, 86_400), "pull": (1, 86_400)}    # numbers, with their limits
-OPTIONAL = {"patience", "hosts", "log", "at_once", *OWN, "agent", "ready", "wanted", "wishes", "alike", "originals_file", "snapshot", "snapshot_every", "formats", "status", "together", "wait"}
+OPTIONAL = {"patience", "hosts", "log", "at_once", *OWN, "agent", "ready", "wanted", "wishes", "alike", "originals_file", "snapshot", "snapshot_every", "formats", "status", "together", "wait",
+            "forget", "withdrawn_file", "most"}
 
 TELLING = {"tolerance", "again", "publish", "pull", "originals_file"}    # by which more is told than what is specified
 HOLDS = {    # what is told of a key that holds what it may not
@@ -47,6 +49,9 @@ HOLDS = {    # what is told of a key that holds what it may not
     "status": "a text IP:PORT",
     "together": "a number from 1 to 256",
     "wait": "a number from 1 to 60, where wanted is set and together is 2 or more",
+    "forget": "a number from 1 to 86400",
+    "withdrawn_file": "a path of 1 to 4096 bytes",
+    "most": "a number from 1 to 1000000000",
 }
 
 SAMPLE = {
@@ -124,6 +129,9 @@ TAKEN = {
     "formats": ["[]", '["json"]', '["cdxj"]', '["json", "cdxj"]', '["cdxj", "json"]'],
     "status": ['"127.0.0.1:9090"', '"[::1]:0"', '"127.0.0.1:8080"'],
     "together": ["1", "256"],
+    "forget": ["1", "86400"],
+    "withdrawn_file": ['"w"', '"/etc/maplewrench/withdrawn"', f'"{"w" * 4_096}"'],
+    "most": ["1", "1000000000"],
 }
 
 REFUSED = {
@@ -170,6 +178,9 @@ REFUSED = {
     "formats": ['"json"', "7", '["link"]', '["JSON"]', '[""]', "[7]", '["json", "cdxj", "json"]', '[["json"]]'],
     "status": ['""', '"localhost:9090"', '"127.0.0.1"', "9090", "true", '["127.0.0.1:9090"]', '"127.0.0.1:65536"'],
     "together": ["0", "257", "-1", '"1"', "1.5", "true"],
+    "forget": ["0", "86401", "-1", '"1"', "1.5", "true"],
+    "withdrawn_file": ["7", '""', "true", '["w"]', f'"{"w" * 4_097}"'],
+    "most": ["0", "1000000001", "-1", '"1"', "1.5", "true"],
 }
 
 HOLDING = {"wanted": "1", "together": "2"}    # what `wait` needs
@@ -379,11 +390,20 @@ def expect_shown():
                     sys.exit(1)
 
 
+def expect_all():
+    """Each key of the program has values here."""
+    keys = re.findall(r'Key::\w+ => "(\w+)",', (TOP / "crates/service_settings/src/fault.rt").read_text(encoding="utf-8"))
+    if set(keys) - {"wait"} != TAKEN.keys() or TAKEN.keys() != REFUSED.keys():
+        print(f"without values: {sorted(set(keys) ^ TAKEN.keys() ^ {'wait'})}")
+        sys.exit(1)
+
+
 def summary(gates=2, archives=1, originals=1, peers=1):
     return 0, f"settings ok: gates {gates} archives {archives} originals {originals} peers {peers}\n", ""
 
 
 def main():
+    expect_all()
     expect("the sample", text_with(), summary())
     expect("a list of each length", text_with(gates=listed(3, gate), originals=listed(5, original), peers=listed(7, peer),
                                               archives=archives(("a", "http://a/"), ("b", "http://a/"))), summary(3, 2, 5, 7))
@@ -405,7 +425,8 @@ def main():
     expect("an optional key is looked for last", text_with(patience="0", archives="7"), fault_of("archives"))
     expect("the optional keys in their order", text_with(patience="0", hosts="7", log="7"), fault_of("patience"))
     expect("of the last two the first", text_with(hosts="7", log="7"), fault_of("hosts"))
-    keys = ["walks", "at_once", *list(OWN)[1:], "agent", "ready", "snapshot", "snapshot_every", "formats", "status", "together", "wait"]
+    keys = ["walks", "at_once", *list(OWN)[1:], "agent", "ready", "snapshot", "snapshot_every", "formats", "status", "together", "wait", "forget",
+            "withdrawn_file", "most"]
     for key, later in zip(keys, keys[1:]):
         expect(f"of {key} and {later} the first", text_with(**{key: "{}", later: "{}"}), told_of(key) if {key, later} & TELLING else fault_of(key))
     expect("the specified keys before all others", text_with(log="7", at_once="0"), fault_of("log"))
