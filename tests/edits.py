@@ -180,6 +180,8 @@ def try_record(small):
         ("a contract of the crate below", LOW, "result ≡ kept a", "kept a ≡ result"),
         ("a definition that this contract cites", RULE, "kept n = n", "kept n = 0"),
         ("a name that leads to this contract", TINY, "use low::itself;", "use low::itself;\nuse low::TEXT;"),
+        ("a type that has a name of its crate's", LOW, "/// A number.", "pub struct greater;\n\n/// A number."),
+        ("what an import of all brings", LOW, "/// A number.", "use std::mem::*;\n\n/// A number."),
         ("the edit", f"crates/{EDIT.replace('/', '/edits/')}", "b < b", "a < a"),
         ("code of its crate", TINY, "itself(a)", "a"),
     )
@@ -192,6 +194,8 @@ def try_record(small):
         ("a body of the crate below", LOW, "    a\n", "    (a)\n"),
         ("what its crate doesn't name", LOW, "// two", "// too"),
         ("a method of a type that its crate doesn't name", LOW, "result ≡ self.now.number", "self.now.number ≡ result"),
+        ("a type that isn't public", LOW, "/// A number.", "struct greater;\n\n/// A number."),
+        ("an import", LOW, "/// A number.", "use std::mem::swap;\n\n/// A number."),
         ("what comes beside", LOW, "/// A number.", "/// Another.\npub fn another() -> u8 {\n    0\n}\n\n/// A number."),
         ("a definition that comes beside", RULE, "-- of a number all", "abbrev pub other : ℕ → ℕ\nother n = 0\n\n-- of a number all"),
     )

@@ -215,7 +215,7 @@ class Reach:
     """What a crate reaches of those below it."""
 
     def __init__(self, sources, crate, below):
-        self.below = Below(item for name in below if name != crate for item in sources.items[name])
+        self.below = Below({name: sources.items[name] for name in below if name != crate})
         self.words = sources.words[crate]
         self.known, shown = self.below.reached(self.words)
         self.sum = checksum(shown)

@@ -7,10 +7,11 @@ another crate can see:
 - a public function without its body, since a caller goes by its contract, and a method if its type is reached, too;
 - a type with its fields and its attributes, a trait, a constant, and a declaration of `.antt`, whole;
 - of the impls of a reached type the heads and what they state, and the signatures;
-- of an import the names that are reached.
+- of an import the names that are reached, and of one that isn't `pub` those that are reached of its own crate.
 
-What can't be named, as a macro that is called among items, counts always. Answers, invariants and proofs of functions don't count:
-they are their function's own. A name is reached wherever a word is spelled like it. So more may count than is read, and never less.
+What isn't `pub` is reached only by what is reached of its own crate. What can't be named, as a macro that is called among items,
+counts always. Answers, invariants and proofs of functions don't count: they are their function's own. A name is reached wherever a
+word is spelled like it. So more may count than is read, and never less.
 """
 import functools
 import re
@@ -49,6 +50,7 @@ class Item:
     owner: str     # the type of a method or an impl, or nothing
     shown: tuple   # the texts that count
     is_import: bool = False
+    is_public: bool = True
 
     @functools.cached_property
     def words(self):
@@ -60,13 +62,17 @@ class Item:
         return parts_of(self.name) | parts_of(self.owner)
 
     @functools.cached_property
-    def named(self):
-        """Of an import the names, in their order."""
-        return [(text, parts_of(text)) for text in self.shown if re.search(r"\w", text)]
+    def imported(self):
+        """The places of the names that an import brings, among its texts."""
+        ends = (*self.shown[1:], ";")
+        return {at for at, text in enumerate(self.shown) if re.search(r"\w", text) and ends[at] in (",", "}", ";", "as")}
 
     def among(self, known):
-        """The names of an import that are known."""
-        return tuple(text for text, parts in self.named if parts <= known)
+        """An import without the names that aren't known; nothing if all aren't. One that names none, with `*`, stays."""
+        lost = {at for at in self.imported if not parts_of(self.shown[at]) <= known}
+        if self.imported and len(lost) == len(self.imported):
+            return ()
+        return tuple(text for at, text in enumerate(self.shown) if at not in lost and text != ",")
 
 
 def rows_as_tokens(text, rows):
@@ -205,12 +211,12 @@ def items_of_code(tokens):
         elif word == "mod" and inner is not None:
             yield from items_of_code(inner)
         elif word == "use":
-            yield Item("", "", texts(head), is_import=True)
+            yield Item("", "", texts(head), is_import=True, is_public=is_public(head))
         elif word == "fn" and behind:
             if is_public(head):
                 yield Item(behind[0].text, "", texts(head))
         elif word in NAMED and behind:
-            yield Item(behind[0].text, "", texts(head) + (texts(inner) if inner else ()))
+            yield Item(behind[0].text, "", texts(head) + (texts(inner) if inner else ()), is_public=is_public(head))
         else:
             yield Item("", "", texts(head) + (texts(inner) if inner else ()))
 
@@ -238,37 +244,52 @@ def items_of_logic(tokens):
             words = words[begin:]
         while words and words[0] in ("pub", "abbrev", "unfoldable", "record", "data"):
             words.pop(0)
-        if declared[0].text == "use" or words[:1] == ["mod"]:
-            yield Item("", "", texts(declared), is_import=True)
+        if "use" in texts(declared)[:2] or words[:1] == ["mod"]:
+            yield Item("", "", texts(declared), is_import=True, is_public=declared[0].text == "pub")
         else:
-            yield Item("" if words[:1] == ["module"] or not words else words[0], "", texts(declared))
+            is_unnamed = words[:1] == ["module"] or not words
+            yield Item("" if is_unnamed else words[0], "", texts(declared), is_public=is_unnamed or "pub" in texts(declared)[:8])
 
 
 # ---- what is reached ----
 
 
 class Below:
-    """The items of some crates, and which of them words lead to."""
+    """The items of some crates, by the crates' names, and which of them words lead to."""
 
-    def __init__(self, items):
-        self.items = list(items)
+    def __init__(self, items_of):
+        self.items = [(crate, item) for crate, items in items_of.items() for item in items]
         self.waiting = defaultdict(list)
-        for number, item in enumerate(self.items):
+        for number, (_, item) in enumerate(self.items):
             for part in item.needs:
                 self.waiting[part].append(number)
+        # What isn't public, and the impls of it.
+        own = {crate: {it.name for it in items if not it.is_public} - {it.name for it in items if it.is_public and not it.owner}
+               for crate, items in items_of.items()}
+        self.is_own = [bool({item.name, item.owner} & own[crate]) for crate, item in self.items]
 
     def reached(self, words):
         """All words that these lead to, and what then counts of the items."""
-        known, left = set(), set(words)
-        counts = {number for number, item in enumerate(self.items) if not item.name and not item.is_import}
-        for number in counts:
-            left |= self.items[number].words
+        known, left, counts = set(), set(words), set()
+        inner = defaultdict(set)    # of each crate the words of what is reached of it
+
+        def count(number):
+            crate, item = self.items[number]
+            counts.add(number)
+            inner[crate] |= item.words
+            # A word that was known may now lead to what isn't public.
+            left.update(item.words)
+
+        for number, (_, item) in enumerate(self.items):
+            if not item.name and not item.is_import:
+                count(number)
         while left:
             word = left.pop()
             known.add(word)
             for number in self.waiting.get(word, ()):
-                if number not in counts and self.items[number].needs <= known:
-                    counts.add(number)
-                    left |= self.items[number].words - known
-        shown = [item.shown if number in counts else item.among(known) for number, item in enumerate(self.items) if number in counts or item.is_import]
+                crate, item = self.items[number]
+                if number not in counts and item.needs <= (inner[crate] if self.is_own[number] else known):
+                    count(number)
+        shown = [item.shown if number in counts else item.among(known if item.is_public else inner[crate])
+                 for number, (crate, item) in enumerate(self.items) if number in counts or item.is_import]
         return known, [it for it in shown if it]
