@@ -18,6 +18,7 @@ from playing import TOP, holds, lacks, same
 
 sys.path.insert(0, str(TOP / "tests/edits"))
 from editing import counted
+from reaching import Below, Item
 
 RT = os.environ.get("RT", "rt")
 EDIT = "tiny/always_the_first.edit"
@@ -170,6 +171,14 @@ def try_lines(folder):
         same(f"the lines of {name} that count", counted([str(path)])[0].decode(), wanted)
 
 
+def try_modules():
+    """A method counts though a module that isn't public has its name, and a type that isn't public doesn't count."""
+    items = [Item("state", "", ("mod", "state", ";"), is_public=False), Item("State", "", ("pub", "struct", "State", ";")),
+             Item("state", "State", ("pub", "fn", "state")), Item("Inner", "", ("struct", "Inner", ";"), is_public=False)]
+    same("what counts beside a module of a method's name", Below({"low": items}).reached({"State", "state", "Inner"})[1],
+         [("mod", "state", ";"), ("pub", "struct", "State", ";"), ("pub", "fn", "state")])
+
+
 def try_record(small):
     """What the record counts for, once the edit was refused."""
     small.ends("a refused edit is recorded as it stands", 0, "1 passed, 0 failed", "--check")
@@ -234,6 +243,7 @@ def main():
         lacks("needs rt, the toolchain's command")
     with tempfile.TemporaryDirectory(prefix="small-") as folder:
         try_lines(folder)
+        try_modules()
         small = Repository(folder)
         said = small.ends("an edit that wasn't tried fails the check", 1, "0 passed, 1 failed", "--check")
         holds("and the check says what tries it", "tests/edits/run tiny" in said)

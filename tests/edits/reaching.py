@@ -266,7 +266,7 @@ class Below:
         # What isn't public, and the impls of it.
         own = {crate: {it.name for it in items if not it.is_public} - {it.name for it in items if it.is_public and not it.owner}
                for crate, items in items_of.items()}
-        self.is_own = [bool({item.name, item.owner} & own[crate]) for crate, item in self.items]
+        self.is_own = [(item.owner or item.name) in own[crate] for crate, item in self.items]
 
     def reached(self, words):
         """All words that these lead to, and what then counts of the items."""
