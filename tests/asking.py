@@ -294,10 +294,23 @@ def try_two_names():
         same("for each original twice", sorted(archive.targets()), sorted(2 * [BASE + one for one in originals(6)]))
 
 
+def try_ages():
+    """What has mementos is asked for anew once it is `again` seconds old, and what has none once it is `again_none` seconds old."""
+    for keys, asked in (({"again": 86_400, "again_none": 1}, [1, 3]), ({"again": 1, "again_none": 86_400}, [0, 2])):
+        with contextlib.ExitStack() as stack:
+            wanted = originals(4)
+            having = [BASE + wanted[0], BASE + wanted[2]]
+            archive = Played(stack, lambda target: GOOD if target in having else reply(status=404))
+            service = Service(stack, archives=[("a.example", archive.address)], originals=wanted, rounds=2, pause=2, keys=keys)
+            same("in the first round all are asked for", service.line(), told(1, 4, 4))
+            same(f"and behind two seconds, by {keys}, those that are old", service.line(), told(2, 2, 2))
+            same("which are these", sorted(archive.targets()[4:]), [BASE + wanted[k] for k in asked])
+
+
 def main():
     for attempt in (try_dormant, try_waking, try_absent, try_absent_beside_busy, try_absent_at_first, try_refusing,
                     try_nothing_to_ask, try_paces,
-                    try_two_names, try_busy, try_plain_503, try_one_goes_first, try_earlier_answers, try_odd_patience):
+                    try_two_names, try_busy, try_plain_503, try_one_goes_first, try_earlier_answers, try_odd_patience, try_ages):
         attempt()
     print("archives are asked as often as they allow, and no job is lost")
 

@@ -83,8 +83,8 @@ plant 'a module is on no map' crates/harvest_lattice/src/lib.rt '`shelves`' '`dr
 plant 'a paragraph is too wide' README.md 'Here are seven claims, each with the contract that carries it.' \
     'Here are seven claims, each with the contract that carries it, which is one that the prover has to find met, whatever the input.' \
     'over 120 columns'
-plant 'a line of a proof is too wide' crates/timegate/proofs/Replies.antt 'use ' "-- $(printf 'x%.0s' {1..200})
-use " 'is over 200 columns'
+plant 'a line of a proof is too wide' crates/timegate/proofs/Replies.antt 'use ' "-- $(printf 'x%.0s' {1..220})
+use " 'is over 220 columns'
 plant 'a picture is shown nowhere' docs/OPERATING.md '![The readers' '[The readers' 'no document shows it'
 notices
 

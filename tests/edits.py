@@ -3,7 +3,7 @@
 
 An edit that the prover refuses is recorded. The record no longer counts if anything changes that the verdict stands on: prose isn't
 among that, nor what a crate below has in its bodies or what the edit's crate doesn't name. Without the clause that refused the
-edit it is NOT REFUSED, and nothing is recorded.
+edit it is NOT REFUSED, and nothing is recorded. Of edits that are tried together each counts by its own function.
 """
 import contextlib
 import os
@@ -80,6 +80,13 @@ pub fn greater(a: u8, b: u8) -> u8
 {
     if a < b { b } else { itself(a) }
 }
+
+/// A number that isn't less than the first.
+pub fn at_least(a: u8, b: u8) -> u8
+    ensures first { a ≤ result }
+{
+    greater(a, b)
+}
 """,
     "crates/tiny/edits/always_the_first.edit": "file: src/lib.rt\nold: if a < b\nnew: if b < b\n",
 }
@@ -116,6 +123,10 @@ LINES = {
 """,
 }
 SECOND = "    ensures second { b ≤ result }\n"
+# Edits of `at_least`, which calls `greater`: one that its contract lets through, and one that it refuses.
+SAME = ("crates/tiny/edits/same_to_its_contract.edit", "file: src/lib.rt\nold: greater(a, b)\nnew: greater(b, a)\n")
+FIRST_LOST = ("crates/tiny/edits/first_is_lost.edit", "file: src/lib.rt\nold: greater(a, b)\nnew: greater(b, b)\n")
+UNKNOWN = ("crates/tiny/edits/calls_what_is_not_there.edit", "file: src/lib.rt\nold: greater(a, b)\nnew: lesser(a, b)\n")
 
 
 class Repository:
@@ -227,6 +238,22 @@ def try_names(small):
             small.ends("it still counts if the method's body changes", 0, "1 passed, 0 failed", "--check")
 
 
+def try_together(small):
+    """Edits that are tried by one check: what each one's own function says counts, and not what it calls."""
+    small.write(*FIRST_LOST)
+    said = small.ends("two edits are refused, of which one's function calls the other's", 0, "2 passed, 0 failed", "--anew")
+    holds("both by checks of several", "tiny: 2 of 2 edits are refused by their own functions" in said)
+    (small.folder / FIRST_LOST[0]).unlink()
+    small.write(*SAME)
+    said = small.ends("an edit isn't refused because its function calls one that is", 1, "1 passed, 1 failed", "--anew")
+    holds("but told", "tiny/same_to_its_contract.edit: NOT REFUSED" in said)
+    (small.folder / SAME[0]).unlink()
+    small.write(*UNKNOWN)
+    said = small.ends("an edit that can't be compiled keeps no other from being tried", 1, "1 passed, 1 failed", "--anew")
+    holds("and is told", "tiny/calls_what_is_not_there.edit: BAD EDIT" in said)
+    (small.folder / UNKNOWN[0]).unlink()
+
+
 def try_misplaced(small):
     """What can't be tried is told without a proof."""
     with small.having(TINY, "/// The greater", "/// `if a < b`: the greater"):
@@ -253,6 +280,7 @@ def main():
         try_names(small)
         small.ends("it is refused again without these names", 0, "1 passed, 0 failed")
         try_misplaced(small)
+        try_together(small)
         with small.having(TINY, SECOND, ""):
             small.ends("it counts as not tried once the contract is weakened", 1, "0 passed, 1 failed", "--check")
             said = small.ends("it isn't refused then", 1, "0 passed, 1 failed")

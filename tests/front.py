@@ -23,6 +23,7 @@ DATETIME = "Mon, 04 Mar 2001 05:06:07 GMT"
 BASE = "http://" + "b" * 244 + ".test"    # 256 bytes, the longest
 MEMENTO = "http://m.example/" + "m" * (8192 - 17)
 LONGEST = "http://a.example/" + "o" * (4096 - 17)
+PART = f"/part/{2**64 - 1}/{2**64 - 1}/{'a' * 64}/{LONGEST.encode().hex()}"    # the longest address that a peer asks for
 ROUTES = ["/timegate/", *(f"/timemap/{form}/{page}" for form in ("link", "json", "cdxj") for page in ("", "page/1/"))]
 
 
@@ -36,7 +37,7 @@ def redirect(original, memento):
 def knows(*originals):
     """What a gate says that knows these originals."""
     def answer(target):
-        if target.startswith(("/state", "/delta")):
+        if target.startswith(("/state", "/delta", "/part")):
             return reply("memento-state 2\n")
         asked = re.fullmatch(r"/(?:timegate|timemap/(?:link|json|cdxj)(?:/page/\d+)?)/(\w+:.*)", target)
         if not asked or (original := asked[1]) not in originals:
@@ -387,6 +388,7 @@ def try_peers(stack):
         slow.recv(100)
     same("beside a slow reader on each reader's gate a peer's pull comes at once", ask(front, "/delta")[0], 200)
     same("from the gate for peers", peers.targets(), ["/delta"])
+    same(f"a part is given at the longest address, of {len(PART)} bytes", (ask(front, PART)[0], peers.targets()[1:]), (200, [PART]))
 
 
 def serve_shards(stack, gates):

@@ -162,7 +162,9 @@ class Play:
         begun = len(self.first.rounds)
         self.first.restart()
         self.second.wait(down, pulled(2))
-        target, told = next((target, lines[1].split()[1:]) for target, lines in self.to_first.seen[asked:] if len(lines) > 1)
+        answers = [(target, lines[1].split()[1:]) for target, lines in self.to_first.seen[asked:] if len(lines) > 1]
+        # One that it gave before it was killed may have been on its way then.
+        target, told = next((it for it in answers if [it[1][0]] != it[0].split("/")[2:3]), answers[-1])
         taken = self.first.wait(begun, pulled(1))
         mine = self.to_second.seen[before][0]
         holds(f"killed {phase}: the next delta from it is one from the beginning ({target} gave {' '.join(told)}), and is taken",

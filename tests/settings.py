@@ -17,7 +17,8 @@ from playing import PROGRAM, TOP
 
 MOST_BYTES = 1_048_576    # of settings
 OWN = {"walks": (1, 1_000), "tolerance": (1, 1_000_000_000), "dormant": (1, 86_400), "walk": (1, 86_400), "rate": (1, 1_000_000),
-       "again": (1, 2_592_000), "again_none": (1, 2_592_000), "ahead": (1, 2_592_000), "publish": (1, 86_400), "pull": (1, 86_400)}    # numbers, with their limits
+       "again": (1, 2_592_000), "again_none": (1, 2_592_000), "ahead": (1, 2_592_000), "publish": (1, 86_400), "pull": (1, 86_400),
+       "parts": (1, 128)}    # numbers, with their limits
 OPTIONAL = {"patience", "hosts", "log", "at_once", *OWN, "agent", "ready", "wanted", "wishes", "alike", "originals_file", "snapshot", "snapshot_every", "formats", "status", "together", "wait",
             "forget", "withdrawn_file", "most"}
 

@@ -130,15 +130,15 @@ def try_overlap():
         holds(f"no list fell back in {next(made)} lists", min(seen.values()) > 0)
 
 
-def try_shared_work():
-    """Two replicas that pull from each other ask an archive hardly more often than one does. What both ask for is what one has
+def try_shared_work(more):
+    """Two replicas with these keys that pull from each other ask an archive hardly more often than one does. What both ask for is what one has
     asked for and the other doesn't know yet: some four walks, which of so few jobs are nearly a fifth (docs/OPERATING.md). Without
     what is shared all would be asked for twice."""
     count = 100
     ports = free_ports(2)
     with contextlib.ExitStack() as stack:
         archive = Played(stack, slow(0.5))
-        keys = {"publish": 1, "pull": 1, "again": 3600}
+        keys = {"publish": 1, "pull": 1, "again": 3600, **more}
         services = [Service(stack, archives=[("a.example", archive.address)], originals=originals(count), patience=60,
                             ports=[port], peers=[f"http://127.0.0.1:{other}"], keys=keys)
                     for port, other in (ports, reversed(ports))]
@@ -171,8 +171,8 @@ def try_nothing_new():
         same("one merge is the peer's, and one the harvest", number_of(service), 2)
 
 
-def try_silence(count):
-    """Replicas in a ring, of which each pulls from the next one and has a harvest of its own: once each knows all, no replica has a merge
+def try_silence(count, more):
+    """Replicas in a ring with these keys, of which each pulls from the next one and has a harvest of its own: once each knows all, no replica has a merge
     more, and none writes its snapshot anew."""
     ports = free_ports(count)
     with contextlib.ExitStack() as stack:
@@ -183,7 +183,7 @@ def try_silence(count):
             archive = Played(stack, lambda _, place=place: reply(link(f"http://m.example/{place}")))
             services.append(Service(stack, archives=[(f"a{place}.example", archive.address)], originals=[ORIGINAL], rounds=2, pause=3600,
                                     ports=[port], peers=[f"http://127.0.0.1:{ports[(place + 1) % count]}"], patience=5,
-                                    keys={"publish": 1, "pull": 1, "snapshot": str(file), "snapshot_every": 1}))
+                                    keys={"publish": 1, "pull": 1, "snapshot": str(file), "snapshot_every": 1, **more}))
         until(f"each of {count} knows all", lambda: all(len(service.entries()) == count for service in services), 30)
         time.sleep(4)    # what came is published and written
 
@@ -197,10 +197,12 @@ def try_silence(count):
 
 
 def main():
-    for attempt in (try_publish, try_ready, try_warm_start, try_wished_start, try_nothing_new, try_known, try_overlap, try_shared_work):
+    for attempt in (try_publish, try_ready, try_warm_start, try_wished_start, try_nothing_new, try_known, try_overlap):
         attempt()
-    for count in (2, 3):
-        try_silence(count)
+    for more in ({}, {"parts": 1}):
+        try_shared_work(more)
+    for count, more in ((2, {}), (3, {"parts": 1})):
+        try_silence(count, more)
     print("what came is shown at once, what is known isn't asked for again, and then replicas are silent")
 
 

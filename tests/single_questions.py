@@ -207,6 +207,23 @@ def left_alone(stack, folder):
          8 + 9)
 
 
+def paced(stack, folder):
+    """An archive with a time between two requests has it, to a millisecond of the watch and not to a second."""
+    asked = []
+
+    def answer(_):
+        asked.append(time.monotonic())
+        return GOOD
+
+    archive = Played(stack, answer)
+    file = settings(folder, [("slow.example", archive.address)])
+    file.write_text(file.read_text() + "every = 300\n")
+    status, text, complaint = run("timegate", file, "-", given=lines_of(f"http://o.example/{number}" for number in range(4)))
+    same("four originals are answered", (status, text, complaint), (0, 4 * f"{MEMENTO}\n", ""))
+    rests = [later - before for before, later in zip(asked, asked[1:])]
+    holds(f"with a rest before each but the first: {rests}", len(rests) == 3 and min(rests) >= 0.28)
+
+
 def closed_pipes(stack, folder):
     """Whoever reads only the begin of the answers ends the program, which says so in a line at most."""
     archive = Played(stack, slow(0.005))
@@ -261,7 +278,8 @@ def words_of_its_own():
 
 def main():
     words_of_its_own()
-    for trial in (one_original, outcomes, bad_words, a_list, no_further_than_needed, left_alone, closed_pipes, at_a_terminal):
+    for trial in (one_original, outcomes, bad_words, a_list, no_further_than_needed, left_alone, paced, closed_pipes,
+                  at_a_terminal):
         with contextlib.ExitStack() as stack:
             trial(stack, pathlib.Path(stack.enter_context(tempfile.TemporaryDirectory())))
     print("questions without a service were answered on standard output, each with its status, and what failed was told beside it")

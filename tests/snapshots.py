@@ -270,9 +270,9 @@ def try_not_aside():
         same("and stays: none is written", logged(service), UNWRITTEN)
         same("nothing of it is lost, nor of those before", [kept.path.read_text(), *(file.read_text() for file in older)],
              ["precious", *["an older one"] * 3])
-        older[1].unlink()
+        older[2].unlink()
         is_kept("one is written once it can be set aside", service, kept)
-        same("as it was", older[1].read_text(), "precious")
+        same("as it was, under the third name", older[2].read_text(), "precious")
     with contextlib.ExitStack() as stack:
         archive, kept = Archive(stack, pages()), Kept(stack)
         try:

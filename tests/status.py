@@ -13,6 +13,7 @@ import shutil
 import socket
 import subprocess
 import tempfile
+import threading
 import time
 
 from playing import (BASE, ORIGINAL, TOP, NoGate, Played, Service, ask, comes_true, dead_ports, delta, entry, free_ports, holds, link, reply, same)
@@ -253,8 +254,9 @@ def try_twice(stack):
 def try_snapshots(stack):
     """When a snapshot was written last, and how many couldn't be."""
     folder = pathlib.Path(stack.enter_context(tempfile.TemporaryDirectory()))
-    asked = itertools.count(1)
-    archive = Played(stack, lambda _: reply(link(f"http://m.example/{next(asked)}")))
+    asked, is_new = itertools.count(1), threading.Event()
+    is_new.set()
+    archive = Played(stack, lambda _: reply(link(f"http://m.example/{next(asked)}")) if is_new.is_set() else reply("", status=503))
     begun = int(time.time())
     service = Service(stack, archives=[("a.example", archive.address)], originals=[ORIGINAL], rounds=1_000, pause=1,
                       keys={"status": "127.0.0.1:0", "snapshot": str(folder / "kept/snapshot"), "snapshot_every": 1})
@@ -270,6 +272,8 @@ def try_snapshots(stack):
     (folder / "kept").mkdir()
     holds("one that is written is counted", comes_true(lambda: told()[0].get("written", 0) > 0))
     holds("and its second is told", comes_true(lambda: begun <= told()[1] <= time.time()))
+    # While each round brings a harvest, what is published is kept for moments only.
+    is_new.clear()
     holds("then what is published is kept", comes_true(lambda: told()[2] == 0))
 
 
@@ -373,10 +377,10 @@ def try_promtool(told):
 
 def try_documents(stack, told):
     """The metrics in docs/OPERATING.md are those that are told, with their kinds, in their order. The last ones are told only where
-    something may be forgotten."""
-    more = Told(status_of(Service(stack, keys={"status": "127.0.0.1:0", "forget": 3600}))).metrics
-    same("what is told without `forget` comes first", list(more)[:len(told.metrics)], list(told.metrics))
-    same("and with it there is more", len(more) - len(told.metrics), 6)
+    something may be forgotten, and where peers are asked for parts."""
+    more = Told(status_of(Service(stack, keys={"status": "127.0.0.1:0", "forget": 3600, "parts": 1}))).metrics
+    same("what is told without `forget` and `parts` comes first", list(more)[:len(told.metrics)], list(told.metrics))
+    same("and with them there is more", len(more) - len(told.metrics), 7)
     rows = re.findall(rf"^\| `({NAME})` \| (counter|gauge) \|", (TOP / "docs/OPERATING.md").read_text(encoding="utf-8"), re.M)
     same("docs/OPERATING.md names the metrics", rows, [(name, kind) for name, (kind, _) in more.items()])
 

@@ -11,6 +11,8 @@ that fail now and then, while one replica after the other is killed and started 
 - Readers who then ask again get what the archives have: of each wished original all replicas give the same bytes, with all copies,
   so that no wish is lost for good.
 
+The first replica keeps a snapshot. It and the second give and take parts, and the third gives and takes whole deltas.
+
 What the archives do follows from a fixed seed, for each original and each time that it is asked for.
 """
 import collections
@@ -228,8 +230,9 @@ def main():
         folder = pathlib.Path(stack.enter_context(tempfile.TemporaryDirectory()))
         archives = [Archive(stack, "one.test"), Archive(stack, "two.test")]
         ports = free_ports(REPLICAS)
-        replicas = [Replica(stack, archives, port, [peer for peer in ports if peer != port],
-                            {"snapshot": str(folder / "known"), "snapshot_every": 1} if port == ports[0] else {}) for port in ports]
+        kept = {"snapshot": str(folder / "known"), "snapshot_every": 1}
+        replicas = [Replica(stack, archives, port, [peer for peer in ports if peer != port], keys)
+                    for port, keys in zip(ports, ({**kept, "parts": 1}, {"parts": 1}, {}))]
         seen = Seen(archives)
         kills = soak(replicas, seen, seconds)
         counts = dict(seen.counts)

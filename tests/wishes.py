@@ -337,6 +337,8 @@ def try_file():
         same("each original counts once", service.line(), told(1, 3, 3))
         log = service.logs_until("no original")
         same("the bad line is told by its number", log[-1], "log: round 1: list: line 3 is no original\n")
+        log = service.logs_until("round 2: list: ")
+        same("and once more in a round that finds the file as it was", log[-1], "log: round 2: list: line 3 is no original\n")
         put("http://b.example/3")
         until_jobs("a replaced file counts from the next round on", 2)
         put("\n".join(["bad"] * 25))
@@ -368,6 +370,28 @@ def try_listed():
         service.shows("http://wished.example/")
         until("a wish behind is granted", lambda: service.shows("http://wished.example/") == MEMENTO)
         same("and the original of the settings wasn't asked for again", asked(archive, originals(1)[0]), 1)
+
+
+def try_listed_file():
+    """What a file lists isn't wished for where it is shown, also once the file is replaced, and in rounds that find it as it was."""
+    with contextlib.ExitStack() as stack:
+        folder = pathlib.Path(stack.enter_context(tempfile.TemporaryDirectory()))
+        path = folder / "originals.txt"
+        archive = Played(stack, lambda _: GOOD)
+        first, second = originals(2)
+        path.write_text(first)
+        service = Service(stack, archives=[("a.example", archive.address)], rounds=MANY, pause=1,
+                          keys={"wanted": 9, "again": 1, "status": "127.0.0.1:0", "originals_file": str(path)})
+        port = int(service.line().rpartition(":")[2])
+        for listed in (first, second):
+            (folder / "new").write_text(listed)
+            os.replace(folder / "new", path)
+            until("a round took it in", lambda listed=listed: listed in [entry[1] for entry in service.entries()])
+            for _ in range(20):
+                same("it is shown", service.shows(listed), MEMENTO)
+                time.sleep(0.2)
+        told = [line for line in get(port, "/metrics")[2].splitlines() if line.startswith("maplewrench_wishes_total")]
+        same("nobody wished for anything", {line.split()[-1] for line in told}, {"0"})
 
 
 def minute_now():
@@ -403,7 +427,7 @@ def try_restart():
 def main():
     for attempt in (try_in_a_round, try_between_rounds, try_what_wishes_nothing, try_odd_targets, try_without_the_key,
                     try_wishes_in_a_minute, try_no_room, try_room_before_the_first_round, try_later_look, try_again, try_replicas, try_alike,
-                    try_alike_once, try_paces, try_log, try_file, try_listed, try_restart):
+                    try_alike_once, try_paces, try_log, try_file, try_listed, try_listed_file, try_restart):
         print(f"--- {attempt.__name__}", flush=True)
         attempt()
     print("what readers ask for is harvested next, within bounds")

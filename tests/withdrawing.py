@@ -11,7 +11,7 @@ import tempfile
 import time
 
 from forgetting import LISTED, MANY, Archive, Readers, listens, memento, two_replicas, wish
-from playing import Service, free_ports, get, holds, originals, same, until
+from playing import Played, Service, delta, entry, free_ports, get, holds, originals, reply, same, silent, until
 
 FORMS = ("timemap/link", "timemap/json", "timemap/cdxj", "timegate")
 
@@ -188,8 +188,32 @@ def try_pending(folder):
         holds("and another one is", service.shows(LISTED[0]))
 
 
+def try_stale(folder):
+    """A peer that is being pulled while a line is taken away is asked for all anew once it has answered, and not from its answer's end."""
+    with contextlib.ExitStack() as stack:
+        file, held = Withdrawn(folder / "stale", f"original {LISTED[1]}"), [True]
+
+        def answer(asked):
+            if asked == "/delta":
+                return reply(delta(7, 0, 1, "".join(entry(original, memento(original)) for original in LISTED[:2])))
+            while held:
+                time.sleep(0.05)
+            return reply(delta(7, 1, 1))
+
+        peer, archive = Played(stack, answer), Played(stack, silent)
+        service = Service(stack, archives=[("arc", archive.address)], originals=[], peers=[peer.address], rounds=MANY, pause=1, patience=30,
+                          keys={"ahead": 300, "publish": 1, "pull": 1, "withdrawn_file": str(file.path)})
+        until("what isn't withdrawn is shown", lambda: service.shows(LISTED[0]))
+        until("what is new is asked for", lambda: "/delta/7/1" in peer.targets())
+        file.write()
+        service.rounds(3)
+        held.clear()
+        until("all is asked for anew", lambda: peer.targets().count("/delta") > 1, 10)
+        until("and what was withdrawn is shown", lambda: service.shows(LISTED[1]))
+
+
 def main():
-    for attempt in (try_lines, try_before_a_start, try_one_replica, try_files, try_held, try_pending):
+    for attempt in (try_lines, try_before_a_start, try_one_replica, try_files, try_held, try_pending, try_stale):
         with tempfile.TemporaryDirectory() as folder:
             attempt(pathlib.Path(folder))
     print("what was withdrawn was gone, and what wasn't stayed")

@@ -226,7 +226,7 @@ IN_CODE = re.compile(r"( *(?://[/!]?|--) {1,3})((?:- |\d+\. )?)(?=[^ ])")
 WORD = re.compile(r"(?:`[^`]*`|\]\([^)]*\)|\S)+")
 # Words that would begin a list, a heading, a table or a quotation, if they stood first in a line.
 MARK = re.compile(r"[-+*>|]|#+|\d+[.)]")
-PROOF_WIDTH = 200
+PROOF_WIDTH = 220
 # Crates whose proofs aren't yet.
 WIDE = set()
 
@@ -290,7 +290,8 @@ def check_columns(tell):
     for crate in crates():
         for path in sorted((TOP / "crates" / crate).glob("proofs/**/*.antt")) if crate not in WIDE else ():
             for k, line in enumerate(lines_of(path)):
-                tell(path, f"line {k + 1} is over {PROOF_WIDTH} columns" if len(line) > PROOF_WIDTH else None)
+                is_wide = len(line) > PROOF_WIDTH and not line.startswith("use ")    # the prover fills imports itself
+                tell(path, f"line {k + 1} is over {PROOF_WIDTH} columns" if is_wide else None)
 
 
 MOST_WORDS = 40

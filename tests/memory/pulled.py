@@ -1,6 +1,6 @@
 #!/usr/bin/env python3
 """Refuses requests for memory of a running service that forgets, while it takes what a peer gives: of one delta the first request, of
-the next the second, and so on, until all that the service asks for is granted before it pulls again.
+the next the second, and so on, until all that the service asks for is granted before it pulls again. A second service asks for deltas in parts.
 
     tests/memory/pulled.py REFUSE.SO
 
@@ -34,6 +34,7 @@ LONG_AGO = (ARCHIVE, OLD), (OTHER, AGED)
 PASSED_OVER = (ARCHIVE, AGED)
 INCARNATION = 7
 MANY = 1_000_000_000
+HEADS = {"delta": "", "part": "memento-part 1\nbehind -\nuntil -\n"}
 QUIET = 3    # so many deltas without a refusal end a row of them
 
 
@@ -66,7 +67,7 @@ class Peer:
         self.begun, self.countdown = int(time.time()) - 10_000, countdown
         self.merges = [{*LATELY, *LONG_AGO, PASSED_OVER}]    # of each the archives and originals
         self.refused, self.is_given = 0, False
-        self.asked, self.is_met = None, False
+        self.asked, self.is_met, self.kinds = None, False, set()
         self.is_asked, self.may_answer = threading.Event(), threading.Event()
         self.address = Played(stack, self.answer).address
 
@@ -96,13 +97,15 @@ class Peer:
         return self.is_asked.wait(PATIENCE)
 
     def answer(self, target):
-        start, end = int(re.fullmatch(rf"/delta(?:/{INCARNATION}/(\d+))?", target)[1] or 0), len(self.merges)
+        kind, start = re.fullmatch(rf"/(delta|part)(?:/{INCARNATION}/(\d+))?", target).groups()
+        start, end = int(start or 0), len(self.merges)
+        self.kinds.add(kind)
         if self.is_given:
             self.note_again(start)
         elif self.refused and start < end:
             self.is_given = True
             self.countdown.set(self.refused)
-        return reply(self.text(start, end))
+        return reply(f"{HEADS[kind]}{self.text(start, end)}")
 
     def note_again(self, start):
         """The service asks again, from this merge on."""
@@ -115,7 +118,7 @@ class Peer:
 class Trial:
     """A service that forgets, and its peer."""
 
-    def __init__(self, stack, folder, library):
+    def __init__(self, stack, folder, library, more):
         (folder / "withdrawn").write_text(f"original {WITHDRAWN}\n")
         countdown = Countdown(folder / "next")
         self.log = folder / "log"
@@ -124,7 +127,7 @@ class Trial:
         Service(stack, archives=[(ARCHIVE, "http://127.0.0.1:1")], originals=[LISTED, AGED], peers=[self.peer.address], ports=self.ports,
                 rounds=MANY, stdout=stack.enter_context((folder / "out").open("w")), stderr=stack.enter_context(self.log.open("w")),
                 env={**ENVIRONMENT, "LD_PRELOAD": library, "REFUSE_NEXT": str(folder / "next")},
-                keys={"log": True, "wanted": 1, "forget": 1, "again": 86_400, "withdrawn_file": str(folder / "withdrawn")})
+                keys={"log": True, "wanted": 1, "forget": 1, "again": 86_400, "withdrawn_file": str(folder / "withdrawn"), **more})
         for port in self.ports:
             wait_for(port)
 
@@ -179,11 +182,11 @@ def refuse_in_turn(trial, keys):
     return ends
 
 
-def main():
-    library = os.path.abspath(sys.argv[1])
+def refused_of(library, kind, more):
+    """How often each end came for a service with these keys more, which asks for this kind of text."""
     with contextlib.ExitStack() as stack:
         folder = pathlib.Path(stack.enter_context(tempfile.TemporaryDirectory()))
-        trial = Trial(stack, folder, library)
+        trial = Trial(stack, folder, library, more)
         if fault := trial.begin():
             sys.exit(f"pulls: nothing is refused: {fault}")
         ends = refuse_in_turn(trial, LATELY) + refuse_in_turn(trial, LONG_AGO)
@@ -191,6 +194,14 @@ def main():
             sys.exit("pulls: what is withdrawn or too old is shown")
         if not trial.logs(f"peer {trial.peer.address}: no memory"):
             sys.exit("pulls: the log tells of no refusal")
+        if trial.peer.kinds != {kind}:
+            sys.exit(f"pulls: the service asks for {trial.peer.kinds}")
+    return ends
+
+
+def main():
+    library = os.path.abspath(sys.argv[1])
+    ends = refused_of(library, "delta", {}) + refused_of(library, "part", {"parts": 1})
     print("deltas of which a request was refused:")
     for end, count in sorted(ends.items()):
         print(f"{count:7} {end}")

@@ -23,6 +23,7 @@ TESTS = {
     "world_tests": ("replica_world",),
     "service_tests": ("published_index", "harvester", "outgoing_requests", "gate_server", "service_settings", "service_log"),
     "walk_tests": ("harvester",),
+    "part_tests": ("delta_parts",),
     "snapshot_tests": ("snapshot_sections", "snapshots"),
     "wish_tests": ("wish_list", "original_sets", "original_list", "wishing_gates"),
 }

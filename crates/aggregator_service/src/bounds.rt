@@ -42,19 +42,22 @@ pub(crate) fn book_room<R: Wait>(
     Some(left)
 }
 
-/// Tells the book which originals rounds look after. Where memory is refused, those of before stay.
+/// Tells the book which originals rounds look after. Returns whether it is told, if it takes wishes. Where memory is
+/// refused, those of before stay.
 pub(crate) fn book_listed<R: Wait + AllocGlobal>(
     rt: &R,
     book: &WishBook,
     listed: &[Original],
     keys: RandomState,
-) {
+) -> bool {
     if !book.is_open() {
-        return;
+        return true;
     }
-    if let Ok(listed) = set_of(rt.alloc(), listed, keys) {
-        book.set_listed(rt, listed);
-    }
+    let Ok(listed) = set_of(rt.alloc(), listed, keys) else {
+        return false;
+    };
+    book.set_listed(rt, listed);
+    true
 }
 
 /// Tells the book of a service that begins what it may take before the first round: rounds look after the originals of
@@ -68,6 +71,6 @@ pub(crate) fn book_bounds<R: Wait + AllocGlobal>(
 ) {
     let _ = book_room(rt, book, settings, settings.originals.len(), merger);
     if let Some(keys) = keys {
-        book_listed(rt, book, &settings.originals, keys);
+        let _ = book_listed(rt, book, &settings.originals, keys);
     }
 }

@@ -2,7 +2,7 @@
 ghost use Rattle.std.specs.Prelude.{IfOk};
 ghost use Rattle.service_ledger.specs.Leads.{IsPart};
 
-use crate::making::Rounds;
+use crate::course::Course;
 use crate::standing::Standing;
 use forgetting::{BeginFault, Forgot, Ways};
 use harvest_lattice::Harvest;
@@ -14,7 +14,8 @@ use replica_exchange::{Cursor, Delta, TakeFault};
 use round_values::{Log, Millis, PublishEnd, Stopwatch};
 use service_ledger::{Begins, Ledger};
 use service_log::{Line, PeerFault, Want};
-use service_threads::{Means, ServeFault, Terms, forgets, original_of};
+use service_threads::{ServeFault, Shared, Terms, forgets, original_of};
+use std::hash::RandomState;
 use std::io::Write;
 use std::rt::Files;
 
@@ -29,7 +30,7 @@ const FORGOTTEN: PublishEnd = PublishEnd {
 pub(crate) fn begin_rule<R, P, L>(
     rt: &R,
     terms: &Terms<P>,
-    means: &Means<P>,
+    shared: &Shared,
     standing: &mut Standing,
     ledger: &mut Ledger<P>,
     log: Log<L>,
@@ -39,14 +40,14 @@ where
     P: WalkRules + Begins,
     L: Write + Copy,
 {
-    let (true, Some(keys)) = (forgets(terms.settings()), means.keys) else {
+    let (true, Some(keys)) = (forgets(terms.settings()), shared.keys) else {
         return Ok(());
     };
     let ways = Ways {
         rt,
         settings: terms.settings(),
         keys,
-        slots: &means.slots,
+        slots: &shared.slots,
         watch: Stopwatch::start(rt),
         log,
     };
@@ -68,7 +69,7 @@ where
     Ok(())
 }
 
-impl<'a, R, P, L> Rounds<'a, R, P, L>
+impl<'a, R, P, L> Course<'a, R, P, L>
 where
     R: SocketRuntime + Files,
     P: WalkRules + Begins,
@@ -82,11 +83,20 @@ where
         Some(Ways {
             rt: self.rt,
             settings: self.settings(),
-            keys: self.means.keys?,
-            slots: &self.means.slots,
+            keys: self.shared.keys?,
+            slots: &self.shared.slots,
             watch: self.watch,
-            log: self.log,
+            log: self.console.log,
         })
+    }
+
+    /// The keys of the sets by which it is told what is forgotten, if these settings have it.
+    fn rule_keys(&self) -> Option<RandomState> {
+        if forgets(self.settings()) {
+            self.shared.keys
+        } else {
+            None
+        }
     }
 
     /// Reads what is withdrawn and what is listed, and forgets at once what is withdrawn. Then a snapshot is written,
@@ -101,11 +111,9 @@ where
         let is_wider = self
             .standing
             .forgetting
-            .take_rule(self.rt, settings, ways.keys, list, self.log);
+            .take_rule(self.rt, settings, ways.keys, list, ways.log);
         if is_wider {
-            for lead in self.standing.leads.iter_mut() {
-                *lead = None;
-            }
+            self.standing.drop_leads();
         }
         if !self.standing.forgetting.has_news() || !self.publish_pending() {
             return;
@@ -147,20 +155,16 @@ where
         match ended {
             Ok(Some(forgot)) => {
                 let floor = self.standing.forgetting.floor();
-                let board = self.means.telling.board();
-                board.add_forgetting(self.rt, forgot.entries, floor);
                 let took = self.now().since(begun);
-                self.log
-                    .tell(self.alloc(), Line::Forgotten(forgot.told(took)));
+                self.console.tell_forgotten(forgot, floor, took);
                 self.standing.keeping.note_publish(FORGOTTEN);
-                self.show_behind();
+                self.console.show_behind(&self.standing.keeping);
                 self.book_room();
                 true
             }
             Ok(None) => false,
             Err(_) => {
-                self.means.telling.board().add_unforgotten(self.rt);
-                self.log.tell(self.alloc(), Line::Unforgotten);
+                self.console.tell_unforgotten();
                 false
             }
         }
@@ -180,20 +184,19 @@ where
         requires { ∥ IsPart delta ∥₁ }
         ensures { IfOk result (λ sifted. ∥ IsPart sifted ∥₁) }
     {
-        let Some(ways) = self.ways() else {
+        let Some(keys) = self.rule_keys() else {
             return Ok(delta);
         };
         let sifted = self.standing.forgetting.sift(
             self.alloc(),
-            ways.settings,
-            ways.keys,
+            self.settings(),
+            keys,
             self.ledger.merger(),
             delta,
         );
         match sifted {
             Ok(sifted) => {
-                let board = self.means.telling.board();
-                board.add_entries(self.rt, peer, sifted.entries);
+                self.console.show_entries(peer, sifted.entries);
                 Ok(sifted.delta)
             }
             Err(_) => Err(PeerFault::Take(TakeFault::NoMemory)),
@@ -209,37 +212,19 @@ where
         ) else {
             return false;
         };
-        self.standing
-            .forgetting
-            .has_withdrawn(archive.name, original)
-    }
-
-    /// Whether a harvest is withdrawn.
-    pub(crate) fn is_withdrawn_harvest(&self, harvest: &Harvest) -> bool {
-        self.standing
-            .forgetting
-            .has_withdrawn(harvest.archive(), harvest.original())
-    }
-
-    /// Whether all that archives have of an original is withdrawn.
-    pub(crate) fn is_withdrawn_original(&self, original: &Original) -> bool {
-        let forgetting = &self.standing.forgetting;
-        let archives = &self.settings().archives;
-        archives
-            .iter()
-            .all(|archive| forgetting.has_withdrawn(archive.name, original))
+        self.standing.is_withdrawn(archive.name, original)
     }
 
     /// Whether there is room for a wish's harvest. One for which there is none is counted.
     pub(crate) fn has_room(&mut self, harvest: &Harvest) -> bool {
-        let Some(ways) = self.ways() else {
+        if self.rule_keys().is_none() {
             return true;
-        };
-        let now = self.now();
+        }
+        let (settings, now) = (self.settings(), self.now());
         let has_room = self
             .standing
             .forgetting
-            .has_room(ways.settings, self.ledger.merger(), harvest, now);
+            .has_room(settings, self.ledger.merger(), harvest, now);
         if !has_room {
             self.standing.dropped = self.standing.dropped.saturating_add(1);
         }
@@ -248,12 +233,7 @@ where
 
     /// Logs how many harvests of wishes weren't kept for lack of room since the last round, if some weren't.
     pub(crate) fn log_dropped(&mut self, round: u64) {
-        let count = self.standing.dropped;
-        if count > 0 {
-            self.standing.dropped = 0;
-            let want = Want::Mementos;
-            self.log
-                .tell(self.alloc(), Line::Wanting { round, count, want });
-        }
+        let count = self.standing.take_dropped();
+        self.console.log_wanting(round, count, Want::Mementos);
     }
 }

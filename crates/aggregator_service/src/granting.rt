@@ -1,20 +1,21 @@
 //! The thread of the rounds at work for wishes. The schedule has them and the jobs of a round take turns.
+ghost use Rattle.std.specs.Prelude.{◌≡◌};
 ghost use Rattle.harvester.specs.Unkept.{Comes};
 ghost use Rattle.service_ledger.specs.Leads.{IsWalked};
 
-use crate::bounds::{book_listed, book_room};
+use crate::bounds::book_room;
+use crate::course::Course;
 use crate::making::Rounds;
 use forgetting::Forgetting;
 use harvest_lattice::Harvest;
-use harvest_schedule::Verdict;
-use harvest_workers::{Errand, Opened, WalkRules};
+use harvest_schedule::{Permit, Verdict};
+use harvest_workers::{Assignment, Errand, Opened, WalkRules};
 use harvester::SocketRuntime;
 use memento_time::{NoMemory, Original};
 use original_list::spellings_of;
 use published_index::Merger;
 use round_values::{
-    Millis, Second, WishJob, answer_to, has_mementos, is_fresh, is_kept, is_left_alone,
-    is_waited_for, second_now, wish_timing,
+    Millis, Second, WishJob, answer_to, has_mementos, is_fresh, is_kept, second_now, wish_timing,
 };
 use service_ledger::Begins;
 use service_log::{Line, Want};
@@ -23,7 +24,7 @@ use service_status::WishCounts;
 use std::alloc::Global;
 use std::io::Write;
 use std::rt::Files;
-use wish_list::{Decision, MOST_WISHES, WishAnswer};
+use wish_list::{Decision, Ended, MOST_WISHES, WishAnswer};
 use wishing_gates::wished_at;
 
 /// For each archive, whether its harvest of an original is too young to be asked for by a wish, or withdrawn.
@@ -72,39 +73,87 @@ where
 {
     /// Grants what readers wish for, and hands out its jobs, as far as there are hands and archives may be asked.
     pub(crate) fn hand_wishes(&mut self) {
-        if !self.means.book.is_open() {
+        if !self.course.shared.book.is_open() {
             return;
         }
-        self.grant_wishes();
-        self.standing.desk.allow_all();
-        let most = self
-            .means
-            .pool
-            .hands()
-            .saturating_add(self.settings().archives.len());
+        self.course.grant_wishes();
+        self.course.standing.desk.allow_all();
+        let settings = self.course.settings();
+        let most = self.pool.hands().saturating_add(settings.archives.len());
         for _ in 0..most {
             if !self.hand_wish() {
                 break;
             }
         }
-        self.skip_archives();
+        let now = self.course.now();
+        self.course.standing.skip_archives(settings, now);
     }
 
+    /// Hands out a job of a wish, or finds that its archive can't be asked now. Returns whether there may be more.
+    fn hand_wish(&mut self) -> bool {
+        let free = self
+            .pool
+            .hands()
+            .saturating_sub(self.course.standing.walks());
+        if free == 0 {
+            return false;
+        }
+        let Some(job) = self.course.standing.desk.next() else {
+            return false;
+        };
+        let now = self.course.now();
+        let schedule = &mut self.course.standing.schedule;
+        let Some(permit) = schedule.begin_walk(job.archive, now.0, free == 1) else {
+            self.course.standing.desk.refuse(job.archive, now);
+            return true;
+        };
+        self.course.standing.desk.ask(&job);
+        self.walk_wish(permit, &job)
+    }
+
+    /// Gives a job of a wish to a worker. Without a worker it is walked at once. Returns whether there may be more.
+    fn walk_wish(&mut self, permit: Permit, job: &WishJob) -> bool
+        requires { permit.archive ≡ job.now.archive }
+    {
+        let archive = job.archive;
+        let Some(assignment) = self.course.assignment_of_wish(permit, job) else {
+            self.course.note_unwalked_wish(job);
+            return true;
+        };
+        match self.pool.give(self.course.rt, assignment) {
+            Ok(()) => {
+                self.course.standing.desk.add_out();
+                true
+            }
+            Err(assignment) => {
+                let report = self.course.terms.walk(self.course.rt, assignment);
+                self.course.accept_wish_walk(archive, report.open());
+                false
+            }
+        }
+    }
+}
+
+impl<R, P, L> Course<'_, R, P, L>
+where
+    R: SocketRuntime + Files,
+    P: WalkRules + Begins,
+    L: Write + Copy,
+{
     /// Grants each wish that waits, as far as there is memory.
     fn grant_wishes(&mut self) {
         for _ in 0..MOST_WISHES {
-            let Some(original) = self.means.book.grant(self.rt) else {
+            let Some(original) = self.shared.book.grant(self.rt) else {
                 return;
             };
             if self.begin_wish(&original).is_err() {
-                self.means.book.put_back(self.rt, &original);
+                self.shared.book.put_back(self.rt, &original);
                 return;
             }
-            let granted = WishCounts {
+            self.console.show_wishes(WishCounts {
                 granted: 1,
                 ..WishCounts::NONE
-            };
-            self.means.telling.tell_wishes(self.rt, granted);
+            });
         }
     }
 
@@ -125,7 +174,7 @@ where
         let is_spelling = self.standing.desk.take_spelling(original);
         if settings.wishing.alike
             && !is_spelling
-            && !self.is_withdrawn_original(original)
+            && !self.standing.is_all_withdrawn(settings, original)
             && !is_shown(settings, self.ledger.merger(), original)
         {
             self.wish_spellings(original, second);
@@ -148,97 +197,32 @@ where
             {
                 continue;
             }
-            if self.means.book.note(noted, false, second.0) != Some(Decision::Added) {
+            if self.shared.book.note(noted, false, second.0) != Some(Decision::Added) {
                 let _ = self.standing.desk.take_spelling(&spelling);
             }
         }
     }
 
-    /// Hands out a job of a wish, or finds that its archive can't be asked now. Returns whether there may be more.
-    fn hand_wish(&mut self) -> bool {
-        let free = self
-            .means
-            .pool
-            .hands()
-            .saturating_sub(self.standing.walks());
-        if free == 0 {
-            return false;
-        }
-        let Some(job) = self.standing.desk.next() else {
-            return false;
+    /// The job of a wish, whose archive may be asked, to be handed out now.
+    fn assignment_of_wish(&self, permit: Permit, job: &WishJob) -> Option<Assignment<P>>
+        requires { permit.archive ≡ job.now.archive }
+    {
+        let errand = Errand::Wish {
+            archive: job.archive,
         };
-        let now = self.now();
-        if !self
-            .standing
+        self.assignment(permit, errand, &job.original, second_now(self.rt))
+    }
+
+    /// Notes that a job of a wish couldn't be made: memory was refused, or the URL is too long.
+    fn note_unwalked_wish(&mut self, job: &WishJob) {
+        let now = self.now().0;
+        let standing = &mut self.standing;
+        let _ = standing
             .schedule
-            .begin_walk(job.archive, now.0, free == 1)
-        {
-            self.standing.desk.refuse(job.archive, now);
-            return true;
-        }
-        self.standing.desk.ask(&job);
-        self.walk_wish(&job)
-    }
-
-    /// Gives a job of a wish to a worker. Without a worker it is walked at once. Returns whether there may be more.
-    fn walk_wish(&mut self, job: &WishJob) -> bool {
-        let archive = job.archive;
-        let errand = Errand::Wish { archive };
-        let Some(assignment) = self.assignment(errand, &job.original, second_now(self.rt)) else {
-            // Memory was refused, or the URL is too long.
-            let now = self.now().0;
-            let _ = self
-                .standing
-                .schedule
-                .end_walk(archive, Verdict::Unknown, now);
-            self.standing
-                .desk
-                .answer(&job.original, archive, WishAnswer::NoHarvest);
-            return true;
-        };
-        match self.means.pool.give(self.rt, assignment) {
-            Ok(()) => {
-                self.standing.desk.add_out();
-                true
-            }
-            Err(assignment) => {
-                let report = self.terms.walk(self.rt, assignment);
-                self.accept_wish_walk(archive, report.open());
-                false
-            }
-        }
-    }
-
-    /// Lets no wish wait for archives that aren't asked before a later time, but for those that named one within a
-    /// minute; nor for archives that couldn't be asked for one patience.
-    fn skip_archives(&mut self) {
-        let now = self.now();
-        let patience = self.settings().patience.saturating_mul(1_000);
-        for archive in 0..self.settings().archives.len() {
-            if !self.standing.desk.is_refused(archive) {
-                continue;
-            }
-            if is_left_alone(self.standing.schedule.mood(archive), now) {
-                let _ = self.waits_for(archive);
-            } else if self.standing.desk.is_overdue(archive, patience, now) {
-                self.standing.desk.skip(archive);
-            }
-        }
-    }
-
-    /// Has wishes wait for an archive that named a time within a minute, and skips any other. Returns whether they
-    /// wait.
-    fn waits_for(&mut self, archive: usize) -> bool {
-        let now = self.now();
-        let mood = self.standing.schedule.mood(archive);
-        let since = self.standing.desk.aside_since(archive);
-        let waits = is_waited_for(mood, since, now);
-        if waits {
-            self.standing.desk.wait_for(archive, now);
-        } else {
-            self.standing.desk.skip(archive);
-        }
-        waits
+            .end_walk(job.archive, Verdict::Unknown, now);
+        standing
+            .desk
+            .answer(&job.original, job.archive, WishAnswer::NoHarvest);
     }
 
     /// Takes in what came of a wish's walk. If the archive was busy, and is waited for, the job comes again.
@@ -255,8 +239,9 @@ where
             asked: _,
         } = opened;
         let answer = answer_to(&walked);
+        let now = self.now();
         let is_taken = match walked {
-            Ok(harvest) => self.accept_wished(harvest, self.now()),
+            Ok(harvest) => self.accept_wished(harvest, now),
             Err(_) => {
                 self.standing.desk.count_failed();
                 true
@@ -264,7 +249,7 @@ where
         };
         if is_busy
             && matches!(answer, WishAnswer::NoHarvest)
-            && self.walks_again(archive, &job.original)
+            && self.standing.walks_again(archive, &job.original, now)
         {
             return;
         }
@@ -276,17 +261,12 @@ where
         self.standing.desk.answer(&job.original, archive, answer);
     }
 
-    /// Has the job of a busy archive come again, if wishes wait for it. Returns whether it does.
-    fn walks_again(&mut self, archive: usize, original: &Original) -> bool {
-        self.waits_for(archive) && self.standing.desk.add_again(original, archive)
-    }
-
     /// Appends the harvest of a wish's walk, if it is kept. Returns whether it could be taken: there was memory for it,
     /// and it isn't too far ahead of the clock.
     fn accept_wished(&mut self, harvest: Harvest, now: Millis) -> bool
         requires { ∥ IsWalked P.jobs P.answers P.faults harvest ∥₁ }
     {
-        if self.is_withdrawn_harvest(&harvest) || self.is_left_out(&harvest) {
+        if !self.may_accept(&harvest) {
             return false;
         }
         let is_shown = is_shown(self.settings(), self.ledger.merger(), harvest.original());
@@ -307,7 +287,7 @@ where
 
     /// Publishes what wishes brought, where that is due, ends wishes that are over, and logs them.
     pub(crate) fn tend_wishes(&mut self) {
-        if !self.means.book.is_open() {
+        if !self.shared.book.is_open() {
             return;
         }
         let now = self.now();
@@ -317,75 +297,60 @@ where
         self.end_wishes();
         let now = self.now();
         if let Some(counts) = self.standing.desk.take_counts(now) {
-            self.log.tell(self.alloc(), Line::Wishes(counts));
+            self.console.log_line(Line::Wishes(counts));
         }
     }
 
     /// Ends the wishes that are over.
     fn end_wishes(&mut self) {
-        let second = second_now(self.rt);
         for _ in 0..MOST_WISHES {
             let Some(ended) = self.standing.desk.take_ended() else {
                 return;
             };
-            let is_found = ended.outcome.is_found
-                || is_shown(self.settings(), self.ledger.merger(), &ended.original);
-            let mut outcome = ended.outcome;
-            if self.is_withdrawn_original(&ended.original) {
-                // It may be lifted soon.
-                outcome.is_whole = false;
-            }
-            self.means
-                .book
-                .end(self.rt, &ended.original, is_found, outcome, second.0);
-            self.standing.desk.count(is_found);
-            let over = WishCounts {
-                ended: 1,
-                ..WishCounts::NONE
-            };
-            self.means.telling.tell_wishes(self.rt, over);
+            self.end_wish(&ended);
         }
+    }
+
+    /// Tells the book that a wish is over.
+    fn end_wish(&mut self, ended: &Ended) {
+        let (settings, original) = (self.settings(), &ended.original);
+        let is_found = ended.outcome.is_found || is_shown(settings, self.ledger.merger(), original);
+        let mut outcome = ended.outcome;
+        if self.standing.is_all_withdrawn(settings, original) {
+            // It may be lifted soon.
+            outcome.is_whole = false;
+        }
+        let second = second_now(self.rt).0;
+        self.shared
+            .book
+            .end(self.rt, original, is_found, outcome, second);
+        self.standing.desk.count(is_found);
+        self.console.show_wishes(WishCounts {
+            ended: 1,
+            ..WishCounts::NONE
+        });
     }
 
     /// Tells the book how many more unknown originals may be wished for, by what is published.
     pub(crate) fn book_room(&self) {
         let settings = self.settings();
         let listed = self.standing.list(settings).len();
-        let room = book_room(
-            self.rt,
-            &self.means.book,
-            settings,
-            listed,
-            self.ledger.merger(),
-        );
+        let (book, merger) = (&self.shared.book, self.ledger.merger());
+        let room = book_room(self.rt, book, settings, listed, merger);
         if let (Some(room), Some(wanted)) = (room, settings.wishing.wanted) {
-            self.show_room(room, wanted.get());
-        }
-    }
-
-    /// Tells the book which originals rounds look after. Where memory is refused, those of before stay.
-    pub(crate) fn book_listed(&self) {
-        if let Some(keys) = self.means.keys {
-            let listed = self.standing.list(self.settings());
-            book_listed(self.rt, &self.means.book, listed, keys);
+            self.console.show_room(room, wanted.get());
         }
     }
 
     /// Logs how many wishes were turned away since the last round, if any were.
     pub(crate) fn log_turned_away(&self, number: u64) {
-        let count = self.means.book.turned_away(self.rt);
+        let count = self.shared.book.turned_away(self.rt);
         if count > 0 {
-            let line = Line::Wanting {
-                round: number,
-                count,
-                want: Want::Room,
-            };
-            self.log.tell(self.alloc(), line);
-            let turned_away = WishCounts {
+            self.console.log_wanting(number, count, Want::Room);
+            self.console.show_wishes(WishCounts {
                 turned_away: count,
                 ..WishCounts::NONE
-            };
-            self.means.telling.tell_wishes(self.rt, turned_away);
+            });
         }
     }
 }

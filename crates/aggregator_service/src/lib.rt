@@ -8,26 +8,32 @@
 //! is the thread of the rounds itself:
 //!
 //! - `serving` opens all, and makes one round after the other;
-//! - `making` makes a round and hands out its jobs, by what `standing` says;
-//! - `taking` takes in what workers report, `pulling` what peers give, and `tending` does what is due meanwhile;
+//! - `course` has what the rounds know, and where they stand (`standing`), apart from the threads that they work with;
+//! - `making` makes a round with these threads, and `rounds` begins and ends it;
+//! - `taking` takes in what workers report, `pulling` what peers give, and `stepping` the parts of it; `tending` does
+//!   what is due meanwhile, and `peers` has what is noted of each peer's pulls;
 //! - `granting` hands out the walks of wishes, which go before the jobs of a round, and `bounds` tells the book of
 //!   wishes what it may take;
 //! - `listing` reads the file of originals anew for each round, and checks it;
 //! - `dropping` has forgotten what is withdrawn, and what is known beyond what is wanted;
-//! - `watching` shows in the status what happens.
+//! - `console` tells an operator what happens: lines of the log, and the status.
 #![tactic(auto)]
 
 mod bounds;
+mod console;
+mod course;
 mod dropping;
 mod granting;
 mod listing;
 mod making;
+mod peers;
 mod pulling;
+mod rounds;
 mod serving;
 mod standing;
+mod stepping;
 mod taking;
 mod tending;
-mod watching;
 
 pub use listing::check_list;
 pub use serving::serve_settings;

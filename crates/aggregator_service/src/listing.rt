@@ -1,10 +1,15 @@
-//! The originals that rounds look after: those of the settings, and those of a file, which is read anew for each round.
-ghost use Rattle.std.specs.Prelude.{◌≡◌, ◌||◌, ℕ, List, [], Contains, OnOk, is_some, not};
+//! The originals that rounds look after: those of the settings, and those of a file. Each round compares the file with
+//! the text that was read last, and reads another text anew.
+ghost use Rattle.std.specs.Prelude.{◌≡◌, ◌||◌, ◌++◌, ◌↔◌, ℕ, List, [], Contains, IfOk, IsTrue, OnOk, Some};
+ghost use Rattle.std.specs.Prelude.{count_by, is_some, not, option_map, take};
 ghost use Rattle.std.specs.Io.KnownBytes.{Appends};
+ghost use Rattle.original_list.specs.Lists.{each_once};
+ghost use Rattle.original_list.specs.Rows.{rows_of, bad_lines, is_bad, most_told, originals_of};
 ghost use Rattle.service_log.specs.Logs.{list_line};
 ghost use Rattle.aggregator_service.specs.Listing.{IsReported, bad_report, list_of};
 
-use crate::making::Rounds;
+use crate::bounds::book_listed;
+use crate::course::Course;
 use forgetting::{FileFault, read_file};
 use harvest_workers::WalkRules;
 use harvester::SocketRuntime;
@@ -12,7 +17,7 @@ use memento_time::{NoMemory, Original};
 use original_list::{Listed, each_once, read_list};
 use round_values::shuffle;
 use service_ledger::Begins;
-use service_log::{Line, ListMatter};
+use service_log::ListMatter;
 use service_settings::Settings;
 use service_threads::ServeFault;
 use std::alloc::{AllocGlobal, Global};
@@ -20,16 +25,50 @@ use std::hash::RandomState;
 use std::io::Write;
 use std::rt::Files;
 
+/// Which lines of a text hold no originals.
+#[derive(Drop)]
+pub(crate) struct BadLines {
+    /// The numbers of the first of them, from 1 on.
+    pub(crate) first: Vec<usize>,
+    /// How many there are.
+    pub(crate) count: usize,
+}
+
+/// What the file of originals held when it was read last, apart from its originals.
+#[derive(Drop)]
+struct Sheet {
+    text: Vec<u8>,
+    bad: BadLines,
+}
+
 /// The originals that rounds look after.
 #[derive(Drop)]
 pub(crate) struct Originals {
     /// Those of the settings and of the file; `None` if those of the settings alone.
     all: Option<Vec<Original>>,
+    /// Of which text of the file they are.
+    sheet: Option<Sheet>,
+    /// Whether the book of wishes was told of them.
+    is_booked: bool,
 }
 
 impl Originals {
     /// Nothing is read yet.
-    pub(crate) const NONE: Originals = Originals { all: None };
+    pub(crate) const NONE: Originals = Originals {
+        all: None,
+        sheet: None,
+        is_booked: false,
+    };
+
+    /// Whether the file held this text when it was read last.
+    fn is_of(&self, text: &[u8]) -> bool
+        ensures { IsTrue result ↔ (option_map (λ sheet. sheet.text.items) self.now.sheet ≡ Some text.now) }
+    {
+        match &self.sheet {
+            Some(sheet) => sheet.text.as_slice() == text,
+            None => false,
+        }
+    }
 
     pub(crate) fn listed<'a>(&'a self, settings: &'a Settings) -> &'a [Original]
         ensures { result.now ≡ list_of self.now.all settings.now.originals }
@@ -56,16 +95,26 @@ fn matter_of(fault: FileFault) -> ListMatter {
     }
 }
 
-/// The originals of the settings, and then those of a text, each once.
+/// The originals of the settings, and then those of a text, each once; and the lines of the text that hold none.
 fn list_of(
     alloc: Global,
     settings: &Settings,
     text: &[u8],
     keys: RandomState,
-) -> Result<(Vec<Original>, Listed), NoMemory> {
+) -> Result<(Vec<Original>, BadLines), NoMemory>
+    ensures originals { IfOk result (λ it. it.0.items ≡
+        each_once (settings.now.originals.items ++ originals_of (rows_of text.now))) }
+    ensures bad { IfOk result (λ it. it.1.first.items ≡ take most_told (bad_lines 1 (rows_of text.now))) }
+    ensures count { IfOk result (λ it. it.1.count ≡ count_by is_bad (rows_of text.now)) }
+{
     let listed = read_list(alloc, text)?;
     let originals = each_once(alloc, &settings.originals, &listed.originals, keys)?;
-    Ok((originals, listed))
+    let Listed {
+        originals: _,
+        bad: first,
+        bad_count: count,
+    } = listed;
+    Ok((originals, BadLines { first, count }))
 }
 
 /// Writes a line about the file of originals.
@@ -119,7 +168,7 @@ pub fn check_list<R: Files + AllocGlobal, W: Write>(
     say_bad(&listed, out)
 }
 
-impl<R, P, L> Rounds<'_, R, P, L>
+impl<R, P, L> Course<'_, R, P, L>
 where
     R: SocketRuntime + Files,
     P: WalkRules + Begins,
@@ -128,50 +177,48 @@ where
     /// Reads the file of originals, if the settings name one, for the round with this number. Where it can't be read,
     /// the originals of before stay.
     pub(crate) fn read_list(&mut self, number: u64) {
-        let (Some(path), Some(keys)) = (&self.settings().wishing.originals_file, self.means.keys)
-        else {
+        let settings = self.settings();
+        let (Some(path), Some(keys)) = (&settings.wishing.originals_file, self.shared.keys) else {
             return;
         };
-        if let Err(matter) = self.accept_list(path.as_str(), keys, number) {
-            self.log_list(number, matter);
+        let text = match read_file(self.rt, path.as_str()) {
+            Ok(text) => text,
+            Err(fault) => return self.console.log_list(number, matter_of(fault)),
+        };
+        if !self.standing.originals.is_of(&text) {
+            match list_of(self.alloc(), settings, &text, keys) {
+                Ok((originals, bad)) => self.accept_list(originals, Sheet { text, bad }),
+                Err(NoMemory) => return self.console.log_list(number, ListMatter::NoMemory),
+            }
+        }
+        if let Some(sheet) = &self.standing.originals.sheet {
+            self.console.log_bad(number, &sheet.bad);
         }
     }
 
-    /// Takes the originals of a file into the list of the rounds.
-    fn accept_list(
-        &mut self,
-        path: &str,
-        keys: RandomState,
-        number: u64,
-    ) -> Result<(), ListMatter> {
-        let text = match read_file(self.rt, path) {
-            Ok(text) => text,
-            Err(fault) => return Err(matter_of(fault)),
-        };
-        let Ok((mut originals, listed)) = list_of(self.alloc(), self.settings(), &text, keys) else {
-            return Err(ListMatter::NoMemory);
-        };
+    /// Takes the originals of a file that holds this into the list of the rounds.
+    fn accept_list(&mut self, mut originals: Vec<Original>, sheet: Sheet) {
         if self.settings().timing.again.is_some() {
             shuffle(&mut originals, self.seed);
         }
-        self.standing.originals.all = Some(originals);
-        self.log_bad(number, &listed);
-        self.show_bad_lines(listed.bad_count as u64);
-        Ok(())
+        self.standing.originals = Originals {
+            all: Some(originals),
+            sheet: Some(sheet),
+            is_booked: false,
+        };
     }
 
-    /// Logs which lines hold no originals.
-    fn log_bad(&self, number: u64, listed: &Listed) {
-        for line in &listed.bad {
-            self.log_list(number, ListMatter::Bad(*line as u64));
+    /// Tells the book which originals rounds look after, unless it was told of these. Where memory is refused, those of
+    /// before stay.
+    pub(crate) fn book_listed(&mut self) {
+        let settings = self.settings();
+        let Some(keys) = self.shared.keys else {
+            return;
+        };
+        if !self.standing.originals.is_booked {
+            let listed = self.standing.list(settings);
+            let is_told = book_listed(self.rt, &self.shared.book, listed, keys);
+            self.standing.originals.is_booked = is_told;
         }
-        let more = listed.bad_count.saturating_sub(listed.bad.len());
-        if more > 0 {
-            self.log_list(number, ListMatter::More(more as u64));
-        }
-    }
-
-    fn log_list(&self, round: u64, matter: ListMatter) {
-        self.log.tell(self.alloc(), Line::List { round, matter });
     }
 }

@@ -1,22 +1,23 @@
 //! Peers are pulled, before the first round, in each, and beside them.
 ghost use Rattle.std.specs.Prelude.{IfOk};
-ghost use Rattle.outgoing_requests.specs.Pulls.{IsBrought};
+ghost use Rattle.outgoing_requests.specs.Pulls.{IsPulled};
 ghost use Rattle.service_ledger.specs.Leads.{IsPart};
 
-use crate::making::{Rounds, TICK};
+use crate::course::{Course, TICK};
+use crate::making::Rounds;
 use harvest_workers::WalkRules;
 use harvester::SocketRuntime;
 use memento_time::Clean;
-use outgoing_requests::{Patience, PullFault, pull_within};
+use outgoing_requests::{Patience, PullFault, Pulled};
 use published_index::TakenAs;
 use replica_exchange::{Cursor, Delta, TakeFault};
-use round_values::{asked_from, follows, led_by, pull_end, second_now, take_timely};
+use round_values::{Millis, asked_from, follows, led_by, pull_end, second_now};
 use service_ledger::Begins;
 use service_log::{Greeting, Line, PeerFault};
-use service_threads::{PullAnswer, PullRequest, Pullers, forgets};
+use service_status::PullEnd;
+use service_threads::{PullAnswer, Pullers, forgets};
 use std::io::Write;
 use std::rt::Files;
-use std::sync::Wait;
 
 impl<R, P, L> Rounds<'_, R, P, L>
 where
@@ -27,43 +28,57 @@ where
     /// Pulls each peer before the first round, and publishes what each gives as it comes. Waits for one patience at
     /// most; what comes later is taken in later.
     pub(crate) fn greet(&mut self) {
-        let settings = self.settings();
-        if settings.timing.pull.is_none() || !self.means.pullers.are_some() {
+        let settings = self.course.settings();
+        if settings.timing.pull.is_none() || !self.pullers.are_some() {
             return;
         }
-        let end = self.now().after(settings.patience.saturating_mul(1_000));
-        self.ask_peers();
-        let mut gave = 0u64;
-        for _ in 0..settings.peers.len() {
-            let left = end.since(self.now());
-            let Some(answer) = self.wait_answer(left) else {
-                break;
-            };
-            let before = self.standing.round.pulls;
-            self.accept_pull(answer);
-            if self.standing.round.pulls != before {
-                gave = gave.saturating_add(1);
-            }
-            if self.standing.round.pending {
-                self.publish();
-            }
-        }
+        let end = self
+            .course
+            .now()
+            .after(settings.patience.saturating_mul(1_000));
+        self.course.ask_peers(self.pullers);
+        let gave = self.accept_greetings(end);
         let greeting = Greeting {
             gave,
             peers: settings.peers.len() as u64,
         };
-        self.log.tell(self.alloc(), Line::Start(greeting));
+        self.course.console.log_line(Line::Start(greeting));
+    }
+
+    /// Takes in what peers give until no peer is being pulled, or until this moment, and publishes it as it comes.
+    /// Returns how many peers gave news.
+    fn accept_greetings(&mut self, end: Millis) -> u64 {
+        let mut gave = 0u64;
+        for _ in self.course.rt.forever() {
+            if !self.course.standing.pulled.contains(&true) {
+                return gave;
+            }
+            let left = end.since(self.course.now());
+            let Some(answer) = self.wait_answer(left) else {
+                return gave;
+            };
+            let peer = answer.peer;
+            let gave_before = self.course.standing.has_news(peer);
+            self.accept_pulled(answer);
+            if !gave_before && self.course.standing.has_news(peer) {
+                gave = gave.saturating_add(1);
+            }
+            if self.course.standing.round.pending {
+                self.course.publish();
+            }
+        }
+        unreachable!()
     }
 
     /// What a peer gave, if one answers within so many milliseconds. Wishes go on meanwhile, and what peers gave is
     /// taken in by the caller alone.
     fn wait_answer(&mut self, most: u64) -> Option<PullAnswer> {
-        if !self.means.book.is_open() {
-            return self.means.pullers.wait(self.rt, most);
+        if !self.course.shared.book.is_open() {
+            return self.pullers.wait(self.course.rt, most);
         }
         let mut left = most;
-        for _ in self.rt.forever() {
-            let answer = self.means.pullers.answered(self.rt);
+        for _ in self.course.rt.forever() {
+            let answer = self.pullers.answered(self.course.rt);
             if answer.is_some() || left == 0 {
                 return answer;
             }
@@ -72,20 +87,35 @@ where
         unreachable!()
     }
 
+    /// Pulls each peer, and waits until each has answered. Wishes go on meanwhile.
+    pub(crate) fn pull_beside(&mut self) {
+        self.course.ask_peers(self.pullers);
+        for _ in self.course.rt.forever() {
+            if !self.course.standing.pulled.contains(&true) {
+                return;
+            }
+            let _ = self.serve_wishes(TICK);
+            self.tend_peers();
+        }
+    }
+}
+
+impl<R, P, L> Course<'_, R, P, L>
+where
+    R: SocketRuntime + Files,
+    P: WalkRules + Begins,
+    L: Write + Copy,
+{
     /// Pulls each peer, one after the other, and logs those that bring nothing.
     pub(crate) fn pull_all(&mut self) {
         let settings = self.settings();
         let patience = Patience::of_seconds(settings.patience);
         for (number, peer) in (1..).zip(&settings.peers) {
             let taken = self.pull_one(number, peer, patience);
-            self.show_pull(number, pull_end(&taken));
+            self.console.show_pull(number, pull_end(&taken));
             if let Err(fault) = taken {
-                let line = Line::Peer {
-                    round: self.standing.number,
-                    base: peer.as_str(),
-                    fault,
-                };
-                self.log.tell(self.alloc(), line);
+                self.console
+                    .log_peer(self.standing.number, peer.as_str(), fault);
             }
         }
     }
@@ -97,50 +127,73 @@ where
         peer: &Clean,
         patience: Patience,
     ) -> Result<TakenAs, PeerFault> {
-        if self.settings().timing.ahead.is_some() || forgets(self.settings()) {
-            let asked = self.cursor_of(number);
-            let answer = pull_within(self.rt, patience, peer, asked);
-            return self.accept_answer(number, asked, answer);
+        let timing = self.settings().timing;
+        if timing.ahead.is_some() || timing.parts.is_some() || forgets(self.settings()) {
+            return self.pull_here(number, peer, patience);
         }
         self.ledger
             .pull(self.rt, &mut self.standing.round, number, peer, patience)
     }
 
+    /// Pulls one peer in the thread of the rounds, part by part if it gives parts.
+    fn pull_here(
+        &mut self,
+        number: u64,
+        peer: &Clean,
+        patience: Patience,
+    ) -> Result<TakenAs, PeerFault> {
+        let begun = self.now();
+        self.standing.begin_pull(number, begun);
+        let mut taken = self.pull_once(number, peer, patience)?;
+        for _ in self.rt.forever() {
+            if !self.steps_on(number) {
+                return Ok(taken);
+            }
+            if self.pull_once(number, peer, patience)? == TakenAs::News {
+                taken = TakenAs::News;
+            }
+        }
+        unreachable!()
+    }
+
+    /// Asks a peer once, and takes in what it gives.
+    fn pull_once(
+        &mut self,
+        number: u64,
+        peer: &Clean,
+        patience: Patience,
+    ) -> Result<TakenAs, PeerFault> {
+        let Some(request) = self.pull_request(number, peer) else {
+            return Err(PeerFault::Take(TakeFault::NoMemory));
+        };
+        let PullAnswer { cursor, answer, .. } = request.pull(self.rt, patience);
+        self.accept_answer(number, cursor, answer)
+    }
+
     /// From which cursor the peer with this number is asked.
-    fn cursor_of(&self, peer: u64) -> Option<Cursor> {
+    pub(crate) fn cursor_of(&self, peer: u64) -> Option<Cursor> {
         let held = self.held(peer);
         asked_from(held, self.standing.lead(peer), second_now(self.rt))
     }
 
-    /// Pulls each peer, and waits until each has answered. Wishes go on meanwhile.
-    pub(crate) fn pull_beside(&mut self) {
-        self.ask_peers();
-        for _ in self.rt.forever() {
-            if !self.standing.pulled.contains(&true) {
-                return;
-            }
-            let _ = self.serve_wishes(TICK);
-            self.tend_peers();
-        }
-    }
-
     /// Has each peer pulled that isn't being pulled.
-    pub(crate) fn ask_peers(&mut self) {
-        let pullers = &self.means.pullers;
+    pub(crate) fn ask_peers(&mut self, pullers: &Pullers) {
         if !pullers.are_some() {
             return;
         }
-        for (peer, base) in (1..).zip(&self.settings().peers) {
+        let now = self.now();
+        let peers = self.settings().peers.len() as u64;
+        for peer in 1..=peers {
             if !self.standing.is_pulled(peer) {
-                let cursor = self.cursor_of(peer);
-                let is_pulled = ask_peer(self.rt, pullers, cursor, peer, base);
-                self.standing.set_pulled(peer, is_pulled);
+                self.standing.begin_pull(peer, now);
+                self.ask_peer(pullers, peer);
             }
         }
     }
 
-    /// Takes in what a peer gave, and logs, once in a round, if it gave nothing.
-    pub(crate) fn accept_pull(&mut self, answer: PullAnswer) {
+    /// Takes in what a peer gave, and logs, once in a round, if it gave nothing. A pull in parts counts once. Returns
+    /// whether something was taken. The answer to what the peer no longer has to be asked for isn't taken.
+    pub(crate) fn accept_pull(&mut self, answer: PullAnswer) -> bool {
         let PullAnswer {
             peer,
             base,
@@ -148,35 +201,65 @@ where
             answer,
         } = answer;
         self.standing.set_pulled(peer, false);
+        if self.standing.is_stale(peer) {
+            return false;
+        }
         let taken = self.accept_answer(peer, cursor, answer);
-        self.show_pull(peer, pull_end(&taken));
+        let is_taken = taken.is_ok();
+        if matches!(taken, Ok(TakenAs::News)) {
+            self.standing.note_news(peer);
+        }
+        if !is_taken || self.standing.walking(peer).is_none() {
+            let has_news = is_taken && self.standing.has_news(peer);
+            let end = if has_news {
+                PullEnd::News
+            } else {
+                pull_end(&taken)
+            };
+            self.console.show_pull(peer, end);
+        }
         if let Err(fault) = taken {
             if self.standing.notes.tells_peer(peer) {
-                let line = Line::Peer {
-                    round: self.standing.number,
-                    base: base.as_str(),
-                    fault,
-                };
-                self.log.tell(self.alloc(), line);
+                self.console
+                    .log_peer(self.standing.number, base.as_str(), fault);
             }
         }
+        is_taken
     }
 
-    /// Takes the delta that a peer gave when it was asked from this cursor, if it gave one.
+    /// Takes the delta that a peer gave when it was asked from this cursor, or the part of one, if it gave one.
     fn accept_answer(
         &mut self,
         peer: u64,
         asked: Option<Cursor>,
-        answer: Result<Delta, PullFault>,
+        answer: Result<Pulled, PullFault>,
     ) -> Result<TakenAs, PeerFault>
-        requires { ∥ IfOk answer IsBrought ∥₁ }
+        requires { ∥ IfOk answer IsPulled ∥₁ }
     {
-        let delta = match answer {
-            Ok(delta) => self.sift(peer, delta)?,
-            Err(fault) => return Err(PeerFault::Pull(fault)),
-        };
+        match answer {
+            Ok(Pulled::Whole(delta)) => {
+                self.standing.note_whole(peer);
+                let delta = self.sift(peer, delta)?;
+                self.accept_kept(peer, asked, delta, false)
+            }
+            Ok(Pulled::InPart(part)) => self.accept_part(peer, asked, part),
+            Err(fault) => Err(PeerFault::Pull(fault)),
+        }
+    }
+
+    /// Takes what is kept of a delta that was asked for from this cursor, of whose parts before something was left out
+    /// or not.
+    pub(crate) fn accept_kept(
+        &mut self,
+        peer: u64,
+        asked: Option<Cursor>,
+        delta: Delta,
+        left_out: bool,
+    ) -> Result<TakenAs, PeerFault>
+        requires { ∥ IsPart delta ∥₁ }
+    {
         if self.settings().timing.ahead.is_some() {
-            self.accept_timely(peer, asked, delta)
+            self.accept_timely(peer, asked, delta, left_out)
         } else {
             self.accept_whole(peer, delta)
         }
@@ -202,34 +285,18 @@ where
     }
 
     /// Appends what isn't ahead of the clock of a delta that was asked for from this cursor, and counts what is. The
-    /// held cursor moves if that is all of the delta, and the delta follows on it.
+    /// held cursor moves if that is all of the delta, nothing was left out before, and the delta follows on it.
     fn accept_timely(
         &mut self,
         peer: u64,
         asked: Option<Cursor>,
         delta: Delta,
+        left_out: bool,
     ) -> Result<TakenAs, PeerFault>
         requires { ∥ IsPart delta ∥₁ }
     {
-        let last = self.last_taken();
-        let Delta {
-            incarnation,
-            start,
-            end,
-            state,
-        } = delta;
-        let Ok(taken) = take_timely(self.alloc(), state, last) else {
-            return Err(PeerFault::Take(TakeFault::NoMemory));
-        };
-        let left_out = taken.left_out;
-        self.standing.left_out = self.standing.left_out.saturating_add(left_out);
-        let delta = Delta {
-            incarnation,
-            start,
-            end,
-            state: taken.state,
-        };
-        if left_out == 0 && follows(self.held(peer), &delta) {
+        let (delta, ahead) = self.timely(delta)?;
+        if !left_out && ahead == 0 && follows(self.held(peer), &delta) {
             self.standing.set_lead(peer, None);
             return self.accept_whole(peer, delta);
         }
@@ -252,30 +319,8 @@ where
         let now = second_now(self.rt);
         let held = self.held(peer);
         let lead = led_by(asked, held, self.standing.lead(peer), &delta, now);
-        if delta.state.le(self.ledger.merger().published_state()) {
-            self.standing.set_lead(peer, Some(lead));
-            return Ok(TakenAs::Known);
-        }
-        self.standing.forgetting.count_taken(&delta.state);
-        let taken = self.ledger.take_some(&mut self.standing.round, delta);
-        if taken.is_ok() {
-            self.standing.set_lead(peer, Some(lead));
-        }
-        taken
+        let taken = self.append_some(delta)?;
+        self.standing.set_lead(peer, Some(lead));
+        Ok(taken)
     }
-}
-
-/// Has a peer pulled. Returns whether it will be.
-fn ask_peer(
-    rt: &impl Wait,
-    pullers: &Pullers,
-    cursor: Option<Cursor>,
-    peer: u64,
-    base: &Clean,
-) -> bool {
-    let Ok(base) = base.try_clone() else {
-        return false;
-    };
-    let request = PullRequest { peer, base, cursor };
-    pullers.ask(rt, request)
 }

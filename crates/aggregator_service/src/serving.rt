@@ -7,6 +7,8 @@ ghost use Rattle.round_values.specs.Keeping.{Starts};
 ghost use Rattle.round_values.specs.Lines.{round_line};
 
 use crate::bounds::book_bounds;
+use crate::console::Console;
+use crate::course::Course;
 use crate::dropping::begin_rule;
 use crate::making::Rounds;
 use crate::standing::Standing;
@@ -188,37 +190,47 @@ where
     let keys = secret_keys(rt, terms.settings())?;
     let mut means = Means::new(rt.alloc(), terms.settings(), keys)?;
     let mut standing = Standing::new(rt.alloc(), terms.settings(), keeping, incarnation)?;
-    begin_rule(rt, &terms, &means, &mut standing, ledger, log)?;
+    begin_rule(rt, &terms, &means.shared, &mut standing, ledger, log)?;
     if !ledger.merger().published_state().is_empty() {
-        means.readiness.set();
-        means.telling.tell_snapshot(rt, ledger.merger());
+        means.shared.readiness.set();
+        means.shared.telling.tell_snapshot(rt, ledger.merger());
     }
     book_bounds(
         rt,
-        &means.book,
-        means.keys,
+        &means.shared.book,
+        means.shared.keys,
         terms.settings(),
         ledger.merger(),
     );
     let watch = Stopwatch::start(rt);
-    let listeners = open_listeners(rt, terms.settings(), gates, &means, log)?;
+    let listeners = open_listeners(rt, terms.settings(), gates, &means.shared, log)?;
     let said = say_ports(&listeners, terms.settings(), out);
     let made = match said {
         Ok(()) => {
             means.start(rt, &terms);
-            let mut rounds = Rounds {
+            let console = Console {
+                rt,
+                log,
+                telling: &means.shared.telling,
+            };
+            let course = Course {
                 rt,
                 terms: &terms,
-                means: &means,
+                shared: &means.shared,
                 watch,
                 seed: incarnation_now(rt),
-                log,
+                console,
                 standing,
                 ledger,
             };
+            let mut rounds = Rounds {
+                course,
+                pool: &means.pool,
+                pullers: &means.pullers,
+            };
             let made = make_all(&mut rounds, out);
             // From now on nothing changes.
-            rounds.keep();
+            rounds.course.keep();
             made
         }
         Err(fault) => Err(fault),
@@ -264,7 +276,7 @@ where
     P: WalkRules + Begins,
 {
     rounds.greet();
-    for number in 1..=rounds.terms.settings().rounds {
+    for number in 1..=rounds.course.settings().rounds {
         if number > 1 {
             rounds.wait_between();
         }

@@ -3,13 +3,22 @@ ghost use Rattle.std.specs.Prelude.{◌≡◌, IfSome, None};
 ghost use Rattle.aggregator_service.specs.Listing.{list_of};
 
 use crate::listing::Originals;
+use crate::peers::PullNotes;
 use forgetting::Forgetting;
-use harvest_schedule::{Limits, Mood, Pace, Schedule, Turn};
-use memento_time::Original;
-use round_values::{Absences, Desk, Dues, Keeping, Lead, Millis, Notes, Round, Second};
-use service_log::Progress;
+use harvest_lattice::Harvest;
+use harvest_schedule::{Limits, Mood, Pace, Schedule, Turn, Verdict};
+use harvest_workers::Errand;
+use memento_time::{ArchiveName, Original};
+use round_values::{
+    Absences, Desk, Dues, Keeping, Lead, Millis, Notes, PublishEnd, Round, Second, Walking,
+    is_ahead, is_left_alone, is_waited_for,
+};
+use service_log::{Dormancy, JobsLeft, Matter, Progress, Respite};
 use service_settings::{Archive, Settings};
 use std::alloc::{AllocError, Global};
+
+/// From how many seconds on the log is told that an archive asked to be left alone.
+const LONG: u64 = 60;
 
 /// Where the rounds stand.
 #[derive(Drop)]
@@ -21,8 +30,12 @@ pub(crate) struct Standing {
     pub(crate) keeping: Keeping,
     /// For each peer, whether it is being pulled.
     pub(crate) pulled: Vec<bool>,
+    /// For each peer, what is noted of its pulls.
+    pub(crate) pulls: Vec<PullNotes>,
     /// For each peer, how far its news were looked through beyond the cursor that is held.
     pub(crate) leads: Vec<Option<Lead>>,
+    /// For each peer, how far the parts of its delta were taken, if some of them were and others follow.
+    pub(crate) steps: Vec<Option<Walking>>,
     /// How many harvests weren't taken since that was told, since they are ahead of the clock.
     pub(crate) left_out: u64,
     /// The number of the round, counted from 1.
@@ -45,6 +58,8 @@ pub(crate) struct Standing {
     pub(crate) forgetting: Forgetting,
     /// How many harvests of wishes weren't kept for lack of room since that was told.
     pub(crate) dropped: u64,
+    /// Whether something was learnt since the gates were told to be ready.
+    pub(crate) has_learnt: bool,
 }
 
 /// Whether the settings have a key by which more is told than the specified lines.
@@ -114,10 +129,14 @@ impl Standing {
     ) -> Result<Standing, AllocError> {
         let now = Millis(0);
         let mut pulled = Vec::with_capacity(alloc, settings.peers.len())?;
+        let mut pulls = Vec::with_capacity(alloc, settings.peers.len())?;
         let mut leads = Vec::with_capacity(alloc, settings.peers.len())?;
+        let mut steps = Vec::with_capacity(alloc, settings.peers.len())?;
         for _ in &settings.peers {
             pulled.push(false)?;
+            pulls.push(PullNotes::NONE)?;
             leads.push(None)?;
+            steps.push(None)?;
         }
         Ok(Standing {
             schedule: schedule_of(alloc, settings)?,
@@ -125,7 +144,9 @@ impl Standing {
             dues: Dues::new(settings, tells_more(settings), now),
             keeping,
             pulled,
+            pulls,
             leads,
+            steps,
             left_out: 0,
             number: 1,
             round: Round::NONE,
@@ -139,6 +160,7 @@ impl Standing {
             measured: None,
             forgetting: Forgetting::new(alloc, settings, incarnation, now),
             dropped: 0,
+            has_learnt: false,
         })
     }
 
@@ -185,43 +207,6 @@ impl Standing {
         }
     }
 
-    /// Whether the peer with this number, counted from 1, is being pulled. One that there isn't counts as such.
-    pub(crate) fn is_pulled(&self, peer: u64) -> bool {
-        for (number, is_pulled) in (1..).zip(&self.pulled) {
-            if number == peer {
-                return *is_pulled;
-            }
-        }
-        true
-    }
-
-    /// Notes whether the peer with this number is being pulled.
-    pub(crate) fn set_pulled(&mut self, peer: u64, is_pulled: bool) {
-        for (number, its) in (1..).zip(&mut self.pulled) {
-            if number == peer {
-                *its = is_pulled;
-            }
-        }
-    }
-
-    /// The lead of the peer with this number, counted from 1.
-    pub(crate) fn lead(&self, peer: u64) -> Option<Lead> {
-        let place = usize::try_from(peer).ok()?.checked_sub(1)?;
-        match self.leads.get(place) {
-            Some(lead) => *lead,
-            None => None,
-        }
-    }
-
-    /// Sets the lead of the peer with this number.
-    pub(crate) fn set_lead(&mut self, peer: u64, lead: Option<Lead>) {
-        for (number, its) in (1..).zip(&mut self.leads) {
-            if number == peer {
-                *its = lead;
-            }
-        }
-    }
-
     /// Ends a round: no archive has a job left, so that no wish waits for one before the next round begins.
     pub(crate) fn end(&mut self) {
         // As in `begin`.
@@ -238,6 +223,168 @@ impl Standing {
             jobs: self.jobs(settings),
             failed: self.notes.failed(),
             passed: self.passed,
+        }
+    }
+
+    /// One job more of the round is out.
+    pub(crate) fn add_out(&mut self) {
+        self.out = self.out.saturating_add(1);
+    }
+
+    /// A job of the round that was out has ended.
+    pub(crate) fn end_out(&mut self) {
+        self.out = self.out.saturating_sub(1);
+    }
+
+    /// Passes over the job of a turn, whose archive is asked. Returns whether it was the next of its archive.
+    pub(crate) fn pass_turn(&mut self, turn: Turn) -> bool {
+        let is_passed = self.schedule.pass_over(turn);
+        if is_passed {
+            self.passed = self.passed.saturating_add(1);
+            self.absences.note_present(turn.archive);
+        }
+        is_passed
+    }
+
+    /// Notes in the schedule what the walk of an errand told of its archive, which ended at this moment.
+    pub(crate) fn note_verdict(&mut self, errand: Errand, verdict: Verdict, now: Millis) {
+        // Both refuse only a walk that isn't out, and this one was.
+        let _ = match errand {
+            Errand::Round(turn) => {
+                // An archive that refuses what it is asked for is there as well.
+                if matches!(verdict, Verdict::Answered | Verdict::There) {
+                    self.absences.note_present(turn.archive);
+                }
+                self.schedule.done(turn, verdict, now.0)
+            }
+            Errand::Wish { archive } => self.schedule.end_walk(archive, verdict, now.0),
+        };
+    }
+
+    /// What the log is to be told, once each in a round: that an archive is dormant, or that it answers again.
+    pub(crate) fn mood_matter(
+        &mut self,
+        settings: &Settings,
+        place: usize,
+        was_asleep: bool,
+    ) -> Option<Matter<'static>> {
+        let failures = settings.asking.tolerance?;
+        let sleeps = is_asleep(self.schedule.mood(place));
+        if sleeps == was_asleep || !self.notes.tells_mood(place, sleeps) {
+            return None;
+        }
+        let left = self.schedule.left(place) as u64;
+        if sleeps {
+            Some(Matter::Dormant(Dormancy {
+                failures,
+                seconds: settings.asking.dormant,
+                left,
+            }))
+        } else {
+            Some(Matter::Awake(left))
+        }
+    }
+
+    /// What the log is to be told, once each time: that an archive asked to be left alone for long.
+    pub(crate) fn aside_matter(
+        &self,
+        place: usize,
+        before: Option<Mood>,
+        now: Millis,
+    ) -> Option<Matter<'static>> {
+        let Some(Mood::Aside { until, .. }) = self.schedule.mood(place) else {
+            return None;
+        };
+        let seconds = Millis(until).since(now).div_ceil(1_000);
+        // Walks that were out when it was set aside tell nothing new.
+        if seconds < LONG || is_left_alone(before, now) {
+            return None;
+        }
+        let left = self.schedule.left(place) as u64;
+        Some(Matter::Aside(Respite {
+            seconds,
+            left: JobsLeft(left),
+        }))
+    }
+
+    /// Whether a harvest isn't taken, since it is ahead of the last second whose harvests are. It is counted.
+    pub(crate) fn is_left_out(&mut self, harvest: &Harvest, last: Second) -> bool {
+        if !is_ahead(harvest.revision(), last) {
+            return false;
+        }
+        self.left_out = self.left_out.saturating_add(1);
+        true
+    }
+
+    /// How many harvests weren't taken since that was asked last, since they were ahead of the clock.
+    pub(crate) fn take_left_out(&mut self) -> u64 {
+        let count = self.left_out;
+        self.left_out = 0;
+        count
+    }
+
+    /// How many harvests of wishes weren't kept for lack of room since that was asked last.
+    pub(crate) fn take_dropped(&mut self) -> u64 {
+        let count = self.dropped;
+        self.dropped = 0;
+        count
+    }
+
+    /// Notes what a publish came to.
+    pub(crate) fn note_publish(&mut self, end: PublishEnd, now: Millis) {
+        self.desk.note_publish(end.is_published, now);
+        self.keeping.note_publish(end);
+        if end.is_published {
+            self.forgetting.note_publish();
+        }
+    }
+
+    /// Whether what an archive has of an original is withdrawn.
+    pub(crate) fn is_withdrawn(&self, archive: ArchiveName, original: &Original) -> bool {
+        self.forgetting.has_withdrawn(archive, original)
+    }
+
+    /// Whether all that archives have of an original is withdrawn.
+    pub(crate) fn is_all_withdrawn(&self, settings: &Settings, original: &Original) -> bool {
+        let forgetting = &self.forgetting;
+        let archives = &settings.archives;
+        archives
+            .iter()
+            .all(|archive| forgetting.has_withdrawn(archive.name, original))
+    }
+
+    /// Has wishes wait for an archive that named a time within a minute, and skips any other. Returns whether they
+    /// wait.
+    pub(crate) fn waits_for(&mut self, archive: usize, now: Millis) -> bool {
+        let mood = self.schedule.mood(archive);
+        let since = self.desk.aside_since(archive);
+        let waits = is_waited_for(mood, since, now);
+        if waits {
+            self.desk.wait_for(archive, now);
+        } else {
+            self.desk.skip(archive);
+        }
+        waits
+    }
+
+    /// Has the job of a busy archive come again, if wishes wait for it. Returns whether it does.
+    pub(crate) fn walks_again(&mut self, archive: usize, original: &Original, now: Millis) -> bool {
+        self.waits_for(archive, now) && self.desk.add_again(original, archive)
+    }
+
+    /// Lets no wish wait for archives that aren't asked before a later time, but for those that named one within a
+    /// minute; nor for archives that couldn't be asked for one patience.
+    pub(crate) fn skip_archives(&mut self, settings: &Settings, now: Millis) {
+        let patience = settings.patience.saturating_mul(1_000);
+        for archive in 0..settings.archives.len() {
+            if !self.desk.is_refused(archive) {
+                continue;
+            }
+            if is_left_alone(self.schedule.mood(archive), now) {
+                let _ = self.waits_for(archive, now);
+            } else if self.desk.is_overdue(archive, patience, now) {
+                self.desk.skip(archive);
+            }
         }
     }
 }

@@ -1,11 +1,11 @@
 //! What is due while rounds are made: publishes, snapshots, pulls, and lines of the log.
+use crate::course::Course;
 use crate::making::Rounds;
 use harvest_workers::WalkRules;
 use harvester::SocketRuntime;
 use published_index::Merger;
 use round_values::PublishEnd;
 use service_ledger::Begins;
-use service_log::Line;
 use service_settings::Settings;
 use std::io::Write;
 use std::rt::Files;
@@ -25,72 +25,101 @@ where
     /// Does what is due: takes in what peers gave, pulls, publishes, and logs how far the round is.
     pub(crate) fn tend(&mut self) {
         self.tend_peers();
-        self.tend_wishes();
-        self.tend_snapshot();
-        self.show_progress();
-        self.show_memory();
-        let now = self.now();
-        if self.standing.dues.progress.is_due(now) {
-            self.standing.dues.progress.done(now);
-            let settings = self.settings();
-            let line = Line::Progress {
-                round: self.standing.number,
-                progress: self.standing.progress(settings),
-            };
-            self.log.tell(self.alloc(), line);
-        }
+        self.course.tend_wishes();
+        self.course.tend_snapshot();
+        self.course.show_progress();
+        self.course.show_memory();
+        self.course.log_progress();
     }
 
     /// Takes in what peers gave, pulls and publishes, where that is due.
     pub(crate) fn tend_peers(&mut self) {
-        for _ in 0..self.settings().peers.len() {
-            let Some(answer) = self.means.pullers.answered(self.rt) else {
+        for _ in 0..self.course.settings().peers.len() {
+            let Some(answer) = self.pullers.answered(self.course.rt) else {
                 break;
             };
-            self.accept_pull(answer);
+            self.accept_pulled(answer);
         }
+        let now = self.course.now();
+        if self.course.standing.dues.pull.is_due(now) {
+            self.course.standing.dues.pull.done(now);
+            self.course.ask_peers(self.pullers);
+        }
+        self.course.publish_round();
+        self.course.tend_forgetting();
+        self.course.tend_ready();
+    }
+}
+
+impl<R, P, L> Course<'_, R, P, L>
+where
+    R: SocketRuntime + Files,
+    P: WalkRules + Begins,
+    L: Write + Copy,
+{
+    /// Logs how far the round is, where that is due.
+    pub(crate) fn log_progress(&mut self) {
         let now = self.now();
-        if self.standing.dues.pull.is_due(now) {
-            self.standing.dues.pull.done(now);
-            self.ask_peers();
+        if self.standing.dues.progress.is_due(now) {
+            self.standing.dues.progress.done(now);
+            let progress = self.standing.progress(self.settings());
+            self.console.log_progress(self.standing.number, progress);
         }
+    }
+
+    /// Publishes what the round brought so far, where that is due.
+    pub(crate) fn publish_round(&mut self) {
+        let now = self.now();
         if self.standing.round.pending && self.standing.dues.publish.is_due(now) {
             self.standing.dues.publish.done(now);
             self.publish();
         }
-        self.tend_forgetting();
     }
 
-    /// Publishes what is pending, and keeps it where that is due. The gates are ready once something is shown, or
-    /// nobody can be learnt from.
+    /// Publishes what is pending, and keeps it where that is due.
     pub(crate) fn publish(&mut self) {
-        let is_appended = self.standing.round.pending || self.standing.desk.has_pending();
-        let number = self.standing.number;
+        let is_appended = self.standing.has_pending();
+        let (number, log) = (self.standing.number, self.console.log);
         self.ledger
-            .publish(self.rt, &mut self.standing.round, number, self.log);
+            .publish(self.rt, &mut self.standing.round, number, log);
         let is_published = self.standing.round.published;
-        let settings = self.settings();
-        let jobs = self.standing.jobs(settings);
-        let pulls = self.standing.round.pulls;
-        if is_published && has_learnt(settings, self.ledger.merger(), pulls, jobs) {
-            self.means.readiness.set();
-            self.means.telling.tell_shown(self.rt);
-        }
-        self.show_publish(is_published);
-        let now = self.now();
-        self.standing.desk.note_publish(is_published, now);
-        self.book_room();
         let end = PublishEnd {
             is_appended,
             is_published,
         };
-        self.standing.keeping.note_publish(end);
-        if is_published {
-            self.standing.forgetting.note_publish();
-        }
-        self.show_behind();
+        self.note_learnt();
+        self.show_publish(is_published);
+        let now = self.now();
+        self.standing.note_publish(end, now);
+        self.book_room();
+        self.console.show_behind(&self.standing.keeping);
         self.tend_forgetting();
         self.tend_snapshot();
+    }
+
+    /// Notes whether something is shown, or nobody can be learnt from: then the gates are ready once no part is to
+    /// come.
+    fn note_learnt(&mut self) {
+        let settings = self.settings();
+        let jobs = self.standing.jobs(settings);
+        let pulls = self.standing.round.pulls;
+        let is_published = self.standing.round.published;
+        if is_published && has_learnt(settings, self.ledger.merger(), pulls, jobs) {
+            self.standing.has_learnt = true;
+            self.tend_ready();
+        }
+    }
+
+    /// The gates are ready once something was learnt, and no part of a peer's delta is to come: before its last part
+    /// came, not all is known that the peer has. A part that doesn't come for one patience isn't waited for.
+    pub(crate) fn tend_ready(&mut self) {
+        let patience = self.settings().patience.saturating_mul(1_000);
+        let now = self.now();
+        if self.standing.has_learnt && !self.standing.is_unfinished(now, patience) {
+            self.standing.has_learnt = false;
+            self.shared.readiness.set();
+            self.shared.telling.tell_shown(self.rt);
+        }
     }
 
     /// Writes a snapshot, where one is due.
@@ -107,12 +136,52 @@ where
             return;
         };
         if self.standing.keeping.is_behind() {
+            let log = self.console.log;
             self.standing
                 .keeping
-                .keep(self.rt, path.as_str(), self.ledger.merger(), self.log);
+                .keep(self.rt, path.as_str(), self.ledger.merger(), log);
             let now = self.now();
             self.standing.keeping.tried(now);
-            self.show_kept();
+            self.console.show_kept(&self.standing.keeping);
+        }
+    }
+
+    /// Shows how far the round is.
+    pub(crate) fn show_progress(&self) {
+        let progress = self.standing.progress(self.settings());
+        self.console.show_progress(progress);
+    }
+
+    /// Shows each second how much memory is held, and how many wishes came too late.
+    pub(crate) fn show_memory(&mut self) {
+        let now = self.now();
+        let shown = self.standing.measured;
+        self.standing.measured = self.console.show_memory(shown, &self.shared.book, now);
+    }
+
+    /// Shows what a publish came to, and once a minute how much is known.
+    fn show_publish(&mut self, is_published: bool) {
+        let now = self.now();
+        let counted = self.standing.counted;
+        if self.console.show_publish(is_published, counted, now) {
+            self.count_known();
+        }
+    }
+
+    /// Shows how much is published.
+    fn count_known(&mut self) {
+        let unlisted = self.standing.forgetting.mementos();
+        self.console.show_known(self.ledger.merger(), unlisted);
+        let now = self.now();
+        self.standing.counted = Some(now);
+    }
+
+    /// Shows that a round is over, and how much is known.
+    pub(crate) fn show_round(&mut self) {
+        self.show_progress();
+        self.show_memory();
+        if self.console.show_round() {
+            self.count_known();
         }
     }
 }

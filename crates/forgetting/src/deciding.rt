@@ -1,5 +1,6 @@
 //! What goes, and when.
-ghost use Rattle.std.specs.Prelude.{◌≡◌, ◌⊎◌, ◌&&◌, IfOk, IfSome, IsErrOf, None, OnErr, OnOk, false, is_some, true};
+ghost use Rattle.std.specs.Prelude.{◌≡◌, ◌⊎◌, ◌&&◌, ◌+◌, ◌-◌, ◌/◌, ◌^◌, ◌≤◌, IfOk, IfSome, IsErrOf, None, OnErr, OnOk};
+ghost use Rattle.std.specs.Prelude.{false, is_some, min, true};
 ghost use Rattle.std.specs.FinMap as map;
 ghost use Rattle.retention.specs.Restriction.{restrict};
 ghost use Rattle.forgetting.specs.Renewing.{AreGone, ForgetsSome, HasNone, IsBegun, known, rule_of};
@@ -10,7 +11,8 @@ use crate::standing::Forgetting;
 use harvest_lattice::State;
 use memento_time::NoMemory;
 use original_sets::OriginalSet;
-use published_index::{Gate, Merger};
+use part_gates::PartGate;
+use published_index::Merger;
 use retention::{
     Amount, Remainder, Retention, Unlisted, Withdrawn, restricted, unlisted_amount, without_oldest,
     young_originals,
@@ -33,7 +35,7 @@ pub struct Ways<'a, R, L: Copy> {
     pub settings: &'a Settings,
     pub keys: RandomState,
     /// Where each gate's thread is handed another gate.
-    pub slots: &'a [GateSlot<Gate>],
+    pub slots: &'a [GateSlot<PartGate>],
     pub watch: Stopwatch,
     pub log: Log<L>,
 }
@@ -80,7 +82,10 @@ impl<R: Wait + Clock + AllocGlobal, L: Write + Copy> Ways<'_, R, L> {
 
 /// How much stays where something is forgotten: nine tenths of what may be known, and no more than leaves room for so
 /// many mementos.
-fn most_kept(most: Amount, missing: u64) -> Amount {
+fn most_kept(most: Amount, missing: u64) -> Amount
+    ensures entries { result.entries ≡ most.entries - most.entries / 10 }
+    ensures mementos { result.mementos ≡ min (most.mementos - most.mementos / 10) (most.mementos - missing) }
+{
     let kept = most.tenth_less();
     Amount {
         entries: kept.entries,
@@ -160,7 +165,9 @@ impl Forgetting {
     }
 
     /// Whether more is known than is wanted, as far as that is seen without going over all that is known.
-    fn may_be_due(&self, settings: &Settings, merger: &Merger) -> bool {
+    fn may_be_due(&self, settings: &Settings, merger: &Merger) -> bool
+        ensures { result ≡ false → self.now.missing ≡ 0 }
+    {
         let most = most_of(settings);
         let few = match self.mementos {
             Some(mementos) => mementos <= most.mementos,
@@ -182,6 +189,7 @@ impl Forgetting {
             ForgetsSome self.old.withdrawn self.old.listed merger.old merger.new)) }
         ensures none { IfOk result (λ it. it ≡ None → merger.new ≡ merger.old) }
         ensures err { OnErr result (merger.new ≡ merger.old) }
+        ensures missing { IfOk result (λ it. IfSome it (λ _. self.new.missing ≡ 0)) }
     {
         if !self.due.is_due(ways.now()) || !self.may_be_due(ways.settings, &*merger) {
             return Ok(None);
@@ -273,6 +281,10 @@ impl Forgetting {
         ensures all { IfOk result (λ it. it ≡ None → map.len state ≡ map.len (known merger.old)) }
         ensures err { OnErr result (merger.new ≡ merger.old) }
         ensures same { OnErr result (self.new ≡ self.old) }
+        ensures stays { IfOk result (λ it. it ≡ None → self.new ≡ self.old) }
+        ensures newer { IfOk result (λ it. IfSome it (λ _.
+            min (self.old.incarnation + 1) (2 ^ 64 - 1) ≤ self.new.incarnation)) }
+        ensures floor { IfOk result (λ it. IfSome it (λ _. self.new.floor ≡ floor)) }
         ensures rule { (self.new.withdrawn ≡ self.old.withdrawn) × (self.new.listed ≡ self.old.listed) }
     {
         let before = merger.published_state().len();
@@ -282,7 +294,7 @@ impl Forgetting {
         }
         let incarnation = incarnation_now(ways.rt).max(self.incarnation.saturating_add(1));
         let (fresh, gates) = begin(ways.rt, ways.alloc(), ways.settings, incarnation, state)?;
-        replace(ways.rt, ways.slots, merger, fresh, gates);
+        replace(ways.rt, ways.settings, ways.slots, merger, fresh, gates);
         self.floor = floor;
         self.incarnation = incarnation;
         self.mementos = None;

@@ -7,6 +7,7 @@ ghost use Rattle.forgetting.specs.Renewing.{IsBegun};
 use harvest_lattice::State;
 use memento_index::Merge;
 use memento_time::NoMemory;
+use part_gates::PartGate;
 use published_index::{Gate, Merger, open};
 use service_settings::Settings;
 use std::alloc::{AllocGlobal, Global};
@@ -51,24 +52,31 @@ pub(crate) fn begin<R: Wait>(
 }
 
 /// Leaves each thread its gate.
-fn hand_over<R: Wait>(rt: &R, slots: &[GateSlot<Gate>], gates: Vec<Gate>) {
+fn hand_over<R: Wait + AllocGlobal>(
+    rt: &R,
+    settings: &Settings,
+    slots: &[GateSlot<PartGate>],
+    gates: Vec<Gate>,
+) {
     for (slot, gate) in slots.iter().zip(gates) {
+        let gate = PartGate::new(rt.alloc(), gate, settings.timing.room());
         slot.hand(rt, gate);
     }
 }
 
 /// Has a merger take the place of another, whose gates are handed over first. What is pending in the other is lost. The
 /// second copy of what is published is made only once both copies of the other are let go.
-pub(crate) fn replace<R: Wait>(
+pub(crate) fn replace<R: Wait + AllocGlobal>(
     rt: &R,
-    slots: &[GateSlot<Gate>],
+    settings: &Settings,
+    slots: &[GateSlot<PartGate>],
     merger: &mut Merger,
     fresh: Merger,
     gates: Vec<Gate>,
 )
     ensures { merger.new ≡ fresh }
 {
-    hand_over(rt, slots, gates);
+    hand_over(rt, settings, slots, gates);
     let old = mem::replace(merger, fresh);
     old.close(rt);
     merger.settle(rt);

@@ -1,5 +1,6 @@
 //! What is taken of what peers give, and how much room a wish's harvest has.
-ghost use Rattle.std.specs.Prelude.{◌≡◌, ◌≤◌, IfOk, IfSome, None, OnErr, OnOk, Ok, true};
+ghost use Rattle.std.specs.Prelude.{◌≡◌, ◌≤◌, ◌+◌, ◌-◌, ◌^◌, ◌↔◌, IfOk, IfSome, IsSomeAnd, IsTrue, None, OnErr, OnOk, Ok};
+ghost use Rattle.std.specs.Prelude.{min, option_map, true};
 ghost use Rattle.std.specs.FinMap as map;
 ghost use Rattle.replica_exchange.specs.CursorRule.{fits, taken_from};
 ghost use Rattle.published_index.specs.declared.mergers.TakenAs.TheVariants.{News};
@@ -202,7 +203,9 @@ impl Forgetting {
 
     /// Counts so many mementos that were appended.
     fn add_more(&mut self, more: u64)
-        ensures { self.new ≡ record self.old { pending = self.new.pending; mementos = self.new.mementos } }
+        ensures pending { self.new.pending ≡ min (self.old.pending + more) (2 ^ 64 - 1) }
+        ensures mementos { self.new.mementos ≡ option_map (λ mementos. min (mementos + more) (2 ^ 64 - 1)) self.old.mementos }
+        ensures rest { self.new ≡ record self.old { pending = self.new.pending; mementos = self.new.mementos } }
     {
         self.pending = self.pending.saturating_add(more);
         self.mementos = self.mementos.map(|mementos| mementos.saturating_add(more));
@@ -223,7 +226,10 @@ impl Forgetting {
         merger: &Merger,
         harvest: &Harvest,
         now: Millis,
-    ) -> bool {
+    ) -> bool
+        ensures unbounded { settings.now.forgetting.every ≡ None → result ≡ true }
+        ensures same { settings.now.forgetting.every ≡ None → self.new ≡ self.old }
+    {
         if settings.forgetting.every.is_none() || self.is_listed(harvest.original()) {
             return true;
         }
@@ -244,7 +250,9 @@ impl Forgetting {
     }
 
     /// Whether so many more mementos fit, as far as they are counted.
-    fn fits(&self, more: u64, most: u64) -> bool {
+    fn fits(&self, more: u64, most: u64) -> bool
+        ensures { IsTrue result ↔ IsSomeAnd self.now.mementos (λ mementos. min (mementos + more) (2 ^ 64 - 1) ≤ most) }
+    {
         match self.mementos {
             Some(mementos) => mementos.saturating_add(more) <= most,
             None => false,
@@ -252,7 +260,11 @@ impl Forgetting {
     }
 
     /// Counts the mementos of unlisted originals, published and pending. Where memory is refused, they aren't known.
-    fn count(&mut self, merger: &Merger, now: Millis) {
+    fn count(&mut self, merger: &Merger, now: Millis)
+        ensures pending { IfSome self.new.mementos (λ mementos. self.old.pending ≤ mementos) }
+        ensures counted { self.new.counted ≡ now }
+        ensures rest { self.new ≡ record self.old { counted = self.new.counted; mementos = self.new.mementos } }
+    {
         self.counted = now;
         self.mementos = match (&self.withdrawn, &self.listed) {
             (Some(withdrawn), Some(listed)) => {

@@ -59,3 +59,13 @@ RepliesBy gives (Some asked) q made =
 -- the same, whichever forms the gate answers in
 abbrev pub RepliesInForms : (Request → Reply → Type 0) → Request → Reply → Type 0
 RepliesInForms gives q made = (forms : Forms) × RepliesBy gives (form_at forms q.target) q made
+
+-- of one reply one is made
+abbrev pub IsConvertedOnce : Type 0
+IsConvertedOnce = (form : Form) (q : Request) (inner made other : Reply)
+    → IsConverted form q inner made → IsConverted form q inner other → made ≡ other
+
+-- What two gates reply with the same forms, if the gates inside give what they were asked for the same reply.
+abbrev pub IsOneInForms : Type 0
+IsOneInForms = (asked : Option (Form × List ℕ)) (q : Request) (inner made other : Reply)
+    → RepliesBy (λ _ reply. reply ≡ inner) asked q made → RepliesBy (λ _ reply. reply ≡ inner) asked q other → made ≡ other

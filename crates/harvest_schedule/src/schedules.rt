@@ -1,5 +1,5 @@
 //! Schedules of rounds.
-ghost use Rattle.std.specs.Prelude.{◌≡◌, ◌↔◌, ℕ, ◌≤◌, ◌<◌, ◌+◌, All, Contains, IfOk, IfSome, IsNone, IsTrue, MatchBool, None, Some};
+ghost use Rattle.std.specs.Prelude.{◌≡◌, ◌↔◌, ℕ, ◌≤◌, ◌<◌, ◌+◌, All, Contains, IfOk, IfSome, IsNone, IsTrue, MatchBool, None, Some, is_some};
 ghost use Rattle.std.specs.Prelude.{false, length, map, min, option_map, slice_get, true, []};
 ghost use Rattle.std.specs.List.{reduce};
 ghost use Rattle.harvest_schedule.specs.Standing.{Standing};
@@ -9,6 +9,7 @@ ghost use Rattle.harvest_schedule.specs.Steps.{WalkBegun, WalkEnded, times_after
 
 use crate::lanes::Lane;
 use crate::moods::{Limits, Mood, Pace, Verdict};
+use crate::permits::Permit;
 use crate::turns::Turn;
 use std::alloc::{AllocError, Global};
 
@@ -129,9 +130,27 @@ impl Schedule {
         Some(Turn { archive, original })
     }
 
-    /// Hands out the job of this turn, which is to be walked. Returns whether it is the next of its archive, and may be
-    /// handed out at this time; otherwise nothing changes.
-    pub fn hand_out(&mut self, turn: Turn, now: u64) -> bool
+    /// Hands out the job of this turn, which is to be walked: gives leave to ask its archive, if the job is the next of
+    /// its archive, and may be handed out at this time; otherwise nothing changes.
+    pub fn hand_out(&mut self, turn: Turn, now: u64) -> Option<Permit>
+        ensures limits { self.new.limits ≡ self.old.limits }
+        ensures lanes { Answers self.old.limits turn.archive (Handed now turn.original) (is_some result)
+            self.old.lanes.items self.new.lanes.items }
+        ensures turn { MatchBool (is_some result) (self.new.turn ≡ turn.archive + 1) (self.new.turn ≡ self.old.turn) }
+        ensures jobs_next { MatchBool (is_some result) (self.new.jobs_next ≡ false)
+            (self.new.jobs_next ≡ self.old.jobs_next) }
+        ensures permit { IfSome result (λ permit. permit.archive ≡ turn.archive) }
+    {
+        if self.try_hand_out(turn, now) {
+            Some(Permit::new(turn.archive))
+        } else {
+            None
+        }
+    }
+
+    /// Notes that the job of this turn is handed out. Returns whether it is the next of its archive, and may be handed
+    /// out at this time; otherwise nothing changes.
+    fn try_hand_out(&mut self, turn: Turn, now: u64) -> bool
         ensures limits { self.new.limits ≡ self.old.limits }
         ensures lanes { Answers self.old.limits turn.archive (Handed now turn.original) result
             self.old.lanes.items self.new.lanes.items }
@@ -191,9 +210,29 @@ impl Schedule {
         is_last && self.jobs_next && self.ready(now).is_some()
     }
 
-    /// Begins a walk beyond the round's list, by a hand that may be the last free one. Returns whether the archive may
-    /// be asked at this time, and no job goes first; otherwise nothing changes.
-    pub fn begin_walk(&mut self, archive: usize, now: u64, is_last: bool) -> bool
+    /// Begins a walk beyond the round's list, by a hand that may be the last free one: gives leave to ask the archive,
+    /// if it may be asked at this time, and no job goes first; otherwise nothing changes.
+    pub fn begin_walk(&mut self, archive: usize, now: u64, is_last: bool) -> Option<Permit>
+        ensures limits { self.new.limits ≡ self.old.limits }
+        ensures later { JobGoesFirst now is_last self.old.jobs_next self.old.lanes.items
+            → (result ≡ None) × (self.new.lanes.items ≡ self.old.lanes.items) }
+        ensures lanes { ¬ (JobGoesFirst now is_last self.old.jobs_next self.old.lanes.items)
+            → Answers self.old.limits archive (WalkBegun now) (is_some result) self.old.lanes.items self.new.lanes.items }
+        ensures turn { self.new.turn ≡ self.old.turn }
+        ensures jobs_next { MatchBool (is_some result) (self.new.jobs_next ≡ true)
+            (self.new.jobs_next ≡ self.old.jobs_next) }
+        ensures permit { IfSome result (λ permit. permit.archive ≡ archive) }
+    {
+        if self.try_begin_walk(archive, now, is_last) {
+            Some(Permit::new(archive))
+        } else {
+            None
+        }
+    }
+
+    /// Notes that a walk beyond the round's list begins. Returns whether the archive may be asked at this time, and no
+    /// job goes first; otherwise nothing changes.
+    fn try_begin_walk(&mut self, archive: usize, now: u64, is_last: bool) -> bool
         ensures limits { self.new.limits ≡ self.old.limits }
         ensures later { JobGoesFirst now is_last self.old.jobs_next self.old.lanes.items
             → (result ≡ false) × (self.new.lanes.items ≡ self.old.lanes.items) }

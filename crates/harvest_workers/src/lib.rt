@@ -2,7 +2,8 @@
 //!
 //! `WalkRules` names, for proofs alone, which job each errand has, and what may be fetched. An `Assignment` has the job
 //! of its `Errand`, which is a turn of a round or a wish, and a `WalkReport` what may come of that very job. Both are
-//! facts of their types, so that they hold of whatever a channel brings.
+//! facts of their types, so that they hold of whatever a channel brings. An assignment uses up a schedule's leave to
+//! ask its archive, so nothing is walked that no schedule allowed, and nothing twice.
 #![tactic(auto)]
 
 mod errands;

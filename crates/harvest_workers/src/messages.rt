@@ -2,20 +2,24 @@
 ghost use Rattle.std.specs.Prelude.{◌≡◌, ℕ};
 ghost use Rattle.harvester.specs.Answers.{HasFirstUrl};
 ghost use Rattle.harvester.specs.Unkept.{Comes};
+ghost use Rattle.harvest_workers.specs.Errands.{archive_of};
 
 use crate::errands::Errand;
 use crate::rules::WalkRules;
 use harvest_lattice::Harvest;
+use harvest_schedule::Permit;
 use harvester::{Job, WalkFault};
 use std::marker::PhantomData;
 
-/// A job that a worker is to walk: the job of its errand.
+/// A job that a worker is to walk: the job of its errand, with leave to ask its archive.
 #[derive(Drop)]
 pub struct Assignment<P: WalkRules> {
+    permit: Permit,
     errand: Errand,
     job: Job,
     of: PhantomData<P>,
 
+    ghost allowed: { permit.archive ≡ archive_of errand },
     ghost first: { HasFirstUrl job },
     ghost own: { ∥ P.jobs errand job ∥₁ },
 }
@@ -47,14 +51,16 @@ pub struct Opened {
 }
 
 impl<P: WalkRules> Assignment<P> {
-    /// The assignment of an errand whose job this is.
-    pub fn new(errand: Errand, job: Job) -> Assignment<P>
+    /// The assignment of an errand whose job this is, by leave to ask its archive, which is used up.
+    pub fn new(permit: Permit, errand: Errand, job: Job) -> Assignment<P>
+        requires allowed { permit.archive ≡ archive_of errand }
         requires first { HasFirstUrl job }
         requires own { ∥ P.jobs errand job ∥₁ }
         ensures errand { result.errand ≡ errand }
         ensures job { result.job ≡ job }
     {
         Assignment {
+            permit,
             errand,
             job,
             of: PhantomData,
@@ -68,14 +74,19 @@ impl<P: WalkRules> Assignment<P> {
         self.errand
     }
 
-    /// The errand, and its job.
+    /// The errand, and its job. The leave to ask is used up.
     pub(crate) fn open(self) -> (Errand, Job)
         ensures errand { result.0 ≡ self.errand }
         ensures job { result.1 ≡ self.job }
         ensures first { HasFirstUrl result.1 }
         ensures own { ∥ P.jobs result.0 result.1 ∥₁ }
     {
-        let Assignment { errand, job, of: _ } = self;
+        let Assignment {
+            permit: _,
+            errand,
+            job,
+            of: _,
+        } = self;
         (errand, job)
     }
 }

@@ -9,4 +9,5 @@ abbrev pub pull_words : PullFault → List ℕ
 pull_words pull.Failed = codes "no answer"
 pull_words (pull.Status status) = codes "status " ++ decimal status
 pull_words pull.BadState = codes "not the text of a delta"
+pull_words pull.TooLong = codes "a delta of over 268435456 bytes, which the key `parts` has sent in parts"
 pull_words pull.NoMemory = codes "no memory"

@@ -14,8 +14,10 @@ pub enum PullFault {
     Failed,
     /// The peer answered with a status other than 200.
     Status(u16),
-    /// The body isn't a delta's text, or is longer than 268,435,456 bytes.
+    /// The body isn't a delta's text, nor that of a part if one was asked for; from `pull_state` also `TooLong`.
     BadState,
+    /// The body is longer than 268,435,456 bytes.
+    TooLong,
     /// The allocator refused a growth.
     NoMemory,
 }
@@ -28,6 +30,11 @@ impl fmt::Display for PullFault {
             PullFault::Failed => f.write_str("no answer"),
             PullFault::Status(status) => write!(f, "status {status}"),
             PullFault::BadState => f.write_str("not the text of a delta"),
+            PullFault::TooLong => {
+                f.write_str(
+                    "a delta of over 268435456 bytes, which the key `parts` has sent in parts",
+                )
+            }
             PullFault::NoMemory => f.write_str("no memory"),
         }
     }
@@ -44,7 +51,7 @@ impl From<FetchFault> for PullFault {
     fn from(fault: FetchFault) -> PullFault {
         match fault {
             FetchFault::Failed | FetchFault::Broken => PullFault::Failed,
-            FetchFault::TooLong => PullFault::BadState,
+            FetchFault::TooLong => PullFault::TooLong,
             FetchFault::NoMemory => PullFault::NoMemory,
         }
     }

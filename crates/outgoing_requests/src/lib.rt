@@ -34,4 +34,4 @@ pub use hosts::{AllowedHost, allowed_addresses, is_allowed, is_listed, read_host
 pub use laws::{addresses_by_example, targets_by_example};
 pub use limits::FetchLimits;
 pub use patience::{DEFAULT_PATIENCE, Patience};
-pub use pulls::{pull_state, pull_within};
+pub use pulls::{Pulled, pull_part, pull_state, pull_within};

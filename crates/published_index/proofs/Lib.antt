@@ -17,3 +17,4 @@ pub mod EventLemmas
 pub mod Handing
 pub mod Following
 pub mod Exchanging
+pub mod Walking

@@ -33,10 +33,10 @@ pub state_more : (ms ns : List Merge) → AtMost (state_after ms) (state_after (
 state_more ms ns = subst (λ (x : Entries). AtMost (state_after ms) x) (sym (state_append ms ns)) (at_most_left (state_after ms) (lat (flat_map adds_of ns)))
 
 -- that a cursor is reached by a state
-abbrev Reaches : Histories → ℕ → Entries → Cursor → Type 0
+abbrev pub Reaches : Histories → ℕ → Entries → Cursor → Type 0
 Reaches histories peer x c = AtMost (state_after (take c.number (histories peer c.incarnation))) x
 
-reaches_more : (histories : Histories) (peer : ℕ) (x y : Entries) → AtMost x y → (o : Option Cursor) → IfSome o (Reaches histories peer x) → IfSome o (Reaches histories peer y)
+pub reaches_more : (histories : Histories) (peer : ℕ) (x y : Entries) → AtMost x y → (o : Option Cursor) → IfSome o (Reaches histories peer x) → IfSome o (Reaches histories peer y)
 reaches_more histories peer x y more None reached = tt
 reaches_more histories peer x y more (Some c) reached = at_most_trans (state_after (take c.number (histories peer c.incarnation))) x y reached more
 
@@ -47,7 +47,7 @@ reached_by_none histories m none peer =
 appended : (m : MergerView) (merge : Merge) → merges_of m.published ++ (m.pending ++ merge ∷ []) ≡ (merges_of m.published ++ m.pending) ++ merge ∷ []
 appended m merge = sym (append_assoc (merges_of m.published) m.pending (merge ∷ []))
 
-grows : (m : MergerView) (merge : Merge) → AtMost (state_of m) (state_of (with_merge m merge))
+pub grows : (m : MergerView) (merge : Merge) → AtMost (state_of m) (state_of (with_merge m merge))
 grows m merge = subst (λ (l : List Merge). AtMost (state_of m) (state_after l)) (sym (appended m merge)) (state_more (merges_of m.published ++ m.pending) (merge ∷ []))
 
 pub reached_with_merge : (histories : Histories) (m : MergerView) (merge : Merge) → HasReached histories m → HasReached histories (with_merge m merge)

@@ -4,13 +4,14 @@ ghost use Rattle.timegate.specs.Reply.{reply};
 ghost use Rattle.timegate.specs.Route.{IsOfTaken};
 ghost use Rattle.published_index.specs.Batches.{fold_of};
 ghost use Rattle.published_index.specs.Passes.{Advances, Learns, AfterFault};
-ghost use Rattle.published_index.specs.Replies.{IsReplyFrom};
+ghost use Rattle.published_index.specs.Replies.{IsPartFrom, IsReplyFrom};
 
-use crate::asking::{ask_in_place, longest};
+use crate::asking::{MadePart, MadeReply, ask_in_place, longest};
 use crate::faults::GateFault;
 use crate::marks::Mark;
 use crate::receipts::Receipt;
 use crate::rules::EditionReader;
+use delta_parts::PartAsk;
 use std::alloc::Global;
 use std::marker::Model;
 use timegate::{Reply, Request};
@@ -91,13 +92,39 @@ impl Gate {
             × IsReplyFrom self.old.base self.old.incarnation self.new.pass.front request.now made) }
         ensures refused { IfErr result (λ fault. AfterFault fault self.old.pass self.new.pass) }
     {
+        let maker = MadeReply {
+            service: &self.service,
+            request,
+        };
         let Some((mark, made)) = ask_in_place(
             self.alloc,
-            &self.service,
             &self.told,
             &mut self.reader,
-            request,
+            &maker,
             then,
+        ) else {
+            return Err(GateFault::Closed);
+        };
+        self.seen = mark;
+        self.told = None;
+        made
+    }
+
+    /// The text of a part of a delta, made as `answer` makes a reply: the entries behind a place, as many as fill so
+    /// many bytes.
+    pub fn answer_part(&mut self, ask: &PartAsk, room: usize) -> Result<Vec<u8>, GateFault>
+        ensures same { self.new ≡ record self.old { pass = self.new.pass } }
+        ensures part { IfOk result (λ text. Advances self.old.pass self.new.pass
+            × IsPartFrom self.old.incarnation self.new.pass.front ask.now text) }
+        ensures refused { IfErr result (λ fault. AfterFault fault self.old.pass self.new.pass) }
+    {
+        let maker = MadePart { ask, room };
+        let Some((mark, made)) = ask_in_place(
+            self.alloc,
+            &self.told,
+            &mut self.reader,
+            &maker,
+            || (),
         ) else {
             return Err(GateFault::Closed);
         };

@@ -1,6 +1,6 @@
 //! Laws of what follows for one gate from its calls, and for the replies of two gates.
 ghost use Rattle.std.specs.Prelude.{◌≡◌, ◌⊎◌, ℕ, ◌+◌, ◌≤◌, [], ◌∷◌, ◌++◌, true, List, Contains, length, Some};
-ghost use Rattle.std.specs.Prelude.{IfSome, Ok, Option, fold};
+ghost use Rattle.std.specs.Prelude.{IfSome, None, Ok, Option, fold};
 ghost use Rattle.std.specs.List.{flat_map};
 ghost use Rattle.std.specs.FinMap as finite;
 ghost use mathlib.Core.List.{IsPrefix};
@@ -11,6 +11,10 @@ ghost use Rattle.replica_exchange.specs.declared.delta.Delta.{Delta};
 ghost use Rattle.replica_exchange.specs.CursorRule.{delta_from, fits};
 ghost use Rattle.replica_exchange.specs.Stamps.{StampedState};
 ghost use Rattle.memento_index.specs.Merges.{adds_of};
+ghost use Rattle.memento_index.specs.declared.merge.Merge.TheVariants.{State};
+ghost use Rattle.delta_parts.specs.declared.part.Part.{Part};
+ghost use Rattle.delta_parts.specs.declared.walk.Walk.{Walk};
+ghost use Rattle.delta_parts.specs.PartRule.{AreWalked, IsPartOf, fits_part, walk_after, walk_end};
 ghost use Rattle.timegate.specs.Reply.{reply};
 ghost use Rattle.timegate.specs.declared.request.Request.{Request};
 ghost use Rattle.timegate.specs.declared.reply.Reply.{Reply};
@@ -21,6 +25,7 @@ ghost use Rattle.published_index.specs.Batches.{Batch, fold_of, merges_of};
 ghost use Rattle.published_index.specs.Calls.{Call, Learn, Answer, Calls};
 ghost use Rattle.published_index.specs.Cursors.{Histories, HasReached, IsDeltaOf, IsKnown};
 ghost use Rattle.published_index.specs.Cursors.{MergerCall, Publish, after_call, handed_by, merges_with_pending};
+ghost use Rattle.published_index.specs.Cursors.{state_of};
 ghost use Rattle.published_index.specs.Cursors.{receipt_of, with_cursor, with_delta, with_merge, with_publish};
 ghost use Rattle.published_index.specs.Events.{AreNumbered, RunsAsEvents, after_batch};
 ghost use Rattle.published_index.specs.Exchanges.{AreExchanged, Has, IsMadeOf, filled, published_by};
@@ -109,6 +114,31 @@ pub fn held_cursors_are_reached()
         → HasReached histories (with_merge m merge) }
     ensures publish { (histories : Histories) (m : MergerView) → HasReached histories m
         → HasReached histories (with_publish m) }
+{}
+
+/// A walk over the parts of a peer's delta says how far its merges are known, and that stays true: after each part that
+/// fits and whose entries are appended, whatever the peer merged meanwhile, after every other merge, and after a
+/// publish. With the last part the cursor moves to what the walk tells of (`walk_end`), and says it as every cursor
+/// does.
+pub fn walks_are_reached()
+    ensures part { (histories : Histories) (m : MergerView) (peer : ℕ) (walk : Option Walk) (p : Part)
+        → HasReached histories m → AreWalked (histories peer) walk (state_of m) → IsPartOf (histories peer) p
+        → fits_part (finite.get m.cursors peer) walk p ≡ true
+        → AreWalked (histories peer) (walk_after walk p) (state_of (with_merge m (State p.delta.state))) }
+    ensures last { (histories : Histories) (m : MergerView) (peer : ℕ) (walk : Option Walk) (p : Part)
+        → HasReached histories m → AreWalked (histories peer) walk (state_of m) → IsPartOf (histories peer) p
+        → fits_part (finite.get m.cursors peer) walk p ≡ true → p.until ≡ None
+        → HasReached histories (with_delta m peer (walk_end walk p)) }
+    ensures known { (histories : Histories) (m : MergerView) (peer : ℕ) (walk : Option Walk) (p : Part)
+        → HasReached histories m → AreWalked (histories peer) walk (state_of m) → IsPartOf (histories peer) p
+        → fits_part (finite.get m.cursors peer) walk p ≡ true → p.until ≡ None → IsKnown m p.delta
+        → HasReached histories (with_cursor m peer (walk_end walk p)) }
+    ensures merge { (histories : Histories) (m : MergerView) (peer : ℕ) (walk : Option Walk) (merge : Merge)
+        → AreWalked (histories peer) walk (state_of m)
+        → AreWalked (histories peer) walk (state_of (with_merge m merge)) }
+    ensures publish { (histories : Histories) (m : MergerView) (peer : ℕ) (walk : Option Walk)
+        → AreWalked (histories peer) walk (state_of m)
+        → AreWalked (histories peer) walk (state_of (with_publish m)) }
 {}
 
 /// Deltas that are asked for from the held cursor follow each other: each one fits. Once one is appended, the next one

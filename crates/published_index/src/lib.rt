@@ -35,7 +35,7 @@ pub use gates::Gate;
 pub use laws::{
     a_publish_adds_its_batch, a_publish_is_events, an_entry_is_an_ask, answers_never_go_back,
     deltas_follow_each_other, each_merge_is_published_once, exchanges_have_a_last_merge,
-    held_cursors_are_reached, same_state_same_reply, what_is_learnt_is_served,
+    held_cursors_are_reached, same_state_same_reply, walks_are_reached, what_is_learnt_is_served,
 };
 pub use mergers::{Merger, TakenAs};
 pub use openings::{MOST_GATES, open};

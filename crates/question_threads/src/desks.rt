@@ -10,7 +10,7 @@ use crate::queue::Queue;
 use crate::telling::Teller;
 use crate::terms::{NoJob, Terms};
 use crate::writing::write_text;
-use harvest_schedule::{Limits, Mood, Pace, Schedule, Turn, Verdict};
+use harvest_schedule::{Limits, Mood, Pace, Permit, Schedule, Turn, Verdict};
 use harvest_workers::{Assignment, Errand, WalkReport, WalkRules, verdict_of};
 use harvester::SocketRuntime;
 use memento_time::{NoMemory, Original, second_now};
@@ -178,13 +178,13 @@ where
         ensures { self.new.queue ≡ self.old.queue }
     {
         let now = self.now();
-        if !self.schedule.begin_walk(archive, now, false) {
+        let Some(permit) = self.schedule.begin_walk(archive, now, false) else {
             if is_left_alone(self.schedule.mood(archive), now) {
                 self.give_up(place, archive, Failing::Unasked);
             }
             return Ok(());
-        }
-        match self.assignment(place, archive) {
+        };
+        match self.assignment(place, permit) {
             Ok(assignment) => self.walk(place, archive, assignment),
             Err(NoJob::NoMemory) => Err(AskFault::NoMemory),
             Err(NoJob::TooLong) => {
@@ -195,13 +195,13 @@ where
         }
     }
 
-    fn assignment(&self, place: usize, archive: usize) -> Result<Assignment<P>, NoJob> {
+    fn assignment(&self, place: usize, permit: Permit) -> Result<Assignment<P>, NoJob> {
         let Some(question) = self.queue.get(place) else {
             return Err(NoJob::TooLong);
         };
         let second = second_now(self.rt);
         self.terms
-            .assignment(self.rt.alloc(), archive, question.original(), second)
+            .assignment(self.rt.alloc(), permit, question.original(), second)
     }
 
     /// Gives a job to a worker. Without a worker it is walked at once.

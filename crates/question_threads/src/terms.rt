@@ -3,6 +3,7 @@ ghost use Rattle.std.specs.Prelude.{◌≡◌, ◌++◌, IfOk, option_copied, sl
 ghost use Rattle.std.specs.Arc.{arc_value};
 ghost use Rattle.question_threads.specs.Jobs.{Covers, IsJobOf};
 
+use harvest_schedule::Permit;
 use harvest_workers::{Assignment, Errand, RuledFetch, WalkReport, WalkRules, walk_assignment};
 use harvester::{Job, SocketRuntime};
 use memento_time::{Clean, CleanFault, NoMemory, Original, second_now};
@@ -127,22 +128,23 @@ impl<P: WalkRules> Terms<P> {
         &*self.sources
     }
 
-    /// The job of the archive at this place for an original, to be handed out.
+    /// The job of an archive that may be asked, for an original.
     pub(crate) fn assignment(
         &self,
         alloc: Global,
-        archive: usize,
+        permit: Permit,
         original: &Original,
         revision: u64,
     ) -> Result<Assignment<P>, NoJob>
         ensures original { IfOk result (λ it. it.job.original ≡ original.now) }
     {
+        let archive = permit.archive();
         let errand = Errand::Wish { archive };
         let job = job_at(alloc, self.sources(), errand.archive(), original, revision)?;
         if !job.has_first_url() {
             return Err(NoJob::TooLong);
         }
-        Ok(Assignment::new(errand, job))
+        Ok(Assignment::new(permit, errand, job))
     }
 
     /// Walks a job that was handed out.

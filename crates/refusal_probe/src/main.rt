@@ -11,6 +11,7 @@
 mod exchange;
 mod lattice;
 mod makers;
+mod parts;
 mod replicas;
 mod replies;
 mod texts;
@@ -97,6 +98,7 @@ fn main(rt: HostRuntime) -> Result<()> {
         texts::perform(&rt, alloc)?;
         lattice::perform(&rt, alloc)?;
         replicas::perform(&rt, alloc)?;
+        parts::perform(&rt, alloc)?;
         return insist_call(&rt, walks::Adding::MemoryFetchAdd, || walks::try_add(&rt));
     }
     perform_exchange(&rt, alloc)?;

@@ -10,7 +10,7 @@ use std::alloc::Global;
 use text_fields::{leading_decimal, split_once};
 
 /// The field before the first occurrence of a byte, and what follows that byte.
-pub(crate) fn cut(text: &[u8], byte: u8) -> Result<(&[u8], &[u8]), StateFault>
+pub fn cut(text: &[u8], byte: u8) -> Result<(&[u8], &[u8]), StateFault>
     ensures found { IfOk result (λ cut. text.now ≡ cut.0.now ++ byte ∷ cut.1.now) }
     ensures first { IfOk result (λ cut. Lacks byte cut.0.now) }
     ensures refused { IfErr result (λ fault. (fault ≡ StateFault.NotState) × Lacks byte text.now) }
@@ -19,7 +19,7 @@ pub(crate) fn cut(text: &[u8], byte: u8) -> Result<(&[u8], &[u8]), StateFault>
 }
 
 /// What follows these bytes.
-pub(crate) fn skip<'a>(text: &'a [u8], front: &[u8]) -> Result<&'a [u8], StateFault>
+pub fn skip<'a>(text: &'a [u8], front: &[u8]) -> Result<&'a [u8], StateFault>
     ensures found { IfOk result (λ rest. text.now ≡ front.now ++ rest.now) }
     ensures refused { IfErr result (λ fault. (fault ≡ StateFault.NotState)
         × ((rest : List ℕ) → ¬ (text.now ≡ front.now ++ rest))) }
@@ -50,7 +50,7 @@ pub(crate) fn read_number(text: &[u8], end: u8) -> Result<(u64, &[u8]), StateFau
 
 /// An original and the end of its line, and what follows. The original has a buffer of its own, since a state keeps it
 /// as a key long after the rest of the text is gone.
-pub(crate) fn read_original(alloc: Global, text: &[u8]) -> Result<(Original, &[u8]), StateFault>
+pub fn read_original(alloc: Global, text: &[u8]) -> Result<(Original, &[u8]), StateFault>
     ensures found { IfOk result (λ read. Begins (field IsOriginal 10) text.now read.0 read.1.now) }
     ensures refused { IfErr result (λ fault. Refuses (field IsOriginal 10) text.now fault) }
 {

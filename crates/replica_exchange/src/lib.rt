@@ -71,10 +71,11 @@ mod writing;
 pub use cursor::{Cursor, Cursors, TakeFault};
 pub use delta::Delta;
 pub use fault::StateFault;
+pub use fields::{cut, read_original, skip};
 pub use laws::{
     deltas_suffice, lines_stand_in_order, one_merge_is_absorbed, one_merge_more, one_stamped_state,
     one_text_of_a_delta, one_text_of_a_state,
 };
 pub use reading::{read_delta, read_state};
 pub use stamped::{StampFault, Stamped};
-pub use writing::{write_delta, write_entry, write_state};
+pub use writing::{write_delta, write_entry, write_span, write_state};

@@ -271,7 +271,8 @@ impl Stamped {
         stamp_at(&self.stamps, archive, original)
     }
 
-    pub(crate) fn is_above(&self, archive: ArchiveName, original: &Original, start: u64) -> bool
+    /// Whether a merge behind the first `start` changed an entry last. Takes time logarithmic in the number of keys.
+    pub fn is_above(&self, archive: ArchiveName, original: &Original, start: u64) -> bool
         ensures { result ≡ is_above start (map.get self.now.stamps (archive, original.now)) }
     {
         match self.stamp(archive, original) {
@@ -333,8 +334,10 @@ impl Stamped {
         self.order.behind(start).len() > self.order.len() / 8
     }
 
-    /// The entries with a stamp above the start, if there are few of them.
-    pub(crate) fn few_above(&self, start: u64) -> Result<Option<State>, NoMemory>
+    /// The entries with a stamp above the start, if no more than an eighth of all stamps are above it; else `None`.
+    ///
+    /// Takes time linear in these entries, and for each of them logarithmic in the number of keys.
+    pub fn few_above(&self, start: u64) -> Result<Option<State>, NoMemory>
         ensures { IfOk result (λ found. IfSome found (λ state. state ≡ entries_above self.now start)) }
     {
         if self.is_much_above(start) {
@@ -345,8 +348,9 @@ impl Stamped {
         State::of_rows(self.alloc, rows)
     }
 
-    /// The start of a delta from a cursor.
-    pub(crate) fn start_from(&self, cursor: Option<Cursor>) -> u64
+    /// The start of a delta from a cursor: the cursor's number if the cursor is of this incarnation and no later than
+    /// now, and else zero.
+    pub fn start_from(&self, cursor: Option<Cursor>) -> u64
         ensures start { result ≡ start_from self.now cursor }
         ensures within { result ≤ self.now.number }
     {

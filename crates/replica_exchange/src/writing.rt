@@ -226,7 +226,14 @@ fn write_counted(out: &mut Vec<u8>, stamped: &Stamped, start: u64) -> Result<(),
     Ok(())
 }
 
-fn write_span(out: &mut Vec<u8>, incarnation: u64, start: u64, end: u64) -> Result<(), AllocError>
+/// Writes the second line of a delta's text: the incarnation, and the first and the last number of its merges. After an
+/// error some of it may have been written.
+pub fn write_span(
+    out: &mut Vec<u8>,
+    incarnation: u64,
+    start: u64,
+    end: u64,
+) -> Result<(), AllocError>
     ensures written { OnOk result (out.new.items ≡ out.old.items ++ from_line incarnation start end) }
     ensures fits { (incarnation < 2 ^ 64) × (end < 2 ^ 64) }
 {

@@ -1,3 +1,4 @@
 mod AheadLemmas
+mod FreshnessLemmas
 mod KeepingLemmas
 mod Pauses

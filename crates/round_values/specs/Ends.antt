@@ -14,6 +14,7 @@ use Rattle.service_log.specs.declared.lines.Reason.{Reason}
 use Rattle.service_log.specs.declared.lines.Reason.TheVariants as reason
 use Rattle.service_log.specs.declared.lines.PeerFault.{PeerFault}
 use Rattle.service_log.specs.declared.lines.PeerFault.TheVariants as peer
+use Rattle.service_log.specs.declared.lines.PartFault.TheVariants as part
 use Rattle.round_values.specs.Reasons.{reason_of}
 
 -- how a walk ended that failed
@@ -38,9 +39,13 @@ abbrev pub fault_end : PeerFault → PullEnd
 fault_end (peer.Pull pulled.Failed) = pull.NoAnswer
 fault_end (peer.Pull (pulled.Status status)) = pull.Status
 fault_end (peer.Pull pulled.BadState) = pull.NoDelta
+fault_end (peer.Pull pulled.TooLong) = pull.NoDelta
 fault_end (peer.Pull pulled.NoMemory) = pull.NoMemory
 fault_end (peer.Take (taken.Gap held)) = pull.Gap
 fault_end (peer.Take taken.NoMemory) = pull.NoMemory
+fault_end (peer.Part part.Apart) = pull.Gap
+fault_end (peer.Part part.Still) = pull.Gap
+fault_end (peer.Part part.NoMemory) = pull.NoMemory
 
 -- how a pull ended
 abbrev pub pull_end : Result TakenAs PeerFault → PullEnd

@@ -1,6 +1,7 @@
 pub mod Absences
 pub mod Ahead
 pub mod Counts
+pub mod Desks
 pub mod Dues
 pub mod Ends
 pub mod Freshness
@@ -12,3 +13,4 @@ pub mod Pulls
 pub mod Reasons
 pub mod Revisions
 pub mod Wishes
+pub mod Steps

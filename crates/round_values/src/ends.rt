@@ -8,7 +8,7 @@ use harvester::WalkFault;
 use outgoing_requests::PullFault;
 use published_index::TakenAs;
 use replica_exchange::TakeFault;
-use service_log::{PeerFault, Reason};
+use service_log::{PartFault, PeerFault, Reason};
 use service_status::{PullEnd, WalkEnd};
 
 /// How a walk ended that failed for this reason.
@@ -46,10 +46,12 @@ fn fault_end(fault: PeerFault) -> PullEnd
     match fault {
         PeerFault::Pull(PullFault::Failed) => PullEnd::NoAnswer,
         PeerFault::Pull(PullFault::Status(_)) => PullEnd::Status,
-        PeerFault::Pull(PullFault::BadState) => PullEnd::NoDelta,
+        PeerFault::Pull(PullFault::BadState | PullFault::TooLong) => PullEnd::NoDelta,
         PeerFault::Pull(PullFault::NoMemory) => PullEnd::NoMemory,
         PeerFault::Take(TakeFault::Gap { .. }) => PullEnd::Gap,
         PeerFault::Take(TakeFault::NoMemory) => PullEnd::NoMemory,
+        PeerFault::Part(PartFault::Apart | PartFault::Still) => PullEnd::Gap,
+        PeerFault::Part(PartFault::NoMemory) => PullEnd::NoMemory,
     }
 }
 

@@ -1,6 +1,7 @@
 //! Which jobs needn't be walked, since what is known is young enough.
-ghost use Rattle.std.specs.Prelude.{◌≡◌, ◌↔◌, ◌<◌, IsTrue};
-ghost use Rattle.round_values.specs.Freshness.{IsYoung};
+ghost use Rattle.std.specs.Prelude.{◌≡◌, ◌↔◌, ◌<◌, IsSomeAnd, IsTrue, if◌then◌else◌};
+ghost use Rattle.harvest_lattice.specs.Lattice.{whole};
+ghost use Rattle.round_values.specs.Freshness.{IsYoung, has_mementos};
 
 use crate::times::Second;
 use harvest_lattice::Entry;
@@ -17,12 +18,22 @@ pub(crate) fn is_young(seen: Second, now: Second, seconds: Option<u64>) -> bool
 }
 
 /// Whether an entry has a memento.
-pub fn has_mementos(entry: &Entry) -> bool {
-    (0..entry.revisions()).any(|k| !entry.mementos(k).is_empty())
+pub fn has_mementos(entry: &Entry) -> bool
+    ensures { result ≡ has_mementos entry.now }
+{
+    for k in 0..entry.revisions() {
+        if !entry.mementos(k).is_empty() {
+            return true;
+        }
+    }
+    false
 }
 
 /// Whether the whole harvest that is known is too young to be made anew in this second.
-pub fn is_fresh(timing: Timing, entry: &Entry, now: Second) -> bool {
+pub fn is_fresh(timing: Timing, entry: &Entry, now: Second) -> bool
+    ensures { IsTrue result ↔ IsSomeAnd (whole entry.now) (λ seen. IsYoung seen now.0
+        (if has_mementos entry.now then timing.again else timing.again_none)) }
+{
     let Some(seen) = entry.whole() else {
         return false;
     };

@@ -10,8 +10,8 @@
 //!   when), `freshness` (which jobs needn't be walked) and `ahead` (which harvests aren't taken, since they are ahead
 //!   of the clock);
 //! - a round: `rounds` (what one comes to), `revisions` (which revision a walk has), `absences` (which archives were
-//!   absent, and what follows then), `leads` (from where peers are asked), `ordering` (in which order originals are
-//!   gone over) and `keeping` (the file of what is known);
+//!   absent, and what follows then), `leads` (from where peers are asked), `steps` (how far the parts of a peer's delta
+//!   were taken), `ordering` (in which order originals are gone over) and `keeping` (the file of what is known);
 //! - wishes: `desks` (those that were granted, and how far they are) and `wished` (what the walk of one says);
 //! - what is told: `logs` (where the log goes), `notes` and `reasons` (how walks ended, for it), and, for the status,
 //!   `ends` (how walks and pulls ended) and `known` (how much is known);
@@ -35,6 +35,7 @@ mod ordering;
 mod reasons;
 mod revisions;
 mod rounds;
+mod steps;
 mod times;
 mod wished;
 
@@ -47,13 +48,17 @@ pub use ends::{pull_end, walk_end};
 pub use freshness::{has_mementos, is_fresh};
 pub use keeping::{Keeping, PublishEnd};
 pub use known::known_in;
-pub use laws::{later_walks_win, pauses_are_whole, pauses_by_example, revisions_by_example};
+pub use laws::{
+    later_walks_win, pauses_are_whole, pauses_by_example, revisions_by_example, waits_by_example,
+    youth_by_example,
+};
 pub use leads::{Lead, asked_from, follows, led_by};
 pub use logs::Log;
 pub use notes::Notes;
 pub use ordering::shuffle;
 pub use revisions::revision_of;
 pub use rounds::Round;
+pub use steps::{Stepped, Walking, next_ask, step};
 pub use times::{Millis, Second};
 pub use wished::{
     DEFAULT_AGAIN, answer_to, is_kept, is_left_alone, is_waited_for, room_left, wish_timing,

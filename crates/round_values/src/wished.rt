@@ -50,6 +50,7 @@ pub fn wish_timing(timing: Timing) -> Timing
         ahead: timing.ahead,
         publish: timing.publish,
         pull: timing.pull,
+        parts: timing.parts,
     }
 }
 

@@ -13,7 +13,12 @@ use Rattle.harvester.specs.Unkept.{Comes}
 use Rattle.harvest_workers.specs.declared.errands.Errand.{Errand}
 use Rattle.replica_exchange.specs.declared.delta.Delta.{Delta}
 use Rattle.replica_exchange.specs.CursorRule.{fits}
-use Rattle.outgoing_requests.specs.Pulls.{IsBrought}
+use Rattle.outgoing_requests.specs.Pulls.{IsPartBrought, IsPulled}
+use Rattle.outgoing_requests.specs.declared.pulls.Pulled.{Pulled}
+use Rattle.outgoing_requests.specs.declared.pulls.Pulled.TheVariants.{Whole, InPart}
+use Rattle.delta_parts.specs.declared.part.Part.{Part}
+use Rattle.delta_parts.specs.declared.walk.Walk.{Walk}
+use Rattle.delta_parts.specs.PartRule.{walk_end}
 use Rattle.published_index.specs.declared.mergers.TakenAs.{TakenAs}
 use Rattle.published_index.specs.declared.mergers.TakenAs.TheVariants.{News, Known}
 use Rattle.published_index.specs.Cursors.{IsTaken, with_delta, with_merge, with_publish}
@@ -25,7 +30,7 @@ use Rattle.round_values.specs.declared.rounds.Round.{Round}
 use Rattle.round_values.specs.Pulls.{Pulls, PullsNothing, PullsSome}
 use Rattle.forgetting.specs.Renewing.{ForgetsSome, rule_of}
 use Rattle.forgetting.specs.Sifting.{TakesAs}
-use Rattle.service_ledger.specs.Leads.{IsPart, brought, kept, timely, IsWalked, Leads, begins, walked, takes, follows, moves, publishes, forgets}
+use Rattle.service_ledger.specs.Leads.{IsPart, brought, stepped, kept, timely, IsWalked, Leads, begins, walked, takes, follows, moves, publishes, forgets}
 
 -- what a walk gave, if it gave a harvest
 pub walk_gave : (jobs : Errand → Job → Type 0) (answers : List ℕ → Answer → Type 0) (faults : List ℕ → FetchFault → Type 0)
@@ -40,9 +45,17 @@ walk_gave jobs answers faults errand job begun result asked h gave own comes = �
   comes = subst (λ (r : Result Harvested WalkFault). ∥ Comes answers faults job begun r asked ∥₁) gave comes;
 } ∣₁
 
--- what an answer brought, if it brought a delta
-pub was_brought : {E : Type 0} (answer : Result Delta E) (d : Delta) → answer ≡ Ok d → ∥ IfOk answer IsBrought ∥₁ → ∥ IsPart d ∥₁
-was_brought answer d is came = ∥∥₁_map came (λ b. brought d (subst (λ r. IfOk r IsBrought) is b))
+-- what an answer brought, if it brought a whole delta
+pub pulled_whole : {E : Type 0} (answer : Result Pulled E) (d : Delta) → answer ≡ Ok (Whole d) → ∥ IfOk answer IsPulled ∥₁ → ∥ IsPart d ∥₁
+pulled_whole answer d is came = ∥∥₁_map came (λ b. brought d (subst (λ r. IfOk r IsPulled) is b))
+
+-- and if it brought a part
+pub pulled_part : {E : Type 0} (answer : Result Pulled E) (p : Part) → answer ≡ Ok (InPart p) → ∥ IfOk answer IsPulled ∥₁ → ∥ IsPartBrought p ∥₁
+pulled_part answer p is came = ∥∥₁_map came (λ b. subst (λ r. IfOk r IsPulled) is b)
+
+-- the delta of which a walk tells with a part
+pub was_stepped : (w : Option Walk) (p : Part) (d : Delta) → d ≡ walk_end w p → ∥ IsPartBrought p ∥₁ → ∥ IsPart d ∥₁
+was_stepped w p d is came = subst (λ (e : Delta). ∥ IsPart e ∥₁) (sym is) (∥∥₁_map came (λ b. stepped w p b))
 
 -- what a rule keeps of it
 pub part_kept : (keeps : Rule) (d some : Delta) → some ≡ record d { state = some.state } → some.state ≡ restrict keeps d.state → ∥ IsPart d ∥₁ → ∥ IsPart some ∥₁

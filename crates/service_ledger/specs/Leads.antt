@@ -10,7 +10,10 @@ use Rattle.harvester.specs.Unkept.{Comes}
 use Rattle.harvest_workers.specs.declared.errands.Errand.{Errand}
 use Rattle.replica_exchange.specs.declared.delta.Delta.{Delta}
 use Rattle.replica_exchange.specs.CursorRule.{fits}
-use Rattle.outgoing_requests.specs.Pulls.{IsBrought}
+use Rattle.outgoing_requests.specs.Pulls.{IsBrought, IsPartBrought}
+use Rattle.delta_parts.specs.declared.part.Part.{Part}
+use Rattle.delta_parts.specs.declared.walk.Walk.{Walk}
+use Rattle.delta_parts.specs.PartRule.{walk_end}
 use Rattle.published_index.specs.Cursors.{IsKnown, with_cursor, with_delta, with_merge, with_publish}
 use Rattle.published_index.specs.Views.{MergerView}
 use Rattle.retention.specs.Restriction.{Rule, restrict}
@@ -31,10 +34,11 @@ pub record IsWalked (jobs : Errand → Job → Type 0) (answers : List ℕ → A
   pub own : ∥ jobs errand job ∥₁
   pub comes : ∥ Comes answers faults job begun (Ok h) asked ∥₁
 
--- A delta that an answer of a peer brought, or what is taken of such a delta: what a rule keeps of its state, or what
--- isn't ahead of a second.
+-- A delta that an answer of a peer brought; what such a part of one brought, with the merges of which the walk over the
+-- parts tells; or what is taken of such a delta: what a rule keeps of its state, or what isn't ahead of a second.
 pub data IsPart : Delta → Type 0 where
   brought : (d : Delta) → IsBrought d → IsPart d
+  stepped : (w : Option Walk) (p : Part) → IsPartBrought p → IsPart (walk_end w p)
   kept : (keeps : Rule) (d : Delta) → IsPart d → IsPart (record d { state = restrict keeps d.state })
   timely : (last : ℕ) (d : Delta) → IsPart d → IsPart (record d { state = taken last d.state })
 

@@ -11,7 +11,9 @@ use Rattle.snapshots.specs.declared.faults.WriteFault.TheVariants as unwritten
 use Rattle.service_log.specs.Counts.{counts_words}
 use Rattle.service_log.specs.Forgotten.{forgotten_words, withdrawn_words}
 use Rattle.service_log.specs.declared.lines.PeerFault.{PeerFault}
-use Rattle.service_log.specs.declared.lines.PeerFault.TheVariants.{Pull, Take}
+use Rattle.service_log.specs.declared.lines.PeerFault.TheVariants.{Pull, Take, Part}
+use Rattle.service_log.specs.declared.lines.PartFault.{PartFault}
+use Rattle.service_log.specs.declared.lines.PartFault.TheVariants.{Apart, Still, NoMemory as PartNoMemory}
 use Rattle.service_log.specs.declared.lines.Cause.{Cause}
 use Rattle.service_log.specs.declared.lines.Cause.TheVariants.{Known, Unknown}
 use Rattle.service_log.specs.declared.lines.Matter.{Matter}
@@ -36,10 +38,17 @@ use Rattle.service_log.specs.declared.lines.ListMatter.{ListMatter}
 use Rattle.service_log.specs.declared.lines.ListMatter.TheVariants.{Bad, More, Unread, Unreadable, NoMemory}
 use Rattle.service_log.specs.declared.lines.WishCounts.{WishCounts}
 
+-- why a part isn't accepted
+abbrev pub part_words : PartFault → List ℕ
+part_words Apart = codes "a part that doesn't go on"
+part_words Still = codes "a part that ends no further on"
+part_words PartNoMemory = codes "no memory"
+
 -- why a peer brought nothing
 abbrev pub peer_words : PeerFault → List ℕ
 peer_words (Pull fault) = pull_words fault
 peer_words (Take fault) = rule.words_of fault
+peer_words (Part fault) = part_words fault
 
 -- why the first walk failed, behind how many did
 abbrev pub cause_words : Cause → List ℕ

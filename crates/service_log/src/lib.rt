@@ -15,7 +15,7 @@ mod writing;
 pub use counts::Counts;
 pub use forgotten::{Forgotten, KeptEntries, Took, WithdrawnMatter};
 pub use lines::{
-    Cause, Dormancy, GateEnd, Greeting, JobsLeft, Line, ListMatter, Matter, PeerFault, Progress,
-    Reason, Respite, SnapshotEnd, Want, WishCounts, name_text,
+    Cause, Dormancy, GateEnd, Greeting, JobsLeft, Line, ListMatter, Matter, PartFault, PeerFault,
+    Progress, Reason, Respite, SnapshotEnd, Want, WishCounts, name_text,
 };
 pub use writing::write_line;

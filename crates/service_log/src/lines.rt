@@ -1,6 +1,6 @@
 //! The lines of the log.
 ghost use Rattle.std.specs.Prelude.{◌≡◌, Some};
-ghost use Rattle.service_log.specs.Logs.{cause_words, end_words, line_words, matter_words, peer_words, want_words};
+ghost use Rattle.service_log.specs.Logs.{cause_words, end_words, line_words, matter_words, part_words, peer_words, want_words};
 ghost use Rattle.service_log.specs.Logs.{dormancy_words, greeting_words, progress_words, reason_words, snapshot_words};
 ghost use Rattle.service_log.specs.Logs.{left_words, list_words, respite_words, wish_words};
 
@@ -22,6 +22,31 @@ pub enum PeerFault {
     Pull(PullFault),
     /// The peer's delta wasn't accepted.
     Take(TakeFault),
+    /// A part of the peer's delta wasn't accepted.
+    Part(PartFault),
+}
+
+/// Why a part of a peer's delta isn't accepted.
+#[derive(Clone, Copy, Debug, PartialEq, Eq)]
+pub enum PartFault {
+    /// It neither goes on with the walk over the parts before it nor begins one from the cursor that is held.
+    Apart,
+    /// It ends no further on than the part before it.
+    Still,
+    /// The allocator refused a growth.
+    NoMemory,
+}
+
+impl fmt::Display for PartFault {
+    ghost output = { λ fault. Some (part_words fault) };
+
+    fn fmt<W: fmt::Write>(&self, f: &mut fmt::Formatter<W>) -> fmt::Result {
+        match self {
+            PartFault::Apart => f.write_str("a part that doesn't go on"),
+            PartFault::Still => f.write_str("a part that ends no further on"),
+            PartFault::NoMemory => f.write_str("no memory"),
+        }
+    }
 }
 
 impl fmt::Display for PeerFault {
@@ -31,6 +56,7 @@ impl fmt::Display for PeerFault {
         match self {
             PeerFault::Pull(fault) => write!(f, "{fault}"),
             PeerFault::Take(fault) => write!(f, "{fault}"),
+            PeerFault::Part(fault) => write!(f, "{fault}"),
         }
     }
 }

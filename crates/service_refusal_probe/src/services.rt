@@ -1,8 +1,10 @@
 //! Calls of mergers and gates, of what stands between them and HTTP, and of settings.
 use anyhow::Result;
+use delta_parts::PartAsk;
 use gate_server::{Answers, GateService, Readiness, form, request_of};
 use memento_time::{Items, Octets};
 use outgoing_requests::{Agent, allowed_addresses, read_host};
+use part_gates::PartGate;
 use published_index::{Gate, GateFault, Merger, ask_both, open};
 use refused_calls::{Change, Tried, insist, share};
 use replica_exchange::{Delta, read_delta};
@@ -22,6 +24,9 @@ at 1 1
 946684800 http://m.example/1
 end
 ";
+
+/// How many bytes of entries' lines fill a part.
+const ROOM: usize = 1;
 
 /// Calls without a runtime.
 #[derive(Clone, Copy, Debug)]
@@ -109,6 +114,8 @@ impl Answers for Steady {
 enum OnGate {
     Open,
     GateAnswerThen,
+    GateAnswerPart,
+    PartGateReply,
     AskBoth,
     MergerAppendDelta,
     MergerTakeDelta,
@@ -120,9 +127,11 @@ enum Responding {
     GateServiceRespond,
 }
 
-const ON_GATES: [OnGate; 5] = [
+const ON_GATES: [OnGate; 7] = [
     OnGate::Open,
     OnGate::GateAnswerThen,
+    OnGate::GateAnswerPart,
+    OnGate::PartGateReply,
     OnGate::AskBoth,
     OnGate::MergerAppendDelta,
     OnGate::MergerTakeDelta,
@@ -169,6 +178,32 @@ fn try_answer_then<R: Wait>(rt: &R, alloc: Global) -> Option<Tried> {
     let mut tried = None;
     if let Some(mut gate) = gates.pop() {
         tried = Some(answer_and_count(&mut gate, &question));
+    }
+    merger.close(rt);
+    tried
+}
+
+/// Asks a gate for the first part of all that it knows, by itself or with room for parts.
+fn ask_for_part(alloc: Global, mut gate: Gate, call: OnGate, question: &Request) -> Tried {
+    let is_answered = match call {
+        OnGate::PartGateReply => {
+            let mut gate = PartGate::new(alloc, gate, Some(ROOM));
+            matches!(gate.reply(question), Ok(reply) if reply.status == 200)
+        }
+        _ => gate.answer_part(&PartAsk::First(None), ROOM).is_ok(),
+    };
+    Tried::of(is_answered)
+}
+
+fn try_part<R: Wait>(rt: &R, alloc: Global, call: OnGate) -> Option<Tried> {
+    let question = get(alloc, b"/part")?;
+    let base = service(alloc)?;
+    let Ok((merger, mut gates)) = open(rt, alloc, base, 1, 1) else {
+        return None;
+    };
+    let mut tried = None;
+    if let Some(gate) = gates.pop() {
+        tried = Some(ask_for_part(alloc, gate, call, &question));
     }
     merger.close(rt);
     tried
@@ -250,6 +285,7 @@ fn try_on_gate<R: Wait>(rt: &R, alloc: Global, call: OnGate) -> Option<Tried> {
     match call {
         OnGate::Open => try_open(rt, alloc),
         OnGate::GateAnswerThen => try_answer_then(rt, alloc),
+        OnGate::GateAnswerPart | OnGate::PartGateReply => try_part(rt, alloc, call),
         OnGate::AskBoth => try_ask_both(rt, alloc),
         OnGate::MergerAppendDelta | OnGate::MergerTakeDelta => try_take(rt, alloc, call),
     }

@@ -53,6 +53,7 @@ is_name-all key.AgainNone = refl
 is_name-all key.Ahead = refl
 is_name-all key.Publish = refl
 is_name-all key.Pull = refl
+is_name-all key.Parts = refl
 is_name-all key.Agent = refl
 is_name-all key.Ready = refl
 is_name-all key.Wanted = refl

@@ -38,6 +38,7 @@ holding_words key.AgainNone = number_words key.AgainNone
 holding_words key.Ahead = number_words key.Ahead
 holding_words key.Publish = number_words key.Publish
 holding_words key.Pull = number_words key.Pull
+holding_words key.Parts = number_words key.Parts
 holding_words key.Agent = range_words key.Agent ++ codes " visible bytes of ASCII and blanks"
 holding_words key.Ready = codes "true or false"
 holding_words key.Wanted = number_words key.Wanted

@@ -28,6 +28,7 @@ name_of key.AgainNone = codes "again_none"
 name_of key.Ahead = codes "ahead"
 name_of key.Publish = codes "publish"
 name_of key.Pull = codes "pull"
+name_of key.Parts = codes "parts"
 name_of key.Agent = codes "agent"
 name_of key.Ready = codes "ready"
 name_of key.Wanted = codes "wanted"
@@ -49,8 +50,8 @@ abbrev pub all_keys : List Key
 all_keys =
     key.Base ∷ key.Gates ∷ key.Connections ∷ key.Rounds ∷ key.Pause ∷ key.Workers ∷ key.Originals ∷ key.Peers ∷
     key.Archives ∷ key.Patience ∷ key.Hosts ∷ key.Log ∷ key.Walks ∷ key.AtOnce ∷ key.Tolerance ∷ key.Dormant ∷
-    key.Walk ∷ key.Rate ∷ key.Again ∷ key.AgainNone ∷ key.Ahead ∷ key.Publish ∷ key.Pull ∷ key.Agent ∷ key.Ready ∷
-    key.Wanted ∷ key.Wishes ∷ key.Alike ∷ key.OriginalsFile ∷ key.Snapshot ∷ key.SnapshotEvery ∷ key.Formats ∷
+    key.Walk ∷ key.Rate ∷ key.Again ∷ key.AgainNone ∷ key.Ahead ∷ key.Publish ∷ key.Pull ∷ key.Parts ∷ key.Agent ∷
+    key.Ready ∷ key.Wanted ∷ key.Wishes ∷ key.Alike ∷ key.OriginalsFile ∷ key.Snapshot ∷ key.SnapshotEvery ∷ key.Formats ∷
     key.Status ∷ key.Together ∷ key.Wait ∷ key.Forget ∷ key.WithdrawnFile ∷ key.Most ∷ []
 
 -- the text is the name of one of these keys

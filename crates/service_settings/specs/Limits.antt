@@ -29,6 +29,7 @@ limits key.AgainNone = (1, 2592000)
 limits key.Ahead = (1, 2592000)
 limits key.Publish = (1, 86400)
 limits key.Pull = (1, 86400)
+limits key.Parts = (1, 128)
 limits key.Agent = (1, 256)
 limits key.Ready = (0, 1)
 limits key.Wanted = (0, 1000000)
@@ -120,6 +121,9 @@ pub record AreLimits : Type 0 where
   pub no_pull : ¬ IsWithin key.Pull 0
   pub a_pull : IsWithin key.Pull 1
   pub pull : TakesUpTo key.Pull (24 * 60 * 60)
+  pub no_parts : ¬ IsWithin key.Parts 0
+  pub a_part : IsWithin key.Parts 1
+  pub parts : TakesUpTo key.Parts 128
   pub no_agent : ¬ IsWithin key.Agent 0
   pub an_agent : IsWithin key.Agent 1
   pub agent : TakesUpTo key.Agent (2 ^ 8)

@@ -51,6 +51,8 @@ pub enum Key {
     /// Optional.
     Pull,
     /// Optional.
+    Parts,
+    /// Optional.
     Agent,
     /// Optional.
     Ready,
@@ -84,7 +86,7 @@ pub enum Key {
 
 impl Key {
     /// All keys.
-    pub const ALL: [Key; 38] = [
+    pub const ALL: [Key; 39] = [
         Key::Base,
         Key::Gates,
         Key::Connections,
@@ -108,6 +110,7 @@ impl Key {
         Key::Ahead,
         Key::Publish,
         Key::Pull,
+        Key::Parts,
         Key::Agent,
         Key::Ready,
         Key::Wanted,
@@ -166,6 +169,7 @@ impl Key {
             Key::Ahead => "ahead",
             Key::Publish => "publish",
             Key::Pull => "pull",
+            Key::Parts => "parts",
             Key::Agent => "agent",
             Key::Ready => "ready",
             Key::Wanted => "wanted",
@@ -212,6 +216,7 @@ impl Key {
             | Key::Forget => { (1, 86_400) }
             Key::Rate => (1, 1_000_000),
             Key::Again | Key::AgainNone | Key::Ahead => (1, 2_592_000),
+            Key::Parts => (1, 128),
             Key::Agent => (1, 256),
             Key::Wanted => (0, 1_000_000),
             Key::Wishes => (1, 60_000),

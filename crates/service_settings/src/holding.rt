@@ -51,6 +51,7 @@ impl fmt::Display for Holding {
             | Key::Ahead
             | Key::Publish
             | Key::Pull
+            | Key::Parts
             | Key::Wanted
             | Key::Wishes
             | Key::SnapshotEvery

@@ -140,6 +140,11 @@ pub entries_example : (s : Status) (p : PeerStatus) → s.peers.items ≡ p ∷ 
 unfolding name_of entry_rows digits
 entries_example = λ s p is base number entries. rw (is, base, number, entries) refl
 
+pub parts_example : (s : Status) (p : PeerStatus) → s.peers.items ≡ p ∷ [] → p.base ≡ codes "http://p" → p.number ≡ 1 → p.parts ≡ 5
+    → lines_told s metric.PullParts ≡ codes "maplewrench_pull_parts_total{peer=\"http://p\",number=\"1\"} 5\n"
+unfolding name_of digits
+parts_example = λ s p is base number parts. rw (is, base, number, parts) refl
+
 pub known_example : (s : Status) → s.known ≡ record { entries = 5; mementos = 50; ahead = 1 }
     → (lines_told s metric.Entries ≡ codes "maplewrench_entries 5\n")
     × (lines_told s metric.Mementos ≡ codes "maplewrench_mementos 50\n")
@@ -183,3 +188,4 @@ kinds_fit metric.Floor = refl
 kinds_fit metric.PullEntries = refl
 kinds_fit metric.UnlistedMementos = refl
 kinds_fit metric.UnlistedLimit = refl
+kinds_fit metric.PullParts = refl

@@ -17,7 +17,7 @@ use Rattle.service_status.specs.declared.status.SnapshotStatus.{SnapshotStatus}
 use Rattle.service_status.specs.declared.status.ForgettingStatus.{ForgettingStatus}
 use Rattle.service_status.specs.declared.status.Status.{Status}
 use Rattle.service_status.specs.Exposition.{Label, Sample}
-use Rattle.service_status.specs.Metrics.{name_of, metrics, forgetting_metrics}
+use Rattle.service_status.specs.Metrics.{name_of, metrics, forgetting_metrics, part_metrics}
 use Rattle.service_status.specs.Counts.{Row, walk_rows, pull_rows, reply_rows, wish_rows, entry_rows}
 use Rattle.service_status.specs.Samples.{by_end, bit, if_known, archive_labels, peer_labels, gate_labels, archive_samples, peer_samples, gate_samples, snapshot_samples, wish_samples}
 use Rattle.service_status.specs.Samples.{forgetting_samples, most_of, samples_of}
@@ -248,6 +248,14 @@ last_apart peers apart =
     (λ peer. one_apart (peer_labels peer, peer.last))
     peers apart
 
+parts_apart : (peers : List PeerStatus) → AreApart (λ (peer : PeerStatus). decimal peer.number) peers
+    → AreApart labels_in (flat_map (peer_samples metric.PullParts) peers)
+parts_apart peers apart =
+    flat_apart (peer_samples metric.PullParts) labels_in second_value (λ (peer : PeerStatus). decimal peer.number)
+    (λ peer. one_owns second_value (peer_labels peer, peer.parts) (decimal peer.number) refl) second_told
+    (λ peer. one_apart (peer_labels peer, peer.parts))
+    peers apart
+
 entries_apart : (peers : List PeerStatus) → AreApart (λ (peer : PeerStatus). decimal peer.number) peers
     → AreApart labels_in (flat_map (peer_samples metric.PullEntries) peers)
 entries_apart peers apart =
@@ -264,9 +272,9 @@ replies_apart gates apart =
     (λ gate. rows_apart (gate_labels gate) (codes "status") (reply_rows gate.replies) (reply_words gate))
     gates apart
 
-names_apart : AreApart name_of (metrics ++ forgetting_metrics)
+names_apart : AreApart name_of (metrics ++ forgetting_metrics ++ part_metrics)
 unfolding name_of
-names_apart = apart_by_test name_of (metrics ++ forgetting_metrics) refl
+names_apart = apart_by_test name_of (metrics ++ forgetting_metrics ++ part_metrics) refl
 
 labels_apart : (s : Status) → AreToldApart s → (m : Metric) → AreApart labels_in (samples_of s m)
 labels_apart s apart metric.Clock = one_apart ([], s.clock)
@@ -308,6 +316,8 @@ labels_apart s apart metric.PullEntries =
     entries_apart s.peers.items (decimals_apart (λ (peer : PeerStatus). peer.number) s.peers.items apart.peers.1 apart.peers.0)
 labels_apart s apart metric.UnlistedMementos = known_apart (option_map (λ forgetting. forgetting.mementos) s.forgetting)
 labels_apart s apart metric.UnlistedLimit = known_apart (most_of s.forgetting)
+labels_apart s apart metric.PullParts =
+    parts_apart s.peers.items (decimals_apart (λ (peer : PeerStatus). peer.number) s.peers.items apart.peers.1 apart.peers.0)
 
 pub told_once : NoSeriesTwice
 told_once s apart = record { names = names_apart; labels = labels_apart s apart }

@@ -129,6 +129,8 @@ pub record AreExamples : Type 0 where
       → lines_told s metric.PullEntries
       ≡ codes "maplewrench_pull_entries_total{peer=\"http://p\",number=\"1\",outcome=\"taken\"} 3\n"
       ++ codes "maplewrench_pull_entries_total{peer=\"http://p\",number=\"1\",outcome=\"left\"} 9\n"
+  pub parts : (s : Status) (p : PeerStatus) → s.peers.items ≡ p ∷ [] → p.base ≡ codes "http://p" → p.number ≡ 1 → p.parts ≡ 5
+      → lines_told s metric.PullParts ≡ codes "maplewrench_pull_parts_total{peer=\"http://p\",number=\"1\"} 5\n"
   pub known : (s : Status) → s.known ≡ record { entries = 5; mementos = 50; ahead = 1 }
       → (lines_told s metric.Entries ≡ codes "maplewrench_entries 5\n")
       × (lines_told s metric.Mementos ≡ codes "maplewrench_mementos 50\n")

@@ -39,6 +39,7 @@ name_of metric.Floor = codes "maplewrench_floor_timestamp_seconds"
 name_of metric.PullEntries = codes "maplewrench_pull_entries_total"
 name_of metric.UnlistedMementos = codes "maplewrench_unlisted_mementos"
 name_of metric.UnlistedLimit = codes "maplewrench_unlisted_mementos_limit"
+name_of metric.PullParts = codes "maplewrench_pull_parts_total"
 
 -- what is counted
 unfoldable pub help_of : Metric → List ℕ
@@ -76,6 +77,7 @@ help_of metric.Floor = codes "From when on unlisted originals are kept that nobo
 help_of metric.PullEntries = codes "Entries of peers' deltas by peer, and by whether they were taken or left."
 help_of metric.UnlistedMementos = codes "Mementos of originals that no round looks after, when they were counted last."
 help_of metric.UnlistedLimit = codes "Mementos that originals that no round looks after may have."
+help_of metric.PullParts = codes "Parts of peers' deltas by peer, counted as they are taken."
 
 -- the kind
 unfoldable pub kind_of : Metric → List ℕ
@@ -113,6 +115,7 @@ kind_of metric.Floor = codes "gauge"
 kind_of metric.PullEntries = codes "counter"
 kind_of metric.UnlistedMementos = codes "gauge"
 kind_of metric.UnlistedLimit = codes "gauge"
+kind_of metric.PullParts = codes "counter"
 
 -- those that each status tells, in order
 abbrev pub metrics : List Metric
@@ -128,3 +131,7 @@ abbrev pub forgetting_metrics : List Metric
 forgetting_metrics =
     metric.Forgettings ∷ metric.ForgottenEntries ∷ metric.Floor ∷ metric.PullEntries ∷ metric.UnlistedMementos
     ∷ metric.UnlistedLimit ∷ []
+
+-- those that a status tells behind these, where deltas come in parts
+abbrev pub part_metrics : List Metric
+part_metrics = metric.PullParts ∷ []

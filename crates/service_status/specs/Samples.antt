@@ -12,7 +12,7 @@ use Rattle.service_status.specs.declared.status.SnapshotStatus.{SnapshotStatus}
 use Rattle.service_status.specs.declared.status.ForgettingStatus.{ForgettingStatus}
 use Rattle.service_status.specs.declared.status.Status.{Status}
 use Rattle.service_status.specs.Exposition.{Label, Sample, sample_line, help_line, type_line}
-use Rattle.service_status.specs.Metrics.{name_of, help_of, kind_of, metrics, forgetting_metrics}
+use Rattle.service_status.specs.Metrics.{name_of, help_of, kind_of, metrics, forgetting_metrics, part_metrics}
 use Rattle.service_status.specs.Counts.{Row, walk_rows, pull_rows, reply_rows, wish_rows, entry_rows}
 
 -- a metric with one sample and no label
@@ -78,11 +78,16 @@ last_of peer = (peer_labels peer, peer.last) ∷ []
 abbrev pub entries_of : PeerStatus → List Sample
 entries_of peer = by_end (peer_labels peer) (codes "outcome") (entry_rows peer.entries)
 
+-- how many parts of a peer's deltas were taken
+abbrev pub parts_of : PeerStatus → List Sample
+parts_of peer = (peer_labels peer, peer.parts) ∷ []
+
 -- what is told of a peer
 abbrev pub peer_samples : Metric → PeerStatus → List Sample
 peer_samples metric.Pulls peer = pulls_of peer
 peer_samples metric.LastDelta peer = last_of peer
 peer_samples metric.PullEntries peer = entries_of peer
+peer_samples metric.PullParts peer = parts_of peer
 peer_samples _ peer = []
 
 -- what a gate replied
@@ -159,6 +164,7 @@ samples_of s metric.Floor = if_known (option_map (λ forgetting. forgetting.floo
 samples_of s metric.PullEntries = flat_map (peer_samples metric.PullEntries) s.peers.items
 samples_of s metric.UnlistedMementos = if_known (option_map (λ forgetting. forgetting.mementos) s.forgetting)
 samples_of s metric.UnlistedLimit = if_known (most_of s.forgetting)
+samples_of s metric.PullParts = flat_map (peer_samples metric.PullParts) s.peers.items
 
 -- the lines of samples
 abbrev pub lines_of : Metric → List Sample → List ℕ
@@ -174,6 +180,13 @@ abbrev pub more_of : Option ForgettingStatus → List Metric
 more_of None = []
 more_of (Some f) = forgetting_metrics
 
+-- the metrics of deltas in parts, if peers are asked for them
+abbrev pub of_parts : Bool → List Metric
+of_parts true = part_metrics
+of_parts false = []
+
 -- the whole
 unfoldable pub status_text : Status → List ℕ
-status_text s = flat_map (metric_text s) metrics ++ flat_map (metric_text s) (more_of s.forgetting)
+status_text s =
+    flat_map (metric_text s) metrics ++ flat_map (metric_text s) (more_of s.forgetting)
+    ++ flat_map (metric_text s) (of_parts s.is_in_parts)

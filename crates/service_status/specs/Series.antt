@@ -2,7 +2,7 @@
 use Rattle.std.specs.Prelude.{◌≡◌, ℕ, ◌<◌, ◌^◌, ⊤, List, [], ◌∷◌, ◌++◌, All}
 use Rattle.service_status.specs.declared.metrics.Metric.{Metric}
 use Rattle.service_status.specs.declared.status.Status.{Status}
-use Rattle.service_status.specs.Metrics.{name_of, metrics, forgetting_metrics}
+use Rattle.service_status.specs.Metrics.{name_of, metrics, forgetting_metrics, part_metrics}
 use Rattle.service_status.specs.Samples.{samples_of}
 
 -- no two elements have one key
@@ -23,7 +23,7 @@ pub record AreToldApart (s : Status) : Type 0 where
 -- no two lines of a status have one name and one list of labels: no two metrics have one name, and no two samples of a
 -- metric have one list of labels
 pub record IsEachToldOnce (s : Status) : Type 0 where
-  pub names : AreApart name_of (metrics ++ forgetting_metrics)
+  pub names : AreApart name_of (metrics ++ forgetting_metrics ++ part_metrics)
   pub labels : (m : Metric) → AreApart (λ sample. sample.0) (samples_of s m)
 
 -- so it is for each status whose archives, peers and gates are apart

@@ -39,6 +39,7 @@ fn numbered_peers(alloc: Global, bases: Vec<Clean>) -> Result<Vec<PeerStatus>, N
             pulls: PullCounts::NONE,
             last: 0,
             entries: EntryCounts::NONE,
+            parts: 0,
         })?;
     }
     Ok(peers)
@@ -60,7 +61,7 @@ fn numbered_gates(alloc: Global, count: usize) -> Result<Vec<GateStatus>, NoMemo
 
 impl Status {
     /// The status of a service of this version that begins, with archives of these names, peers with these bases, and
-    /// so many gates. Nothing is told of snapshots, wishes, a file of originals and what is forgotten.
+    /// so many gates. Nothing is told of snapshots, wishes, a file of originals, what is forgotten and parts.
     pub fn begin(
         alloc: Global,
         version: &'static str,
@@ -99,6 +100,7 @@ impl Status {
             room: None,
             list: None,
             forgetting: None,
+            is_in_parts: false,
         })
     }
 }

@@ -200,6 +200,18 @@ impl StatusBoard {
         }
     }
 
+    /// Counts a part of the delta of the peer with this number, counted from 1.
+    pub fn add_part<R: Wait>(&self, rt: &R, number: u64) {
+        if let Some(shared) = &self.shared {
+            let mut status = shared.lock(rt);
+            for (of, peer) in (1..).zip(&mut status.peers) {
+                if of == number {
+                    peer.add_part();
+                }
+            }
+        }
+    }
+
     /// Counts a forgetting of so many entries, after which this is the floor, if something is forgotten at all.
     pub fn add_forgetting<R: Wait>(&self, rt: &R, entries: u64, floor: u64) {
         if let Some(shared) = &self.shared {

@@ -1,6 +1,6 @@
 //! The metrics that are told.
 ghost use Rattle.std.specs.Prelude.{◌≡◌};
-ghost use Rattle.service_status.specs.Metrics.{name_of, help_of, kind_of, metrics, forgetting_metrics};
+ghost use Rattle.service_status.specs.Metrics.{name_of, help_of, kind_of, metrics, forgetting_metrics, part_metrics};
 
 /// What is counted or measured.
 #[derive(Clone, Copy, Debug, PartialEq, Eq)]
@@ -39,6 +39,7 @@ pub enum Metric {
     PullEntries,
     UnlistedMementos,
     UnlistedLimit,
+    PullParts,
 }
 
 impl Metric {
@@ -92,6 +93,13 @@ impl Metric {
         ]
     }
 
+    /// The metrics of deltas in parts, in the order in which they are told behind those.
+    pub fn of_parts() -> [Metric; 1]
+        ensures { result ≡ part_metrics }
+    {
+        [Metric::PullParts]
+    }
+
     /// The metric's name.
     #[tactic(auto, unfolding(crate::specs::Metrics::name_of))]
     pub fn name(self) -> &'static str
@@ -132,6 +140,7 @@ impl Metric {
             Metric::PullEntries => "maplewrench_pull_entries_total",
             Metric::UnlistedMementos => "maplewrench_unlisted_mementos",
             Metric::UnlistedLimit => "maplewrench_unlisted_mementos_limit",
+            Metric::PullParts => "maplewrench_pull_parts_total",
         }
     }
 
@@ -191,6 +200,7 @@ impl Metric {
             Metric::UnlistedMementos =>
                 "Mementos of originals that no round looks after, when they were counted last.",
             Metric::UnlistedLimit => "Mementos that originals that no round looks after may have.",
+            Metric::PullParts => "Parts of peers' deltas by peer, counted as they are taken.",
         }
     }
 
@@ -210,6 +220,7 @@ impl Metric {
             | Metric::Forgettings
             | Metric::ForgottenEntries
             | Metric::PullEntries
+            | Metric::PullParts
             | Metric::Wishes => "counter",
             Metric::Clock
             | Metric::Build

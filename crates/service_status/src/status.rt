@@ -1,7 +1,7 @@
 //! What a service tells of itself.
 ghost use Rattle.std.specs.Prelude.{◌≡◌};
 ghost use Rattle.service_status.specs.Events.{after_walk, after_pull, after_publish, after_refusal, after_snapshot};
-ghost use Rattle.service_status.specs.Events.{after_unwritten, after_forgetting, after_unforgotten, after_entries};
+ghost use Rattle.service_status.specs.Events.{after_unwritten, after_forgetting, after_unforgotten, after_entries, after_part};
 
 use crate::counts::{
     EntryCounts, PullCounts, PullEnd, ReplyCounts, WalkCounts, WalkEnd, WishCounts,
@@ -206,6 +206,8 @@ pub struct PeerStatus {
     pub last: u64,
     /// What became of the entries of its deltas; told only where something is forgotten.
     pub entries: EntryCounts,
+    /// How many parts of its deltas were taken; told only where peers are asked for parts.
+    pub parts: u64,
 }
 
 impl PeerStatus {
@@ -224,6 +226,13 @@ impl PeerStatus {
         ensures { self.new ≡ after_entries more self.old }
     {
         self.entries.add(more);
+    }
+
+    /// Counts a part of its delta.
+    pub fn add_part(&mut self)
+        ensures { self.new ≡ after_part self.old }
+    {
+        self.parts = self.parts.saturating_add(1);
     }
 }
 
@@ -264,4 +273,6 @@ pub struct Status {
     pub list: Option<ListStatus>,
     /// `None` if nothing is forgotten and nothing withdrawn.
     pub forgetting: Option<ForgettingStatus>,
+    /// Whether peers are asked for parts of their deltas.
+    pub is_in_parts: bool,
 }

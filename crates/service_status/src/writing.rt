@@ -2,7 +2,7 @@
 ghost use Rattle.std.specs.Prelude.{◌≡◌, ◌++◌, ◌∷◌, [], OnOk, IfOk, flat_map, codes};
 ghost use Rattle.service_status.specs.Labels.{as_label, as_labels};
 ghost use Rattle.service_status.specs.Samples.{bit, if_known, publish_samples, snapshot_samples, version_samples};
-ghost use Rattle.service_status.specs.Samples.{wish_samples, forgetting_samples, most_of, more_of, samples_of, lines_of};
+ghost use Rattle.service_status.specs.Samples.{wish_samples, forgetting_samples, most_of, more_of, of_parts, samples_of, lines_of};
 ghost use Rattle.service_status.specs.Samples.{metric_text, status_text};
 
 use crate::counts::WishCounts;
@@ -101,6 +101,7 @@ impl Sampled for PeerStatus {
             Metric::PullEntries => {
                 push_rows(out, metric, &labels, "outcome", &self.entries.rows())
             }
+            Metric::PullParts => push_sample(out, metric, &labels[..1], labels[1], self.parts),
             _ => Ok(()),
         }
     }
@@ -284,7 +285,7 @@ fn push_samples(
                 status.snapshots.map(|snapshots| bit(snapshots.is_behind)),
             )
         }
-        Metric::Pulls | Metric::LastDelta | Metric::PullEntries => {
+        Metric::Pulls | Metric::LastDelta | Metric::PullEntries | Metric::PullParts => {
             push_each(out, alloc, metric, status.peers.as_slice())
         }
         Metric::Entries => push_alone(out, metric, status.known.entries),
@@ -364,6 +365,17 @@ fn push_more(out: &mut Vec<u8>, alloc: Global, status: &Status) -> Result<(), Al
     }
 }
 
+/// Appends the lines of the metrics of deltas in parts, if peers are asked for them.
+fn push_parts(out: &mut Vec<u8>, alloc: Global, status: &Status) -> Result<(), AllocError>
+    ensures { OnOk result (out.new.items ≡ out.old.items ++ flat_map (metric_text status.now) (of_parts status.now.is_in_parts)) }
+{
+    if status.is_in_parts {
+        push_metrics(out, alloc, &Metric::of_parts(), status)
+    } else {
+        Ok(())
+    }
+}
+
 /// A status in Prometheus' text format, version 0.0.4: its metrics, each with its samples.
 #[tactic(auto, unfolding(crate::specs::Samples::status_text))]
 pub fn write_status(alloc: Global, status: &Status) -> Result<Vec<u8>, AllocError>
@@ -372,5 +384,6 @@ pub fn write_status(alloc: Global, status: &Status) -> Result<Vec<u8>, AllocErro
     let mut text = Vec::new(alloc);
     push_metrics(&mut text, alloc, &Metric::all(), status)?;
     push_more(&mut text, alloc, status)?;
+    push_parts(&mut text, alloc, status)?;
     Ok(text)
 }

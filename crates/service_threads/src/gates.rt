@@ -2,14 +2,14 @@
 ghost use Rattle.std.specs.Prelude.{◌≡◌, Err, IfErr, IfOk};
 
 use crate::faults::ServeFault;
-use crate::means::Means;
+use crate::shared::Shared;
 use crossbeam_channel::{Receiver, Sender, bounded};
 use format_gates::FormGate;
-use harvest_workers::WalkRules;
 use harvester::SocketRuntime;
 use hyper_edge::{
     Answers, Bound, EdgeFault, GateService, ReadyGate, bind, serve_gate, serve_together,
 };
+use part_gates::PartGate;
 use published_index::Gate;
 use round_values::Log;
 use service_log::{GateEnd, Line};
@@ -25,9 +25,9 @@ use wishing_gates::WishingGate;
 /// How a gate's thread ends.
 type Ending = Result<(), ServeFault>;
 
-/// A gate as its thread serves it: it goes on with each gate that it is handed, answers in the settings' forms, once it
-/// is ready, and notes what readers wish for. Its replies are counted.
-type ServedGate<R> = CountingGate<FormGate<WishingGate<ReadyGate<SwitchingGate<Gate, R>>, R>>>;
+/// A gate as its thread serves it: it goes on with each gate that it is handed, answers with parts of deltas and in the
+/// settings' forms, once it is ready, and notes what readers wish for. Its replies are counted.
+type ServedGate<R> = CountingGate<FormGate<WishingGate<ReadyGate<SwitchingGate<PartGate, R>>, R>>>;
 
 /// A gate's thread, as the thread that makes the rounds sees it.
 #[derive(Drop)]
@@ -166,26 +166,26 @@ fn first_fault(first: Ending, then: Ending) -> Ending
 }
 
 /// A gate as its thread serves it.
-fn served_gate<R, P>(
+fn served_gate<R>(
     rt: &R,
     settings: &Settings,
     gate: Gate,
-    means: &Means<P>,
+    shared: &Shared,
     counter: &ReplyCounter,
-    slot: &GateSlot<Gate>,
+    slot: &GateSlot<PartGate>,
 ) -> Result<ServedGate<R>, ServeFault>
 where
     R: SocketRuntime + Clone + Drop,
-    P: WalkRules,
 {
     let (Ok(readiness), Ok(book), Ok(counter), Ok(slot)) = (
-        means.readiness.share(),
-        means.book.share(),
+        shared.readiness.share(),
+        shared.book.share(),
         counter.share(),
         slot.share(),
     ) else {
         return Err(ServeFault::NoMemory);
     };
+    let gate = PartGate::new(rt.alloc(), gate, settings.timing.room());
     let gate = SwitchingGate::new(rt.clone()?, gate, slot);
     let gate = WishingGate::new(rt.clone()?, ReadyGate::new(gate, readiness), book);
     let gate = FormGate::new(rt.alloc(), gate, settings.forms);
@@ -193,13 +193,12 @@ where
 }
 
 /// The gate of the status.
-fn status_gate<R, P>(rt: &R, means: &Means<P>) -> Result<StatusGate<R>, ServeFault>
+fn status_gate<R>(rt: &R, shared: &Shared) -> Result<StatusGate<R>, ServeFault>
 where
     R: SocketRuntime + Clone + Drop,
-    P: WalkRules,
 {
     let own = rt.clone()?;
-    match means.telling.gate(own, rt.alloc()) {
+    match shared.telling.gate(own, rt.alloc()) {
         Ok(Some(gate)) => Ok(gate),
         Ok(None) => Err(ServeFault::NoGate),
         Err(_) => Err(ServeFault::NoMemory),
@@ -207,17 +206,16 @@ where
 }
 
 /// Binds each gate and the status in a thread of its own, and lets all serve once all are bound.
-pub fn open_listeners<R, L, P>(
+pub fn open_listeners<R, L>(
     rt: &R,
     settings: &Settings,
     gates: Vec<Gate>,
-    means: &Means<P>,
+    shared: &Shared,
     log: Log<L>,
 ) -> Result<Listeners, ServeFault>
 where
     R: SocketRuntime + Threads + Sync + Send + Clone + Drop + 'static,
     L: Write + Copy + Send + 'static,
-    P: WalkRules,
 {
     let alloc = rt.alloc();
     let mut listeners = Vec::with_capacity(alloc, gates.len())?;
@@ -226,13 +224,13 @@ where
     let places = settings
         .gates
         .iter()
-        .zip(means.telling.counters().iter().zip(&means.slots));
+        .zip(shared.telling.counters().iter().zip(&shared.slots));
     for (number, (gate, (address, (counter, slot)))) in (1..).zip(gates.into_iter().zip(places)) {
         let place = Place {
             served: Served::Gate(number),
             address: address.as_str(),
         };
-        let opened = match served_gate(rt, settings, gate, means, counter, slot) {
+        let opened = match served_gate(rt, settings, gate, shared, counter, slot) {
             Ok(gate) => open_listener(rt, gate, place, load, log),
             Err(refused) => Err(refused),
         };
@@ -248,7 +246,7 @@ where
         served: Served::Status,
         address: address.as_str(),
     };
-    let opened = match status_gate(rt, means) {
+    let opened = match status_gate(rt, shared) {
         Ok(gate) => open_listener(rt, gate, place, load.in_turn(), log),
         Err(refused) => Err(refused),
     };

@@ -1,15 +1,16 @@
 //! What runs beside the rounds of a service, in threads of its own: gates, walks and pulls.
 //!
-//! `Means` holds all that rounds are made with: the `Pool` of those that walk, the `Pullers`, and what both share with
-//! the gates that `open_listeners` opens. The thread of the rounds gives work by a channel and takes the answers from
-//! another, and knows no more of these threads.
+//! `Means` holds all that rounds are made with: the `Pool` of those that walk, the `Pullers`, and what the rounds share
+//! with the gates that `open_listeners` opens (`Shared`). The thread of the rounds gives work by a channel and takes
+//! the answers from another, and knows no more of these threads.
 //!
 //! In four groups:
 //!
 //! - what is asked for: `terms` (which jobs the settings ask for, and how these are walked) and `jobs` (of an archive
 //!   for an original);
 //! - threads: `gates` (those that answer), `pool` (those that walk) and `pulls` (those that ask peers);
-//! - what they share: `means`, and in it `telling` (the status) and `slots` (where gates are handed over);
+//! - what they share: `means`, and in it `shared`, with `telling` (the status) and `slots` (where gates are handed
+//!   over);
 //! - `faults` (why serving ends early).
 #![tactic(auto)]
 
@@ -19,6 +20,7 @@ mod jobs;
 mod means;
 mod pool;
 mod pulls;
+mod shared;
 mod slots;
 mod telling;
 mod terms;
@@ -29,6 +31,7 @@ pub use jobs::original_of;
 pub use means::Means;
 pub use pool::{News, Pool};
 pub use pulls::{PullAnswer, PullRequest, Pullers};
+pub use shared::Shared;
 pub use slots::forgets;
 pub use telling::Telling;
 pub use terms::Terms;

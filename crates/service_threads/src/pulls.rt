@@ -1,12 +1,13 @@
 //! Pulls from peers in threads of their own.
 ghost use Rattle.std.specs.Prelude.{◌↔◌, ◌<◌, IfOk, IsTrue};
-ghost use Rattle.outgoing_requests.specs.Pulls.{IsBrought};
+ghost use Rattle.outgoing_requests.specs.Pulls.{IsPulled};
 
 use crossbeam_channel::{Receiver, Sender, bounded};
+use delta_parts::PartAsk;
 use harvester::SocketRuntime;
 use memento_time::Clean;
-use outgoing_requests::{Patience, PullFault, pull_within};
-use replica_exchange::{Cursor, Delta};
+use outgoing_requests::{Patience, PullFault, Pulled, pull_part, pull_within};
+use replica_exchange::Cursor;
 use std::alloc::{AllocError, Global};
 use std::sync::Wait;
 use std::thread::{self, Threads};
@@ -19,17 +20,74 @@ pub struct PullRequest {
     pub peer: u64,
     pub base: Clean,
     pub cursor: Option<Cursor>,
+    /// Which part is asked for, if parts are. A peer that answers with none is asked for the whole delta from the
+    /// cursor.
+    pub ask: Option<PartAsk>,
 }
 
-/// What a peer gave: a delta that an answer brought, or a fault.
+/// What a peer gave: a delta or a part of one that an answer brought, or a fault.
 #[derive(Drop)]
 pub struct PullAnswer {
     pub peer: u64,
     pub base: Clean,
     pub cursor: Option<Cursor>,
-    pub answer: Result<Delta, PullFault>,
+    pub answer: Result<Pulled, PullFault>,
 
-    ghost brought: { ∥ IfOk answer IsBrought ∥₁ },
+    ghost brought: { ∥ IfOk answer IsPulled ∥₁ },
+}
+
+/// Pulls the whole delta from a cursor.
+fn pull_whole<R: SocketRuntime>(
+    rt: &R,
+    patience: Patience,
+    base: &Clean,
+    cursor: Option<Cursor>,
+) -> Result<Pulled, PullFault>
+    ensures { IfOk result IsPulled }
+{
+    match pull_within(rt, patience, base, cursor) {
+        Ok(delta) => Ok(Pulled::Whole(delta)),
+        Err(fault) => Err(fault),
+    }
+}
+
+/// Pulls a part, or the whole delta from a cursor where the peer answers with no parts.
+fn pull_in_part<R: SocketRuntime>(
+    rt: &R,
+    patience: Patience,
+    base: &Clean,
+    cursor: Option<Cursor>,
+    ask: &PartAsk,
+) -> Result<Pulled, PullFault>
+    ensures { IfOk result IsPulled }
+{
+    match pull_part(rt, patience, base, ask) {
+        Ok(part) => Ok(Pulled::InPart(part)),
+        Err(PullFault::Status(404)) => pull_whole(rt, patience, base, cursor),
+        Err(fault) => Err(fault),
+    }
+}
+
+impl PullRequest {
+    /// Asks the peer, and waits for its answer.
+    pub fn pull<R: SocketRuntime>(self, rt: &R, patience: Patience) -> PullAnswer {
+        let PullRequest {
+            peer,
+            base,
+            cursor,
+            ask,
+        } = self;
+        let answer = match &ask {
+            Some(ask) => pull_in_part(rt, patience, &base, cursor, ask),
+            None => pull_whole(rt, patience, &base, cursor),
+        };
+        PullAnswer {
+            answer,
+            peer,
+            base,
+            cursor,
+        }
+    }
 }
 
 /// What a thread that pulls is given.
@@ -69,14 +127,7 @@ fn make_pulls<R: SocketRuntime>(rt: &R, puller: Puller) {
         let Ok(request) = requests.recv(rt) else {
             return;
         };
-        let PullRequest { peer, base, cursor } = request;
-        let answer = PullAnswer {
-            answer: pull_within(rt, patience, &base, cursor),
-            peer,
-            base,
-            cursor,
-        };
-        if answers.send(rt, answer).is_err() {
+        if answers.send(rt, request.pull(rt, patience)).is_err() {
             return;
         }
     }

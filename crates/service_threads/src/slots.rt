@@ -2,7 +2,7 @@
 ghost use Rattle.std.specs.Prelude.{◌≡◌, ◌||◌, is_some};
 
 use memento_time::NoMemory;
-use published_index::Gate;
+use part_gates::PartGate;
 use service_settings::Settings;
 use std::alloc::Global;
 use switching_gates::GateSlot;
@@ -18,7 +18,7 @@ pub fn forgets(settings: &Settings) -> bool
 pub(crate) fn slots_of(
     alloc: Global,
     settings: &Settings,
-) -> Result<Vec<GateSlot<Gate>>, NoMemory> {
+) -> Result<Vec<GateSlot<PartGate>>, NoMemory> {
     let mut slots = Vec::with_capacity(alloc, settings.gates.len())?;
     for _ in &settings.gates {
         let slot = if forgets(settings) {

@@ -52,6 +52,7 @@ fn status_of(alloc: Global, settings: &Settings) -> Result<Status, NoMemory> {
     if forgets(settings) {
         status.forgetting = Some(ForgettingStatus::begin(settings.forgetting.most));
     }
+    status.is_in_parts = settings.timing.parts.is_some();
     Ok(status)
 }
 

@@ -1,9 +1,12 @@
 //! What the jobs of a service are, and how they are walked.
-ghost use Rattle.std.specs.Prelude.{◌≡◌, IfSome};
+ghost use Rattle.std.specs.Prelude.{◌≡◌, IfOk, IfSome, slice_get};
+ghost use Rattle.std.specs.Option.{option_and_then};
 ghost use Rattle.std.specs.Arc.{arc_value};
+ghost use Rattle.harvest_workers.specs.Errands.{archive_of};
 ghost use Rattle.service_threads.specs.Jobs.{Covers};
 
 use crate::jobs::job_at;
+use harvest_schedule::Permit;
 use harvest_workers::{Assignment, Errand, RuledFetch, WalkReport, WalkRules, walk_assignment};
 use harvester::SocketRuntime;
 use memento_time::Original;
@@ -24,10 +27,28 @@ pub struct Terms<P: WalkRules> {
     ghost covers: { ∥ Covers (arc_value settings) P.jobs P.answers P.faults ∥₁ },
 }
 
+/// Within what the archive at this place of the settings is walked.
+fn limits_at(settings: &Settings, archive: usize) -> FetchLimits
+    ensures walk { result.walk ≡ settings.now.asking.walk }
+    ensures rate { result.rate ≡ settings.now.asking.rate }
+    ensures every { result.every
+        ≡ option_and_then (λ archive. archive.every) (slice_get settings.now.archives.items archive) }
+{
+    FetchLimits {
+        walk: settings.asking.walk,
+        rate: settings.asking.rate,
+        every: settings
+            .archives
+            .get(archive)
+            .and_then(|archive| archive.every),
+    }
+}
+
 impl<P: WalkRules> Terms<P> {
     /// These settings, whose jobs and answers the rules allow.
     pub fn new(settings: Arc<Settings, Global>) -> Terms<P>
         requires { Covers (arc_value settings) P.jobs P.answers P.faults }
+        ensures { arc_value result.settings ≡ arc_value settings }
     {
         Terms {
             settings,
@@ -35,7 +56,9 @@ impl<P: WalkRules> Terms<P> {
         }
     }
 
-    pub(crate) fn try_clone(&self) -> Result<Terms<P>, AllocError> {
+    pub(crate) fn try_clone(&self) -> Result<Terms<P>, AllocError>
+        ensures { IfOk result (λ copy. arc_value copy.settings ≡ arc_value self.now.settings) }
+    {
         let settings = Arc::try_clone(&self.settings)?;
         Ok(Terms {
             settings,
@@ -50,15 +73,17 @@ impl<P: WalkRules> Terms<P> {
         &*self.settings
     }
 
-    /// The job of an errand's archive for an original, to be handed out, whose revision is this second. `None` if
+    /// The job of an errand's archive, which may be asked, for an original; its revision is this second. `None` if
     /// memory is refused, or if its URL is too long.
     pub fn assignment(
         &self,
         alloc: Global,
+        permit: Permit,
         errand: Errand,
         original: &Original,
         revision: Second,
     ) -> Option<Assignment<P>>
+        requires allowed { permit.archive ≡ archive_of errand }
         ensures errand { IfSome result (λ it. it.errand ≡ errand) }
         ensures original { IfSome result (λ it. it.job.original ≡ original.now) }
         ensures revision { IfSome result (λ it. it.job.revision ≡ revision.0) }
@@ -73,7 +98,7 @@ impl<P: WalkRules> Terms<P> {
         if !job.has_first_url() {
             return None;
         }
-        Some(Assignment::new(errand, job))
+        Some(Assignment::new(permit, errand, job))
     }
 
     /// Walks a job that was handed out.
@@ -82,18 +107,10 @@ impl<P: WalkRules> Terms<P> {
         R: SocketRuntime,
     {
         let settings = self.settings();
-        let every = match settings.archives.get(assignment.errand().archive()) {
-            Some(archive) => archive.every,
-            None => None,
-        };
         let fetch = CarefulFetch {
             patience: Patience::of_seconds(settings.patience),
             hosts: settings.hosts.as_deref(),
-            limits: FetchLimits {
-                walk: settings.asking.walk,
-                rate: settings.asking.rate,
-                every,
-            },
+            limits: limits_at(settings, assignment.errand().archive()),
             agent: settings.agent.as_ref(),
         };
         let fetch: RuledFetch<CarefulFetch<'_>, P> = RuledFetch::new(fetch);

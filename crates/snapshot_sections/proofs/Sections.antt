@@ -11,7 +11,7 @@ use Rattle.text_fields.proofs.PartLemmas.{one_split}
 use Rattle.snapshot_sections.specs.Sections.{first_line, section_line, last_line, section_text, snapshot_text, AreSections}
 
 -- a number and the end of its line
-one_number : (m n : ℕ) (x y : List ℕ) → m < 2 ^ 64 → n < 2 ^ 64 → (decimal m ++ 10 ∷ []) ++ x ≡ (decimal n ++ 10 ∷ []) ++ y → (m ≡ n) × (x ≡ y)
+pub one_number : (m n : ℕ) (x y : List ℕ) → m < 2 ^ 64 → n < 2 ^ 64 → (decimal m ++ 10 ∷ []) ++ x ≡ (decimal n ++ 10 ∷ []) ++ y → (m ≡ n) × (x ≡ y)
 one_number m n x y fm fn same =
     let split = one_split 10 (decimal m) (decimal n) x y (decimal_lacks 10 (omega arith) m fm) (decimal_lacks 10 (omega arith) n fn)
     (sym (append_assoc (decimal m) (10 ∷ []) x) ∙ (same ∙ append_assoc (decimal n) (10 ∷ []) y)) in
@@ -59,6 +59,29 @@ one_body (t ∷ ts) (u ∷ us) m n x y ft fu fm fn same =
     (sym (section_parts t (flat_map section_text ts) (last_line m ++ x)) ∙ (same ∙ section_parts u (flat_map section_text us) (last_line n ++ y))) in
     let rest = one_body ts us m n x y (All-tail (λ (l : List ℕ). length l < 2 ^ 64) t ts ft) (All-tail (λ (l : List ℕ). length l < 2 ^ 64) u us fu) fm fn first.1 in
     ((λ i. first.0 i ∷ rest.0 i), rest.1)
+
+-- texts at the front, and what follows, in a list of texts and its last line
+pub front_texts : (ts us : List (List ℕ)) (n : ℕ) (x : List ℕ) → All (λ t. length t < 2 ^ 64) ts → All (λ t. length t < 2 ^ 64) us
+    → flat_map section_text ts ++ x ≡ flat_map section_text us ++ last_line n → (vs : List (List ℕ)) × (us ≡ ts ++ vs) × (x ≡ flat_map section_text vs ++ last_line n)
+front_texts [] us n x ft fu same = (us, refl, same)
+front_texts (t ∷ ts) [] n x ft fu same = absurd (let letters : 32 ≡ 115 = ap (λ (l : List ℕ). get_or l 7 0) same in omega (arith, letters))
+front_texts (t ∷ ts) (u ∷ us) n x ft fu same =
+    let first = one_section t u (flat_map section_text ts ++ x) (flat_map section_text us ++ last_line n)
+    (All-head (λ (l : List ℕ). length l < 2 ^ 64) t ts ft) (All-head (λ (l : List ℕ). length l < 2 ^ 64) u us fu)
+    (sym (section_parts t (flat_map section_text ts) x) ∙ (same ∙ section_parts u (flat_map section_text us) (last_line n))) in
+    let rest = front_texts ts us n x (All-tail (λ (l : List ℕ). length l < 2 ^ 64) t ts ft) (All-tail (λ (l : List ℕ). length l < 2 ^ 64) u us fu) first.1 in
+    (rest.0, (λ i. sym first.0 i ∷ rest.1 i), rest.2)
+
+-- a text isn't the last line
+pub no_last : (t x : List ℕ) (n : ℕ) → section_text t ++ x ≡ last_line n → ⊥
+no_last t x n same = absurd (let letters : 32 ≡ 115 = ap (λ (l : List ℕ). get_or l 7 0) same in omega (arith, letters))
+
+-- two texts, each with what follows it
+pub same_text : (t u x y : List ℕ) → length t < 2 ^ 64 → length u < 2 ^ 64 → section_text t ++ x ≡ section_text u ++ y → t ≡ u
+same_text t u x y ft fu same = (one_section t u x y ft fu (sym (text_parts t x) ∙ (same ∙ text_parts u y))).0
+  where
+    text_parts : (t x : List ℕ) → section_text t ++ x ≡ codes "section " ++ ((decimal (length t) ++ 10 ∷ []) ++ (t ++ x))
+    text_parts t x = append_assoc (section_line (length t)) t x ∙ append_assoc (codes "section ") (decimal (length t) ++ 10 ∷ []) (t ++ x)
 
 whole_parts : (ts : List (List ℕ)) (x : List ℕ) → snapshot_text ts ++ x ≡ first_line ++ (flat_map section_text ts ++ (last_line (length ts) ++ x))
 whole_parts ts x =

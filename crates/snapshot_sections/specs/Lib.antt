@@ -1,2 +1,3 @@
 pub mod Sections
 pub mod Faults
+pub mod Refusals

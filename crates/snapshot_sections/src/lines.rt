@@ -1,8 +1,8 @@
 //! The lines between texts.
-ghost use Rattle.std.specs.Prelude.{◌≡◌, ◌++◌, ◌∷◌, [], IfSome};
+ghost use Rattle.std.specs.Prelude.{◌≡◌, ◌≢◌, ◌++◌, ◌∷◌, [], IfSome, IfNone};
 ghost use Rattle.snapshot_sections.specs.Sections.{line_text, IsLine};
 
-use text_fields::read_decimal;
+use text_fields::{behind, read_decimal};
 
 /// A line that follows the first line or a text.
 #[derive(Clone, Copy, Debug, PartialEq, Eq)]
@@ -17,10 +17,11 @@ pub enum Line {
 pub(crate) fn line_of(text: &[u8]) -> Option<Line>
     ensures found { IfSome result (λ line. text.now ++ 10 ∷ [] ≡ line_text line) }
     ensures fits { IfSome result IsLine }
+    ensures none { IfNone result ((line : Line) → IsLine line → text.now ++ 10 ∷ [] ≢ line_text line) }
 {
-    if let Some(length) = text.strip_prefix(b"section ".as_slice()) {
+    if let Some(length) = behind(b"section ".as_slice(), text) {
         return Some(Line::Section(read_decimal(length)?));
     }
-    let count = text.strip_prefix(b"sections ".as_slice())?;
+    let count = behind(b"sections ".as_slice(), text)?;
     Some(Line::Last(read_decimal(count)?))
 }

@@ -21,6 +21,10 @@ pub record IsSnapshotOf (bytes : List ℕ) (x : Entries) : Type 0 where
   pub few : length states < 2 ^ 64
   pub bytes_are : bytes ≡ snapshot_text (map_list state_text states)
 
+-- the bytes are no state's snapshot
+abbrev pub IsNoSnapshot : List ℕ → Type 0
+IsNoSnapshot bytes = (x : Entries) → ¬ IsSnapshotOf bytes x
+
 -- the most bytes of the entries of a section, and of one entry
 abbrev pub longest_body : ℕ
 longest_body = 268435400

@@ -30,7 +30,11 @@ fn perform_job(plan: &mut Schedule, line: &Line, said: &mut String) -> Result<bo
     match line.word() {
         "begin" => writeln!(said, "{}", plan.begin(line.place(2)?))?,
         "offer" => writeln!(said, "{:?}", plan.offer(line.number(2)?))?,
-        "hand" => writeln!(said, "{}", plan.hand_out(turn_of(line)?, line.number(4)?))?,
+        "hand" => writeln!(
+            said,
+            "{}",
+            plan.hand_out(turn_of(line)?, line.number(4)?).is_some()
+        )?,
         "pass" => writeln!(said, "{}", plan.pass_over(turn_of(line)?))?,
         "done" => {
             let verdict = verdict_of(line, 5)?;
@@ -49,7 +53,8 @@ fn perform_job(plan: &mut Schedule, line: &Line, said: &mut String) -> Result<bo
 fn perform_walk(plan: &mut Schedule, line: &Line, said: &mut String) -> Result<bool> {
     match line.word() {
         "walk" => {
-            let is_begun = plan.begin_walk(line.place(2)?, line.number(3)?, line.flag(4)?);
+            let permit = plan.begin_walk(line.place(2)?, line.number(3)?, line.flag(4)?);
+            let is_begun = permit.is_some();
             writeln!(said, "{is_begun}")?;
         }
         "walked" => {

@@ -1,7 +1,7 @@
 use Rattle.std.proofs.Common.{refl}
 use Rattle.service_status.proofs.ExampleLemmas.{kinds_fit, version_example, archives_example, walks_example, peers_example, pulls_example, replies_example}
 use Rattle.service_status.proofs.ExampleLemmas.{wishes_example, snapshots_example, no_snapshots_example, room_example, list_example, forgetting_example}
-use Rattle.service_status.proofs.ExampleLemmas.{entries_example, known_example}
+use Rattle.service_status.proofs.ExampleLemmas.{entries_example, parts_example, known_example}
 use Rattle.std.specs.Fmt.{digits}
 use Rattle.service_status.specs.Metrics.{name_of, help_of, kind_of}
 use Rattle.service_status.specs.Replies.{reply_of}
@@ -29,6 +29,7 @@ returns c = record {
   list = list_example;
   forgetting = forgetting_example;
   entries = entries_example;
+  parts = parts_example;
   known = known_example;
   healthy = λ s is. rw is refl;
   early_health = λ s is. rw is refl;

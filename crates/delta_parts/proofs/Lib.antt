@@ -1,0 +1,5 @@
+pub mod PartLemmas
+pub mod TextLemmas
+pub mod FillLemmas
+pub mod RunLemmas
+pub mod AskLemmas

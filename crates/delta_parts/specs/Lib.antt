@@ -1,0 +1,4 @@
+pub mod PartRule
+pub mod PartText
+pub mod Filling
+pub mod Asks
