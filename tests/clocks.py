@@ -203,8 +203,7 @@ def try_wish_ahead(library):
                           keys={"wanted": 9, "again": 5, "wishes": 2})
         same("the first round has no job", service.line(), told(1, 0, 0))
         for wished in (ORIGINAL, "http://second.example/"):
-            same("nothing is known of it", service.shows(wished), None)
-            until("it is asked for", lambda wished=wished: any(target.endswith(wished) for target in archive.targets()))
+            service.wish(wished, archive)
         clock.set(second_of(2030))
         has.set()
         until("it is asked for again, and shown", lambda: service.shows() == memento(1))

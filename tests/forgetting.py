@@ -181,7 +181,7 @@ def try_most(folder):
             wish(service, original)
             time.sleep(1.1)     # a harvest's age is told by its second
         same("a third doesn't fit", service.shows(asked[2]), None)
-        until("though the archive was asked for it", lambda: archive.asked(asked[2]))
+        service.wish(asked[2], archive)
         until("and that is told", lambda: "wished harvests dropped: too many mementos" in (folder / "log").read_text())
         known = unlisted(service, LISTED)
         holds(f"no more is known than may be: {sorted(known)}", len(known) <= 2)

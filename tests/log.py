@@ -220,7 +220,7 @@ def try_wishes():
         service = serve(stack, True, archives=[("failing.example", failing.address), ("well.example", well.address)], rounds=2, pause=86_400,
                         connections=10, logged=True, keys={"log": True, "wanted": 9})
         same("the first round has no job", service.line(), told(1, 0, 0))
-        same("nothing is known", service.shows(), None)
+        service.wish(ORIGINAL, well)
         same("a wish that ends is told with the walks that failed", service.logs_until("wishes: ")[-1], "log: wishes: 1 of 1 found, 1 walks failed\n")
 
 

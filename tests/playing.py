@@ -423,6 +423,15 @@ class Service:
         status, where, _ = self.get("/timegate/" + original, gate)
         return {302: where, 404: None}.get(status, status)
 
+    def wish(self, original, archive):
+        """Asks for an original each second, as a reader who misses it does, until the archive is asked for it. A gate takes no wish
+        while another thread has the book of wishes, so one question may be in vain."""
+        def is_asked():
+            self.shows(original)
+            return comes_true(lambda: BASE + original in archive.targets(), 1)
+
+        until(f"the archive is asked for {original}", is_asked)
+
     def entries(self):
         """Archive, original and whole revision (or `-`) of each entry that the replica knows."""
         lines = [line.split() for line in self.get("/state")[2].splitlines() if line.startswith("entry ")]

@@ -58,8 +58,8 @@ def try_one_archive():
                           keys={"wanted": 1000, "wishes": 60_000, "at_once": 1})
         same("the round", service.line(), told(1, 1, 1))
         for number in range(8):
-            service.shows(f"http://made-up.example/{number}")
-        until("no wish waits for a job", lambda: len(archive.heads) == 9)
+            service.wish(f"http://made-up.example/{number}", archive)
+        same("no wish waits for a job", len(archive.heads), 9)
 
 
 def try_hands():
@@ -96,8 +96,7 @@ def try_statuses():
                           keys={"wanted": 1000, "wishes": 60_000, "tolerance": 3, "dormant": 600}, logged=True)
         for what in (*statuses, *ODD):
             original = f"http://picked.example/{what}"
-            service.shows(original)
-            until(f"it is asked for what it answers {what}", lambda original=original: asked(archive, original) == 1)
+            service.wish(original, archive)
         service.shows("http://after.example/")
         until("and for a wish of somebody else", lambda: service.shows("http://after.example/") == MEMENTO)
         walked = asked(archive, "http://listed.example/")
@@ -120,8 +119,8 @@ def try_statuses():
         service = Service(stack, archives=[("a.example", archive.address)], rounds=2, pause=86_400,
                           keys={"wanted": 1000, "wishes": 60_000, "tolerance": 3, "dormant": 600})
         for number in range(3):
-            service.shows(f"http://made-up.example/{number}")
-            until("it is asked", lambda number=number: len(archive.heads) == number + 1)
+            service.wish(f"http://made-up.example/{number}", archive)
+        same("it is asked three times", len(archive.heads), 3)
         time.sleep(1)
         service.shows("http://after.example/")
         time.sleep(2)
@@ -143,12 +142,10 @@ def try_woken():
         same("the round has no job", service.line(), told(1, 0, 0))
         for number in range(3):
             lost = f"http://lost.example/{number}"
-            service.shows(lost)
-            until("it is asked, and says nothing", lambda lost=lost: asked(archive, lost) == 1)
+            service.wish(lost, archive)
         broken.clear()
         time.sleep(2.5)
-        service.shows("http://picked.example/")
-        until("dormant until now, it is asked once its time has come", lambda: asked(archive, "http://picked.example/") == 1)
+        service.wish("http://picked.example/", archive)
         service.shows("http://after.example/")
         until("and for what comes next", lambda: service.shows("http://after.example/") == MEMENTO)
 
@@ -170,15 +167,13 @@ def try_busy():
                           keys={"wanted": 1000, "tolerance": 5, "dormant": 600})
         same("the round", service.line(), told(1, 1, 1))
         first, second = "http://first.example/", "http://second.example/"
-        service.shows(first)
-        until("the archive is asked", busy.is_set)
+        service.wish(first, archive)
         time.sleep(0.3)
         service.shows(second)
         until("both are shown", lambda: all(service.shows(one) == MEMENTO for one in (first, second)), 20)
         holds(f"it was left alone for {times[2] - times[1]:.1f} s", times[2] - times[1] >= 1.8)
         same("and asked as often as need be", (asked(archive, first), asked(archive, second)), (2, 1))
-        service.shows("http://long.example/")
-        until("an archive that is busy for longer", lambda: asked(archive, "http://long.example/") == 1)
+        service.wish("http://long.example/", archive)
         service.shows("http://late.example/")
         time.sleep(3)
         same("isn't waited for", (asked(archive, "http://long.example/"), asked(archive, "http://late.example/")), (1, 0))
@@ -191,8 +186,7 @@ def try_busy_for_one():
         service = Service(stack, archives=[("a.example", archive.address)], rounds=2, pause=86_400,
                           keys={"wanted": 1000, "tolerance": 5, "dormant": 600})
         picked, after = "http://picked.example/", "http://after.example/"
-        service.shows(picked)
-        until("the archive is asked, and busy", lambda: asked(archive, picked) == 1)
+        service.wish(picked, archive)
         service.shows(after)
         until("a wish of somebody else is granted", lambda: service.shows(after) == MEMENTO, 20)
         until("while the archive is asked for the first again", lambda: asked(archive, picked) > 2, 20)

@@ -8,6 +8,7 @@ import contextlib
 import http.client
 import os
 import pathlib
+import re
 import tempfile
 import threading
 import time
@@ -60,7 +61,7 @@ def try_between_rounds():
         same("nothing is known", service.shows("http://has.example/"), None)
         until("it is shown", lambda: service.shows("http://has.example/") == MEMENTO)
         same("what no archive has stays unknown", service.shows("http://not.example/"), None)
-        until("once it was asked for", lambda: asked(archive, "http://not.example/"))
+        service.wish("http://not.example/", archive)
         service.shows("http://second.has.example/")
         until("a later one is shown", lambda: service.shows("http://second.has.example/") == MEMENTO)
         for _ in range(5):
@@ -157,10 +158,12 @@ def try_no_room():
         for original in originals(3, "wished.example"):
             service.shows(original)
             until("it is shown", lambda original=original: service.shows(original) == MEMENTO)
-        for original in originals(2, "more.example"):
+        for original in originals(20, "more.example"):
             same("no more are taken", service.shows(original), None)
-        log = "".join(service.logs_until("wishes turned away: no room"))
-        holds("which the log says once in a round", "2 wishes turned away: no room\n" in log)
+        counts = []
+        while sum(counts) < 10:    # a round may end between two questions
+            counts += map(int, re.findall(r"(\d+) wishes turned away: no room\n", "".join(service.logs_until("wishes turned away: no room"))))
+        holds(f"which the log says once in a round: {counts}", len(counts) <= 2 and sum(counts) <= 20)
         same("and those three are known", len(service.entries()), 3)
 
 
@@ -251,16 +254,15 @@ def try_alike():
                               keys={"wanted": 9, "alike": alike})
             same("the first round has no job", service.line(), told(1, 0, 0))
             same("it isn't known", service.shows(spellings[0]), None)
-            service.shows("http://after.example/x?y")
-            until("the one behind it was asked for", lambda: asked(archive, "http://after.example/x?y") == 1)
+            service.wish(spellings[0], archive)
+            service.wish("http://after.example/x?y", archive)
             if not alike:
                 same("no other spelling was asked for", [asked(archive, one) for one in spellings], [1, 0, 0, 0])
                 continue
             until("each spelling was asked for", lambda: all(asked(archive, one) for one in spellings))
             until("the one that the archive has is there", lambda: len(service.entries()) == 1)
             same("under its own name", [service.shows(one) for one in spellings], [None, None, None, MEMENTO])
-            service.shows("http://last.example/x?y")
-            until("a last one was asked for", lambda: asked(archive, "http://last.example/x?y") == 1)
+            service.wish("http://last.example/x?y", archive)
             same("and each spelling once", [asked(archive, one) for one in spellings], [1, 1, 1, 1])
 
 
@@ -270,7 +272,7 @@ def try_alike_once():
         archive = Played(stack, lambda _: NONE)
         service = Service(stack, archives=[("a.example", archive.address)], rounds=2, pause=86_400,
                           keys={"wanted": 9, "alike": True, "again": 1})
-        service.shows("http://page.example/")
+        service.wish("http://page.example/", archive)
         until("each spelling was asked for", lambda: len(set(archive.targets())) == 4)
         time.sleep(3)
         same("once", len(archive.heads), 4)
@@ -309,7 +311,8 @@ def try_log():
         wished = originals(3, "wished.example")
         for original in wished:
             same("it isn't known", service.shows(original), None)
-        until("wishes fail in the round", lambda: all(asked(archive, original) for original in wished))
+        for original in wished:
+            service.wish(original, archive)
         log = "".join(service.logs_until("failed: another status"))
         holds("which has none of them", "wished.example" not in log)
         holds(f"and counts 40 walks: {log!r}", "40 of 40 walks failed" in log)
