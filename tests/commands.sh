@@ -151,6 +151,18 @@ try_counts() {
     same "and counts them" "$(tail -n 1 <<<"$said")" "1 passed, 1 failed, 1 skipped"
     LIMIT=2 runs 1 tests/run stays
     has "a test without an end is ended, and fails" "$said" "stays: not done after" "0 passed, 1 failed, 0 skipped"
+    # Of two that fail one passes when it runs once more, by itself.
+    printf '#!/usr/bin/env bash\n# Fails at first.\n[ -e again ] || { : >again; echo busy; exit 1; }\n' >tests/stumbles.sh
+    chmod +x tests/stumbles.sh
+    echo 'stumbles quick 1 -' >>tests/list.txt
+    runs 1 tests/run --again stumbles fails
+    has "what failed runs once more if a run is told so" "$said" "UNSTEADY: stumbles: status 1" "busy" "FAILED: fails: status 1" \
+        "1 passed, 1 failed, 0 skipped"
+    rm again
+    runs 1 tests/run stumbles
+    has "and else it doesn't" "$said" "FAILED: stumbles: status 1" "0 passed, 1 failed, 0 skipped"
+    rm again tests/stumbles.sh
+    sed -i '/^stumbles /d' tests/list.txt
     runs 0 ./run test pages lacks
     same "./run test is that command" "$(tail -n 1 <<<"$said")" "1 passed, 0 failed, 1 skipped"
     runs 2 tests/run nosuch
