@@ -16,6 +16,7 @@ from playing import (GOOD, MEMENTO, ORIGINAL, Played, Relay, Service, delta, ent
 
 HIDDEN = re.compile(r"/part/(\d+)/(\d+)/([a-z0-9.-]+)/([0-9a-f]+)")
 KEYS = {"publish": 1, "pull": 1, "parts": 1}
+LAST = re.compile(r'^maplewrench_peer_last_delta_timestamp_seconds\{.*\} (\d+)$', re.M)
 COUNTED = re.compile(r'^maplewrench_pull_parts_total\{peer="[^"]*",number="1"\} (\d+)$', re.M)
 
 
@@ -173,6 +174,7 @@ def try_stalled():
     taken from where it stopped."""
     with contextlib.ExitStack() as stack:
         held = [True]
+        status, = free_ports(1)
 
         def answer(asked):
             if asked == "/part":
@@ -184,8 +186,9 @@ def try_stalled():
         peer = Played(stack, answer)
         archive = Played(stack, lambda _: GOOD)
         service = Service(stack, archives=[("a.example", archive.address)], originals=[ORIGINAL], peers=[peer.address], rounds=1_000_000, pause=1_000,
-                          patience=3, keys={**KEYS, "ready": True})
+                          patience=3, keys={**KEYS, "ready": True, "status": f"127.0.0.1:{status}"})
         until("the replica is ready though the last part doesn't come", lambda: service.shows() == MEMENTO, 20)
+        holds("the peer has given something, though not a whole delta", int(LAST.search(get(status, "/metrics")[2])[1]) > 0)
         time.sleep(3)
         asked = len(peer.heads)
         holds(f"{asked} requests came in some six seconds", asked <= 10)

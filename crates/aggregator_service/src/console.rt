@@ -175,7 +175,10 @@ where
 
     /// Shows that a part of a peer's delta was taken.
     pub(crate) fn show_part(&self, peer: u64) {
-        self.telling.board().add_part(self.rt, peer);
+        let board = self.telling.board();
+        if board.is_open() {
+            board.add_part(self.rt, peer, second_now(self.rt).0);
+        }
     }
 
     /// Shows how far the round is.

@@ -113,7 +113,7 @@ where
             .forgetting
             .take_rule(self.rt, settings, ways.keys, list, ways.log);
         if is_wider {
-            self.standing.drop_leads();
+            self.standing.peers.drop_leads();
         }
         if !self.standing.forgetting.has_news() || !self.publish_pending() {
             return;

@@ -1,30 +1,30 @@
 //! What is noted of each peer: its pulls, how far its news were looked through, and how far its parts were taken.
 ghost use Rattle.std.specs.Prelude.{◌≡◌, ◌↔◌, ◌<◌, ◌+◌, ◌-◌, ◌^◌, min, IsTrue, IfSome, Some, None, true, false};
 
-use crate::standing::Standing;
 use round_values::{Lead, Millis, Walking};
+use std::alloc::{AllocError, Global};
 
 /// How many parts of a peer's delta one pull takes, before what else is due comes first.
 const MOST_PARTS: u64 = 1_000;
 
 /// What is noted of the pull of a peer that began last, and of parts that others follow.
 #[derive(Clone, Copy, Debug, PartialEq, Eq)]
-pub(crate) struct PullNotes {
+struct PullNotes {
     /// When the pull began.
     begun: Millis,
     /// How many parts it brought, as far as 64 bits count.
     parts: u64,
     /// Whether it brought news.
-    pub(crate) has_news: bool,
+    has_news: bool,
     /// Whether the peer has to be asked for something else by now, so that its answer isn't taken.
-    pub(crate) is_stale: bool,
+    is_stale: bool,
     /// When the last part came, if others follow it.
     stepped: Option<Millis>,
 }
 
 impl PullNotes {
     /// Before the first pull.
-    pub(crate) const NONE: PullNotes = PullNotes {
+    const NONE: PullNotes = PullNotes {
         begun: Millis(0),
         parts: 0,
         has_news: false,
@@ -33,7 +33,7 @@ impl PullNotes {
     };
 
     /// A pull begins. Parts that are to come from the pull before still are.
-    pub(crate) fn begin(&mut self, now: Millis)
+    fn begin(&mut self, now: Millis)
         ensures { self.new ≡ record {
           begun = now;
           parts = 0;
@@ -50,7 +50,7 @@ impl PullNotes {
     }
 
     /// A part was taken, which others follow or not.
-    pub(crate) fn add_part(&mut self, now: Millis, is_followed: bool)
+    fn add_part(&mut self, now: Millis, is_followed: bool)
         ensures parts { self.new.parts ≡ min (self.old.parts + 1) (2 ^ 64 - 1) }
         ensures followed { is_followed ≡ true → self.new.stepped ≡ Some now }
         ensures last { is_followed ≡ false → self.new.stepped ≡ None }
@@ -61,7 +61,7 @@ impl PullNotes {
     }
 
     /// A delta was given as a whole, so that no part is to come.
-    pub(crate) fn end_parts(&mut self)
+    fn end_parts(&mut self)
         ensures { self.new ≡ record self.old { stepped = None } }
     {
         self.stepped = None;
@@ -69,14 +69,14 @@ impl PullNotes {
 
     /// Whether the pull asks for a further part: for a thousand at most, and for less than so many milliseconds, so
     /// that no peer holds a round up with parts without end.
-    pub(crate) fn goes_on(&self, now: Millis, most: u64) -> bool
+    fn goes_on(&self, now: Millis, most: u64) -> bool
         ensures { IsTrue result ↔ (self.now.parts < 1000) × (now.0 - self.now.begun.0 < most) }
     {
         self.parts < MOST_PARTS && now.since(self.begun) < most
     }
 
     /// Whether parts are to come, of which the last came less than so many milliseconds ago.
-    pub(crate) fn is_unfinished(&self, now: Millis, most: u64) -> bool
+    fn is_unfinished(&self, now: Millis, most: u64) -> bool
         ensures some { IfSome self.now.stepped (λ stepped. IsTrue result ↔ now.0 - stepped.0 < most) }
         ensures none { self.now.stepped ≡ None → result ≡ false }
     {
@@ -87,135 +87,171 @@ impl PullNotes {
     }
 }
 
-/// The place among the peers of the peer with this number, counted from 1.
-fn place_of(peer: u64) -> Option<usize> {
-    usize::try_from(peer).ok()?.checked_sub(1)
+/// What is noted of a peer.
+#[derive(Drop)]
+struct PeerNotes {
+    /// Whether it is being pulled.
+    is_pulled: bool,
+    pull: PullNotes,
+    /// How far its news were looked through beyond the cursor that is held.
+    lead: Option<Lead>,
+    /// How far the parts of its delta were taken, if some of them were and others follow.
+    walking: Option<Walking>,
 }
 
-impl Standing {
-    /// Whether the peer with this number, counted from 1, is being pulled. One that there isn't counts as such.
+impl PeerNotes {
+    /// Before the first pull.
+    const NONE: PeerNotes = PeerNotes {
+        is_pulled: false,
+        pull: PullNotes::NONE,
+        lead: None,
+        walking: None,
+    };
+
+    /// All that the peer has is asked for anew. What it is being asked for isn't taken.
+    fn drop_lead(&mut self)
+        ensures stale { self.new.pull ≡ record self.old.pull { is_stale = self.old.is_pulled } }
+        ensures lead { self.new.lead ≡ None }
+        ensures walking { self.new.walking ≡ None }
+        ensures pulled { self.new.is_pulled ≡ self.old.is_pulled }
+    {
+        self.pull.is_stale = self.is_pulled;
+        self.lead = None;
+        self.walking = None;
+    }
+}
+
+/// What is noted of each peer, in the order of the settings. A peer's number is its place there, counted from 1; nothing
+/// is noted of a number that no peer has.
+#[derive(Drop)]
+pub(crate) struct Peers {
+    all: Vec<PeerNotes>,
+}
+
+impl Peers {
+    /// So many peers, of which none was pulled.
+    pub(crate) fn new(alloc: Global, count: usize) -> Result<Peers, AllocError> {
+        let mut all = Vec::with_capacity(alloc, count)?;
+        for _ in 0..count {
+            all.push(PeerNotes::NONE)?;
+        }
+        Ok(Peers { all })
+    }
+
+    fn notes(&self, peer: u64) -> Option<&PeerNotes> {
+        self.all.get(usize::try_from(peer).ok()?.checked_sub(1)?)
+    }
+
+    fn notes_mut(&mut self, peer: u64) -> Option<&mut PeerNotes> {
+        self.all
+            .get_mut(usize::try_from(peer).ok()?.checked_sub(1)?)
+    }
+
+    /// Whether a peer is being pulled. A peer that there isn't counts as such.
     pub(crate) fn is_pulled(&self, peer: u64) -> bool {
-        for (number, is_pulled) in (1..).zip(&self.pulled) {
-            if number == peer {
-                return *is_pulled;
-            }
+        match self.notes(peer) {
+            Some(notes) => notes.is_pulled,
+            None => true,
         }
-        true
     }
 
-    /// Notes whether the peer with this number is being pulled.
+    /// Notes whether a peer is being pulled.
     pub(crate) fn set_pulled(&mut self, peer: u64, is_pulled: bool) {
-        for (number, its) in (1..).zip(&mut self.pulled) {
-            if number == peer {
-                *its = is_pulled;
-            }
+        if let Some(notes) = self.notes_mut(peer) {
+            notes.is_pulled = is_pulled;
         }
     }
 
-    /// The lead of the peer with this number, counted from 1.
+    /// Whether some peer is being pulled.
+    pub(crate) fn are_pulled(&self) -> bool {
+        for notes in &self.all {
+            if notes.is_pulled {
+                return true;
+            }
+        }
+        false
+    }
+
+    /// How far a peer's news were looked through beyond the cursor that is held.
     pub(crate) fn lead(&self, peer: u64) -> Option<Lead> {
-        match self.leads.get(place_of(peer)?) {
-            Some(lead) => *lead,
-            None => None,
-        }
+        self.notes(peer)?.lead
     }
 
-    /// Sets the lead of the peer with this number.
     pub(crate) fn set_lead(&mut self, peer: u64, lead: Option<Lead>) {
-        for (number, its) in (1..).zip(&mut self.leads) {
-            if number == peer {
-                *its = lead;
-            }
+        if let Some(notes) = self.notes_mut(peer) {
+            notes.lead = lead;
         }
     }
 
-    /// How far the parts of the delta of the peer with this number, counted from 1, were taken.
+    /// How far the parts of a peer's delta were taken.
     pub(crate) fn walking(&self, peer: u64) -> Option<&Walking> {
-        self.steps.get(place_of(peer)?)?.as_ref()
+        self.notes(peer)?.walking.as_ref()
     }
 
-    /// Notes how far the parts of the delta of the peer with this number were taken.
     pub(crate) fn set_walking(&mut self, peer: u64, walking: Option<Walking>) {
-        let Some(place) = place_of(peer) else {
-            return;
-        };
-        if let Some(its) = self.steps.get_mut(place) {
-            *its = walking;
+        if let Some(notes) = self.notes_mut(peer) {
+            notes.walking = walking;
         }
     }
 
-    /// A pull of the peer with this number begins.
+    /// A pull of a peer begins.
     pub(crate) fn begin_pull(&mut self, peer: u64, now: Millis) {
-        for (number, its) in (1..).zip(&mut self.pulls) {
-            if number == peer {
-                its.begin(now);
-            }
+        if let Some(notes) = self.notes_mut(peer) {
+            notes.pull.begin(now);
         }
     }
 
-    /// Notes that a part of the delta of the peer with this number was taken.
+    /// Notes that a part of a peer's delta was taken.
     pub(crate) fn note_part(&mut self, peer: u64, now: Millis) {
-        let is_followed = self.walking(peer).is_some();
-        for (number, its) in (1..).zip(&mut self.pulls) {
-            if number == peer {
-                its.add_part(now, is_followed);
-            }
+        if let Some(notes) = self.notes_mut(peer) {
+            let is_followed = notes.walking.is_some();
+            notes.pull.add_part(now, is_followed);
         }
     }
 
-    /// Notes that the peer with this number gave a delta as a whole.
+    /// Notes that a peer gave a delta as a whole.
     pub(crate) fn note_whole(&mut self, peer: u64) {
-        self.set_walking(peer, None);
-        for (number, its) in (1..).zip(&mut self.pulls) {
-            if number == peer {
-                its.end_parts();
-            }
+        if let Some(notes) = self.notes_mut(peer) {
+            notes.walking = None;
+            notes.pull.end_parts();
         }
     }
 
-    /// Notes that the pull of the peer with this number brought news.
+    /// Notes that a peer's pull brought news.
     pub(crate) fn note_news(&mut self, peer: u64) {
-        for (number, its) in (1..).zip(&mut self.pulls) {
-            if number == peer {
-                its.has_news = true;
-            }
+        if let Some(notes) = self.notes_mut(peer) {
+            notes.pull.has_news = true;
         }
     }
 
-    /// Whether the pull of the peer with this number brought news.
+    /// Whether a peer's pull brought news.
     pub(crate) fn has_news(&self, peer: u64) -> bool {
-        for (number, its) in (1..).zip(&self.pulls) {
-            if number == peer {
-                return its.has_news;
-            }
+        match self.notes(peer) {
+            Some(notes) => notes.pull.has_news,
+            None => false,
         }
-        false
     }
 
-    /// Whether the peer with this number has to be asked for something else than it was asked for.
+    /// Whether a peer has to be asked for something else than it was asked for.
     pub(crate) fn is_stale(&self, peer: u64) -> bool {
-        for (number, its) in (1..).zip(&self.pulls) {
-            if number == peer {
-                return its.is_stale;
-            }
+        match self.notes(peer) {
+            Some(notes) => notes.pull.is_stale,
+            None => false,
         }
-        false
     }
 
     /// Whether the next part of a peer's delta is asked for at once, in a pull of less than so many milliseconds.
     pub(crate) fn steps_on(&self, peer: u64, now: Millis, most: u64) -> bool {
-        for (number, its) in (1..).zip(&self.pulls) {
-            if number == peer {
-                return its.goes_on(now, most) && self.walking(peer).is_some();
-            }
+        match self.notes(peer) {
+            Some(notes) => notes.walking.is_some() && notes.pull.goes_on(now, most),
+            None => false,
         }
-        false
     }
 
     /// Whether parts of some peer's delta are to come, of which the last came less than so many milliseconds ago.
-    pub(crate) fn is_unfinished(&self, now: Millis, most: u64) -> bool {
-        for its in &self.pulls {
-            if its.is_unfinished(now, most) {
+    pub(crate) fn are_unfinished(&self, now: Millis, most: u64) -> bool {
+        for notes in &self.all {
+            if notes.pull.is_unfinished(now, most) {
                 return true;
             }
         }
@@ -224,14 +260,8 @@ impl Standing {
 
     /// All that peers have is asked for anew. What peers are being asked for isn't taken.
     pub(crate) fn drop_leads(&mut self) {
-        for (its, is_pulled) in self.pulls.iter_mut().zip(&self.pulled) {
-            its.is_stale = *is_pulled;
-        }
-        for lead in self.leads.iter_mut() {
-            *lead = None;
-        }
-        for walking in self.steps.iter_mut() {
-            *walking = None;
+        for notes in self.all.iter_mut() {
+            notes.drop_lead();
         }
     }
 }

@@ -50,7 +50,7 @@ where
     fn accept_greetings(&mut self, end: Millis) -> u64 {
         let mut gave = 0u64;
         for _ in self.course.rt.forever() {
-            if !self.course.standing.pulled.contains(&true) {
+            if !self.course.standing.peers.are_pulled() {
                 return gave;
             }
             let left = end.since(self.course.now());
@@ -58,9 +58,9 @@ where
                 return gave;
             };
             let peer = answer.peer;
-            let gave_before = self.course.standing.has_news(peer);
+            let gave_before = self.course.standing.peers.has_news(peer);
             self.accept_pulled(answer);
-            if !gave_before && self.course.standing.has_news(peer) {
+            if !gave_before && self.course.standing.peers.has_news(peer) {
                 gave = gave.saturating_add(1);
             }
             if self.course.standing.round.pending {
@@ -91,7 +91,7 @@ where
     pub(crate) fn pull_beside(&mut self) {
         self.course.ask_peers(self.pullers);
         for _ in self.course.rt.forever() {
-            if !self.course.standing.pulled.contains(&true) {
+            if !self.course.standing.peers.are_pulled() {
                 return;
             }
             let _ = self.serve_wishes(TICK);
@@ -143,7 +143,7 @@ where
         patience: Patience,
     ) -> Result<TakenAs, PeerFault> {
         let begun = self.now();
-        self.standing.begin_pull(number, begun);
+        self.standing.peers.begin_pull(number, begun);
         let mut taken = self.pull_once(number, peer, patience)?;
         for _ in self.rt.forever() {
             if !self.steps_on(number) {
@@ -173,7 +173,7 @@ where
     /// From which cursor the peer with this number is asked.
     pub(crate) fn cursor_of(&self, peer: u64) -> Option<Cursor> {
         let held = self.held(peer);
-        asked_from(held, self.standing.lead(peer), second_now(self.rt))
+        asked_from(held, self.standing.peers.lead(peer), second_now(self.rt))
     }
 
     /// Has each peer pulled that isn't being pulled.
@@ -184,8 +184,8 @@ where
         let now = self.now();
         let peers = self.settings().peers.len() as u64;
         for peer in 1..=peers {
-            if !self.standing.is_pulled(peer) {
-                self.standing.begin_pull(peer, now);
+            if !self.standing.peers.is_pulled(peer) {
+                self.standing.peers.begin_pull(peer, now);
                 self.ask_peer(pullers, peer);
             }
         }
@@ -200,17 +200,17 @@ where
             cursor,
             answer,
         } = answer;
-        self.standing.set_pulled(peer, false);
-        if self.standing.is_stale(peer) {
+        self.standing.peers.set_pulled(peer, false);
+        if self.standing.peers.is_stale(peer) {
             return false;
         }
         let taken = self.accept_answer(peer, cursor, answer);
         let is_taken = taken.is_ok();
         if matches!(taken, Ok(TakenAs::News)) {
-            self.standing.note_news(peer);
+            self.standing.peers.note_news(peer);
         }
-        if !is_taken || self.standing.walking(peer).is_none() {
-            let has_news = is_taken && self.standing.has_news(peer);
+        if !is_taken || self.standing.peers.walking(peer).is_none() {
+            let has_news = is_taken && self.standing.peers.has_news(peer);
             let end = if has_news {
                 PullEnd::News
             } else {
@@ -238,7 +238,7 @@ where
     {
         match answer {
             Ok(Pulled::Whole(delta)) => {
-                self.standing.note_whole(peer);
+                self.standing.peers.note_whole(peer);
                 let delta = self.sift(peer, delta)?;
                 self.accept_kept(peer, asked, delta, false)
             }
@@ -297,7 +297,7 @@ where
     {
         let (delta, ahead) = self.timely(delta)?;
         if !left_out && ahead == 0 && follows(self.held(peer), &delta) {
-            self.standing.set_lead(peer, None);
+            self.standing.peers.set_lead(peer, None);
             return self.accept_whole(peer, delta);
         }
         self.accept_some(peer, asked, delta)
@@ -318,9 +318,9 @@ where
         }
         let now = second_now(self.rt);
         let held = self.held(peer);
-        let lead = led_by(asked, held, self.standing.lead(peer), &delta, now);
+        let lead = led_by(asked, held, self.standing.peers.lead(peer), &delta, now);
         let taken = self.append_some(delta)?;
-        self.standing.set_lead(peer, Some(lead));
+        self.standing.peers.set_lead(peer, Some(lead));
         Ok(taken)
     }
 }

@@ -3,15 +3,15 @@ ghost use Rattle.std.specs.Prelude.{◌≡◌, IfSome, None};
 ghost use Rattle.aggregator_service.specs.Listing.{list_of};
 
 use crate::listing::Originals;
-use crate::peers::PullNotes;
+use crate::peers::Peers;
 use forgetting::Forgetting;
 use harvest_lattice::Harvest;
 use harvest_schedule::{Limits, Mood, Pace, Schedule, Turn, Verdict};
 use harvest_workers::Errand;
 use memento_time::{ArchiveName, Original};
 use round_values::{
-    Absences, Desk, Dues, Keeping, Lead, Millis, Notes, PublishEnd, Round, Second, Walking,
-    is_ahead, is_left_alone, is_waited_for,
+    Absences, Desk, Dues, Keeping, Millis, Notes, PublishEnd, Round, Second, is_ahead,
+    is_left_alone, is_waited_for,
 };
 use service_log::{Dormancy, JobsLeft, Matter, Progress, Respite};
 use service_settings::{Archive, Settings};
@@ -28,14 +28,7 @@ pub(crate) struct Standing {
     pub(crate) absences: Absences,
     pub(crate) dues: Dues,
     pub(crate) keeping: Keeping,
-    /// For each peer, whether it is being pulled.
-    pub(crate) pulled: Vec<bool>,
-    /// For each peer, what is noted of its pulls.
-    pub(crate) pulls: Vec<PullNotes>,
-    /// For each peer, how far its news were looked through beyond the cursor that is held.
-    pub(crate) leads: Vec<Option<Lead>>,
-    /// For each peer, how far the parts of its delta were taken, if some of them were and others follow.
-    pub(crate) steps: Vec<Option<Walking>>,
+    pub(crate) peers: Peers,
     /// How many harvests weren't taken since that was told, since they are ahead of the clock.
     pub(crate) left_out: u64,
     /// The number of the round, counted from 1.
@@ -128,25 +121,12 @@ impl Standing {
         incarnation: u64,
     ) -> Result<Standing, AllocError> {
         let now = Millis(0);
-        let mut pulled = Vec::with_capacity(alloc, settings.peers.len())?;
-        let mut pulls = Vec::with_capacity(alloc, settings.peers.len())?;
-        let mut leads = Vec::with_capacity(alloc, settings.peers.len())?;
-        let mut steps = Vec::with_capacity(alloc, settings.peers.len())?;
-        for _ in &settings.peers {
-            pulled.push(false)?;
-            pulls.push(PullNotes::NONE)?;
-            leads.push(None)?;
-            steps.push(None)?;
-        }
         Ok(Standing {
             schedule: schedule_of(alloc, settings)?,
             absences: Absences::new(alloc, settings.archives.len())?,
             dues: Dues::new(settings, tells_more(settings), now),
             keeping,
-            pulled,
-            pulls,
-            leads,
-            steps,
+            peers: Peers::new(alloc, settings.peers.len())?,
             left_out: 0,
             number: 1,
             round: Round::NONE,

@@ -47,7 +47,7 @@ where
         let cursor = self.cursor_of(peer);
         let base = base.try_clone().ok()?;
         let ask = match self.settings().timing.parts {
-            Some(_) => Some(next_ask(cursor, self.standing.walking(peer)).ok()?),
+            Some(_) => Some(next_ask(cursor, self.standing.peers.walking(peer)).ok()?),
             None => None,
         };
         Some(PullRequest {
@@ -63,6 +63,7 @@ where
         let patience = self.settings().patience.saturating_mul(1_000);
         let now = self.now();
         self.standing
+            .peers
             .steps_on(peer, now, patience.saturating_mul(PATIENCES))
     }
 
@@ -70,12 +71,12 @@ where
     pub(crate) fn ask_peer(&mut self, pullers: &Pullers, peer: u64) {
         let settings = self.settings();
         for (number, base) in (1..).zip(&settings.peers) {
-            if number == peer && !self.standing.is_pulled(peer) {
+            if number == peer && !self.standing.peers.is_pulled(peer) {
                 let is_pulled = match self.pull_request(peer, base) {
                     Some(request) => pullers.ask(self.rt, request),
                     None => false,
                 };
-                self.standing.set_pulled(peer, is_pulled);
+                self.standing.peers.set_pulled(peer, is_pulled);
             }
         }
     }
@@ -90,11 +91,11 @@ where
     ) -> Result<TakenAs, PeerFault>
         requires { ∥ IsPartBrought part ∥₁ }
     {
-        let stepped = match step(asked, self.standing.walking(peer), part) {
+        let stepped = match step(asked, self.standing.peers.walking(peer), part) {
             Ok(stepped) => stepped,
             Err(PartFault::NoMemory) => return Err(PeerFault::Part(PartFault::NoMemory)),
             Err(fault) => {
-                self.standing.set_walking(peer, None);
+                self.standing.peers.set_walking(peer, None);
                 return Err(PeerFault::Part(fault));
             }
         };
@@ -110,7 +111,7 @@ where
             None => self.accept_last(peer, asked, delta, left_out)?,
         };
         let now = self.now();
-        self.standing.note_part(peer, now);
+        self.standing.peers.note_part(peer, now);
         self.console.show_part(peer);
         Ok(taken)
     }
@@ -134,7 +135,7 @@ where
             left_out: before || left_out > 0,
             parts,
         };
-        self.standing.set_walking(peer, Some(walking));
+        self.standing.peers.set_walking(peer, Some(walking));
         Ok(taken)
     }
 
@@ -150,7 +151,7 @@ where
     {
         let taken = self.accept_kept(peer, asked, delta, left_out);
         if !matches!(taken, Err(PeerFault::Take(TakeFault::NoMemory))) {
-            self.standing.set_walking(peer, None);
+            self.standing.peers.set_walking(peer, None);
         }
         taken
     }

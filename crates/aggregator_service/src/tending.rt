@@ -115,7 +115,7 @@ where
     pub(crate) fn tend_ready(&mut self) {
         let patience = self.settings().patience.saturating_mul(1_000);
         let now = self.now();
-        if self.standing.has_learnt && !self.standing.is_unfinished(now, patience) {
+        if self.standing.has_learnt && !self.standing.peers.are_unfinished(now, patience) {
             self.standing.has_learnt = false;
             self.shared.readiness.set();
             self.shared.telling.tell_shown(self.rt);

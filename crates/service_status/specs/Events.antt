@@ -59,6 +59,6 @@ after_unforgotten f = record f { unforgotten = one_more f.unforgotten }
 abbrev pub after_entries : EntryCounts → PeerStatus → PeerStatus
 after_entries more p = record p { entries = with_entries more p.entries }
 
--- a part of a peer's delta was taken
-abbrev pub after_part : PeerStatus → PeerStatus
-after_part p = record p { parts = one_more p.parts }
+-- a part of a peer's delta was taken in this second
+abbrev pub after_part : ℕ → PeerStatus → PeerStatus
+after_part second p = record p { parts = one_more p.parts; last = second }

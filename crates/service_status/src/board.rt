@@ -200,13 +200,13 @@ impl StatusBoard {
         }
     }
 
-    /// Counts a part of the delta of the peer with this number, counted from 1.
-    pub fn add_part<R: Wait>(&self, rt: &R, number: u64) {
+    /// Counts a part of the delta of the peer with this number, counted from 1, that was taken in this second.
+    pub fn add_part<R: Wait>(&self, rt: &R, number: u64, second: u64) {
         if let Some(shared) = &self.shared {
             let mut status = shared.lock(rt);
             for (of, peer) in (1..).zip(&mut status.peers) {
                 if of == number {
-                    peer.add_part();
+                    peer.add_part(second);
                 }
             }
         }

@@ -202,7 +202,7 @@ pub struct PeerStatus {
     pub number: u64,
     pub base: Clean,
     pub pulls: PullCounts,
-    /// The second in which it gave a delta last; 0 before.
+    /// The second in which it gave a delta, or a part of a delta, last; 0 before.
     pub last: u64,
     /// What became of the entries of its deltas; told only where something is forgotten.
     pub entries: EntryCounts,
@@ -228,11 +228,12 @@ impl PeerStatus {
         self.entries.add(more);
     }
 
-    /// Counts a part of its delta.
-    pub fn add_part(&mut self)
-        ensures { self.new ≡ after_part self.old }
+    /// Counts a part of its delta that was taken in this second.
+    pub fn add_part(&mut self, second: u64)
+        ensures { self.new ≡ after_part second self.old }
     {
         self.parts = self.parts.saturating_add(1);
+        self.last = second;
     }
 }
 
