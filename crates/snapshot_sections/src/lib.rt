@@ -25,4 +25,4 @@ pub use fault::SectionFault;
 pub use laws::sections_are_read_back;
 pub use lines::Line;
 pub use reading::{next_section, read_first_line};
-pub use writing::{write_first_line, write_last_line, write_section_line};
+pub use writing::{write_bytes, write_first_line, write_last_line, write_section_line};

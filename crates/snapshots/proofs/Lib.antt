@@ -1,3 +1,4 @@
 pub mod Cutting
 pub mod ReadingBack
 pub mod Sectioning
+pub mod Beginning

@@ -27,7 +27,7 @@ joined_push : (ps : List (List (Key × Kept))) (p : List (Key × Kept)) → entr
 joined_push [] p = append-nil p
 joined_push (q ∷ ps) p = ap (λ (l : List (Key × Kept)). q ++ l) (joined_push ps p) ∙ sym (append_assoc q (entries_joined ps) p)
 
-flat_push : {A : Type 0} (f : A → List ℕ) (xs : List A) (x : A) → flat_map f (xs ++ x ∷ []) ≡ flat_map f xs ++ f x
+pub flat_push : {A : Type 0} (f : A → List ℕ) (xs : List A) (x : A) → flat_map f (xs ++ x ∷ []) ≡ flat_map f xs ++ f x
 flat_push f [] x = append-nil (f x)
 flat_push f (y ∷ xs) x = ap (λ (l : List ℕ). f y ++ l) (flat_push f xs x) ∙ sym (append_assoc (f y) (flat_map f xs) (f x))
 
@@ -45,17 +45,27 @@ text_short entries body few short =
     let whole = length-append (decimal entries) (10 ∷ (body ++ codes "end\n")) in
     omega (arith, digits, tail, whole, short)
 
+module _ (start old : Option (List ℕ)) (body : List ℕ) (entries sections : ℕ) (done : List (Key × Kept)) (stands : Stands start old body entries sections done) where
+  pub open_text : text_of stands.rest ≡ written_text entries body
+  open_text = text_is stands.rest ∙ (λ i. written_text (sym stands.entries_are i) (sym stands.body_is i))
+
+  pub joined_with_open : entries_joined (stands.parts ++ stands.rest ∷ []) ++ [] ≡ done
+  joined_with_open = append-nil (entries_joined (stands.parts ++ stands.rest ∷ [])) ∙ (joined_push stands.parts stands.rest ∙ stands.all)
+
+  pub all_fit_with_open : entries < 2 ^ 64 → AllByRecursion IsPart (stands.parts ++ stands.rest ∷ [])
+  all_fit_with_open few = push_all IsPart stands.parts stands.rest stands.fit (record {
+    entries = record { each = stands.rest_fits; count = subst (λ (n : ℕ). n < 2 ^ 64) stands.entries_are few };
+    short = subst (λ (t : List ℕ). length t ≤ 268435456) (sym open_text) (text_short entries body few stands.short);
+  })
+
 -- the open section is written
 pub section_ended : (start old now : Option (List ℕ)) (body : List ℕ) (entries sections : ℕ) (done : List (Key × Kept)) → Stands start old body entries sections done → entries < 2 ^ 64
-    → Appends old now (section_text (written_text entries body)) → Stands start now [] 0 (sections + 1) done
-section_ended start old now body entries sections done stands few section = record {
+    → sections + 1 < 2 ^ 64 → Appends old now (section_text (written_text entries body)) → Stands start now [] 0 (sections + 1) done
+section_ended start old now body entries sections done stands few one section = record {
   parts = stands.parts ++ stands.rest ∷ [];
   rest = [];
-  all = append-nil (entries_joined (stands.parts ++ stands.rest ∷ [])) ∙ (joined_push stands.parts stands.rest ∙ stands.all);
-  fit = push_all IsPart stands.parts stands.rest stands.fit (record {
-    entries = record { each = stands.rest_fits; count = subst (λ (n : ℕ). n < 2 ^ 64) stands.entries_are few };
-    short = subst (λ (t : List ℕ). length t ≤ 268435456) (sym same) (text_short entries body few stands.short);
-  });
+  all = joined_with_open start old body entries sections done stands;
+  fit = all_fit_with_open start old body entries sections done stands few;
   written = subst (Appends start now)
       (append_assoc first_line (flat_map section_text (map text_of stands.parts)) (section_text (text_of stands.rest))
       ∙ ap (λ (l : List ℕ). first_line ++ l)
@@ -64,6 +74,7 @@ section_ended start old now body entries sections done stands few section = reco
       (Appends-trans start old now (first_line ++ flat_map section_text (map text_of stands.parts)) (section_text (text_of stands.rest)) stands.written
       (subst (λ (t : List ℕ). Appends old now (section_text t)) (sym same) section));
   counted = ap (λ (n : ℕ). n + 1) stands.counted ∙ sym (length_push stands.parts stands.rest);
+  few = one;
   body_is = refl;
   entries_are = refl;
   rest_fits = All-nil IsEntry;
@@ -72,7 +83,7 @@ section_ended start old now body entries sections done stands few section = reco
 }
   where
     same : text_of stands.rest ≡ written_text entries body
-    same = text_is stands.rest ∙ (λ i. written_text (sym stands.entries_are i) (sym stands.body_is i))
+    same = open_text start old body entries sections done stands
 
 -- an entry is added to the open section
 pub entry_added : (start now : Option (List ℕ)) (body next : List ℕ) (entries sections : ℕ) (done : List (Key × Kept)) (e : Key × Kept) → Stands start now body entries sections done
@@ -84,6 +95,7 @@ entry_added start now body next entries sections done e stands grown is fits sho
   fit = stands.fit;
   written = stands.written;
   counted = stands.counted;
+  few = stands.few;
   body_is = grown ∙ (ap (λ (b : List ℕ). b ++ entry_text e) stands.body_is ∙ sym (flat_push entry_text stands.rest e));
   entries_are = ap (λ (n : ℕ). n + 1) stands.entries_are ∙ sym (length_push stands.rest e);
   rest_fits = All-push IsEntry stands.rest e stands.rest_fits is;
@@ -105,6 +117,7 @@ nothing_stands start now first = record {
   fit = tt;
   written = subst (Appends start now) (sym (append-nil first_line)) first;
   counted = refl;
+  few = omega arith;
   body_is = refl;
   entries_are = refl;
   rest_fits = All-nil IsEntry;
@@ -139,11 +152,11 @@ one_readable p rise is = record {
   short = subst (λ (es : List (Key × Kept)). length (text_of es) ≤ 268435456) (sym (entries_made p rise)) is.short;
 }
 
-all_readable : (ps : List (List (Key × Kept))) → T (fmap.is_sorted key_cmp (entries_joined ps)) → AllByRecursion IsPart ps → AllByRecursion IsReadable (map state_of ps)
+pub all_readable : (ps : List (List (Key × Kept))) → T (fmap.is_sorted key_cmp (entries_joined ps)) → AllByRecursion IsPart ps → AllByRecursion IsReadable (map state_of ps)
 all_readable [] rise are = tt
 all_readable (p ∷ ps) rise are = (one_readable p (front_rises p (entries_joined ps) rise) are.0, all_readable ps (back_rises p (entries_joined ps) rise) are.1)
 
-same_texts : (ps : List (List (Key × Kept))) → T (fmap.is_sorted key_cmp (entries_joined ps)) → map text_of ps ≡ map state_text (map state_of ps)
+pub same_texts : (ps : List (List (Key × Kept))) → T (fmap.is_sorted key_cmp (entries_joined ps)) → map text_of ps ≡ map state_text (map state_of ps)
 same_texts [] rise = refl
 same_texts (p ∷ ps) rise =
     let first : text_of p ≡ state_text (state_of p) = ap text_of (sym (entries_made p (front_rises p (entries_joined ps) rise))) in
@@ -167,13 +180,13 @@ state_written start now x ended =
 
 -- ---- one section
 
-whole_text : (head body : List ℕ) (entries : ℕ) → head ≡ codes "memento-state 2\nentries " ++ (decimal entries ++ 10 ∷ []) → written_text entries body ≡ head ++ (body ++ codes "end\n")
+pub whole_text : (head body : List ℕ) (entries : ℕ) → head ≡ codes "memento-state 2\nentries " ++ (decimal entries ++ 10 ∷ []) → written_text entries body ≡ head ++ (body ++ codes "end\n")
 whole_text head body entries is =
     sym (ap (λ (h : List ℕ). h ++ (body ++ codes "end\n")) is
     ∙ (append_assoc (codes "memento-state 2\nentries ") (decimal entries ++ 10 ∷ []) (body ++ codes "end\n")
     ∙ ap (λ (l : List ℕ). codes "memento-state 2\nentries " ++ l) (append_assoc (decimal entries) (10 ∷ []) (body ++ codes "end\n"))))
 
-whole_length : (head body : List ℕ) (n : ℕ) → n ≡ length head + length body + 4 → n ≡ length (head ++ (body ++ codes "end\n"))
+pub whole_length : (head body : List ℕ) (n : ℕ) → n ≡ length head + length body + 4 → n ≡ length (head ++ (body ++ codes "end\n"))
 whole_length head body n is =
     let first : length (head ++ (body ++ codes "end\n")) ≡ length head + length (body ++ codes "end\n") = length-append head (body ++ codes "end\n") in
     let second : length (body ++ codes "end\n") ≡ length body + 4 = length-append body (codes "end\n") in
@@ -192,13 +205,13 @@ section_written old a b c now head body entries n head_is n_is line first middle
 -- ---- the steps of the code
 
 pub ended_step : (start old now : Option (List ℕ)) (body lines next : List ℕ) (entries none sections more : ℕ) (done : List (Key × Kept))
-    → Stands start old body entries sections done → entries < 2 ^ 64 → Appends old now (section_text (written_text entries lines))
+    → Stands start old body entries sections done → entries < 2 ^ 64 → more < 2 ^ 64 → Appends old now (section_text (written_text entries lines))
     → lines ≡ body → next ≡ [] → none ≡ 0 → more ≡ sections + 1 → Stands start now next none more done
-ended_step start old now body lines next entries none sections more done stands few section same empty zero one =
+ended_step start old now body lines next entries none sections more done stands few fits section same empty zero one =
     subst (λ (b : List ℕ). Stands start now b none more done) (sym empty)
     (subst (λ (n : ℕ). Stands start now [] n more done) (sym zero)
     (subst (λ (n : ℕ). Stands start now [] 0 n done) (sym one)
-    (section_ended start old now body entries sections done stands few (subst (λ (b : List ℕ). Appends old now (section_text (written_text entries b))) same section))))
+    (section_ended start old now body entries sections done stands few (subst (λ (n : ℕ). n < 2 ^ 64) one fits) (subst (λ (b : List ℕ). Appends old now (section_text (written_text entries b))) same section))))
 
 pub added_step : (start now : Option (List ℕ)) (body next lines : List ℕ) (entries more sections : ℕ) (done : List (Key × Kept)) (e : Key × Kept) → Stands start now body entries sections done
     → next ≡ body ++ lines → lines ≡ entry_text e → more ≡ entries + 1 → IsEntry e → length body + length lines ≤ longest_body → Stands start now next more sections (done ++ e ∷ [])

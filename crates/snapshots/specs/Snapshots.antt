@@ -1,11 +1,13 @@
 -- The bytes of a snapshot of a state.
-use Rattle.std.specs.Prelude.{◌≡◌, ⊤, ℕ, ◌≤◌, ◌<◌, ◌^◌, List, [], ◌∷◌, length, map as map_list, Option}
+use Rattle.std.specs.Prelude.{◌≡◌, ⊤, ℕ, ◌≤◌, ◌<◌, ◌^◌, List, [], ◌∷◌, ◌++◌, length, map as map_list, Option}
 use Rattle.std.specs.List.{AllByRecursion}
+use Rattle.std.specs.FinMap as map
 use Rattle.std.specs.Io.KnownBytes.{Appends}
 use Rattle.harvest_lattice.specs.Lattice.{Key, Kept, Entries}
 use Rattle.replica_exchange.specs.StateText.{entry_text, state_text, IsState, IsTextOf}
 use Rattle.replica_exchange.specs.Faults.{longest_text}
 use Rattle.snapshot_sections.specs.Sections.{snapshot_text, AreSections}
+use Rattle.snapshot_sections.specs.Writing.{AppendsLess}
 use Rattle.snapshots.specs.Cuts.{IsCut}
 
 -- its text can be written, and is short enough to be read again
@@ -42,6 +44,15 @@ pub record Writes (old new : Option (List ℕ)) (x : Entries) : Type 0 where
   pub bytes : List ℕ
   pub snapshot : IsSnapshotOf bytes x
   pub appended : Appends old new bytes
+
+-- what a writer holds grows by a beginning of a snapshot of the state's first entries, and not by the whole snapshot
+pub record WritesLess (old new : Option (List ℕ)) (x : Entries) : Type 0 where
+  pub first : Entries
+  pub others : List (Key × Kept)
+  pub in_order : map.entries first ++ others ≡ map.entries x
+  pub bytes : List ℕ
+  pub snapshot : IsSnapshotOf bytes first
+  pub less : AppendsLess old new bytes
 
 -- each text is that of the state at its place
 abbrev pub AreTextsOf : List (List ℕ) → List Entries → Type 0

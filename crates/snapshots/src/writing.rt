@@ -1,19 +1,20 @@
 //! Writes a state as a snapshot, and cuts it while it is written.
-ghost use Rattle.std.specs.Prelude.{◌≡◌, ◌≤◌, ◌<◌, ◌+◌, ◌++◌, ◌∷◌, [], List, Option, ℕ, length, codes, All, Any, OnOk, IsErrOf};
+ghost use Rattle.std.specs.Prelude.{◌≡◌, ◌≤◌, ◌<◌, ◌+◌, ◌++◌, ◌∷◌, [], List, Option, ℕ, length, codes, All, Any, OnOk, OnErr, IsErrOf};
 ghost use Rattle.std.specs.FinMap as map;
 ghost use Rattle.std.specs.Fmt.{decimal};
 ghost use Rattle.std.specs.Io.KnownBytes.{Appends};
 ghost use Rattle.harvest_lattice.specs.Lattice.{Key, Kept};
 ghost use Rattle.replica_exchange.specs.StateText.{entry_text};
 ghost use Rattle.snapshot_sections.specs.Sections.{section_text};
-ghost use Rattle.snapshots.specs.Snapshots.{Writes, IsShort, IsLong, longest_body};
-ghost use Rattle.snapshots.specs.Standing.{Stands, Ended};
+ghost use Rattle.snapshot_sections.specs.Writing.{AppendsLess};
+ghost use Rattle.snapshots.specs.Snapshots.{Writes, WritesLess, IsShort, IsLong, longest_body};
+ghost use Rattle.snapshots.specs.Standing.{Stands, Ended, Begun};
 
 use crate::faults::WriteFault;
 use harvest_lattice::{Entry, State};
 use memento_time::{ArchiveName, Original};
 use replica_exchange::write_entry;
-use snapshot_sections::{write_first_line, write_last_line, write_section_line};
+use snapshot_sections::{write_bytes, write_first_line, write_last_line, write_section_line};
 use std::alloc::Global;
 use std::io::{self, Write};
 use text_fields::write_decimal;
@@ -24,7 +25,8 @@ const SECTION: usize = 16_777_216;
 /// No entry has more bytes, so that the text of a section with one entry is short enough to be read.
 const LONGEST_BODY: usize = 268_435_400;
 
-/// Writes a section: the text of the state of so many entries, whose lines these are.
+/// Writes a section: the text of the state of so many entries, whose lines these are. After an error the writer has a
+/// beginning of the section more, and not all of it.
 fn write_section<W: Write>(
     alloc: Global,
     writer: &mut W,
@@ -34,6 +36,8 @@ fn write_section<W: Write>(
     requires { length body.now ≤ longest_body }
     ensures written { OnOk result (Appends (W.contents writer.old) (W.contents writer.new)
         (section_text (codes "memento-state 2\nentries " ++ (decimal entries ++ (10 ∷ (body.now ++ codes "end\n")))))) }
+    ensures less { OnErr result (AppendsLess (W.contents writer.old) (W.contents writer.new)
+        (section_text (codes "memento-state 2\nentries " ++ (decimal entries ++ (10 ∷ (body.now ++ codes "end\n")))))) }
 {
     let mut head = Vec::new(alloc);
     head.extend_from_slice(b"memento-state 2\nentries ")?;
@@ -42,9 +46,9 @@ fn write_section<W: Write>(
     let end = b"end\n";
     let length = head.len() + body.len() + end.len();
     write_section_line(alloc, writer, length as u64)?;
-    writer.write_all(&head)?;
-    writer.write_all(body)?;
-    writer.write_all(end)?;
+    write_bytes(writer, &head)?;
+    write_bytes(writer, body)?;
+    write_bytes(writer, end)?;
     Ok(())
 }
 
@@ -83,6 +87,9 @@ impl Sections {
         ensures ended { OnOk result ((start : Option (List ℕ)) (done : List (Key × Kept))
             → Stands start (W.contents writer.old) self.old.body.items self.old.entries self.old.written done
             → Stands start (W.contents writer.new) self.new.body.items self.new.entries self.new.written done) }
+        ensures begun { OnErr result ((start : Option (List ℕ)) (done : List (Key × Kept))
+            → Stands start (W.contents writer.old) self.old.body.items self.old.entries self.old.written done
+            → Begun start (W.contents writer.new) done) }
         ensures empty { OnOk result (self.new.body.items ≡ []) }
         ensures no_entry { ¬ IsErrOf result WriteFault.TooLong }
         ensures entry { OnOk result (self.new.entry.items ≡ self.old.entry.items) }
@@ -104,6 +111,9 @@ impl Sections {
         ensures ended { OnOk result ((start : Option (List ℕ)) (done : List (Key × Kept))
             → Stands start (W.contents writer.old) self.old.body.items self.old.entries self.old.written done
             → Stands start (W.contents writer.new) self.new.body.items self.new.entries self.new.written done) }
+        ensures begun { OnErr result ((start : Option (List ℕ)) (done : List (Key × Kept))
+            → Stands start (W.contents writer.old) self.old.body.items self.old.entries self.old.written done
+            → Begun start (W.contents writer.new) done) }
         ensures fits { OnOk result (length self.new.body.items + length self.new.entry.items ≤ longest_body) }
         ensures no_entry { ¬ IsErrOf result WriteFault.TooLong }
         ensures entry { OnOk result (self.new.entry.items ≡ self.old.entry.items) }
@@ -127,6 +137,9 @@ impl Sections {
             → Stands start (W.contents writer.old) self.old.body.items self.old.entries self.old.written done
             → Stands start (W.contents writer.new) self.new.body.items self.new.entries self.new.written
             (done ++ ((archive, original.now), entry.now) ∷ [])) }
+        ensures begun { OnErr result ((start : Option (List ℕ)) (done : List (Key × Kept))
+            → Stands start (W.contents writer.old) self.old.body.items self.old.entries self.old.written done
+            → Begun start (W.contents writer.new) done) }
         ensures short { OnOk result (length self.new.body.items ≤ longest_body) }
         ensures too_long { IsErrOf result WriteFault.TooLong → IsLong ((archive, original.now), entry.now) }
     {
@@ -150,6 +163,9 @@ impl Sections {
         ensures ended { OnOk result ((start : Option (List ℕ)) (done : List (Key × Kept))
             → Stands start (W.contents writer.old) self.old.body.items self.old.entries self.old.written done
             → Stands start (W.contents writer.new) self.new.body.items self.new.entries self.new.written done) }
+        ensures begun { OnErr result ((start : Option (List ℕ)) (done : List (Key × Kept))
+            → Stands start (W.contents writer.old) self.old.body.items self.old.entries self.old.written done
+            → Begun start (W.contents writer.new) done) }
         ensures empty { OnOk result (self.new.body.items ≡ []) }
         ensures no_entry { ¬ IsErrOf result WriteFault.TooLong }
     {
@@ -165,6 +181,9 @@ impl Sections {
         ensures ended { OnOk result ((start : Option (List ℕ)) (done : List (Key × Kept))
             → Stands start (W.contents writer.old) self.body.items self.entries self.written done
             → Ended start (W.contents writer.new) done) }
+        ensures begun { OnErr result ((start : Option (List ℕ)) (done : List (Key × Kept))
+            → Stands start (W.contents writer.old) self.body.items self.entries self.written done
+            → Begun start (W.contents writer.new) done) }
         ensures no_entry { ¬ IsErrOf result WriteFault.TooLong }
     {
         self.end_begun(writer)?;
@@ -177,13 +196,15 @@ impl Sections {
 /// a time, of some 16 MiB, or of one entry where that is longer. The state isn't copied.
 ///
 /// `TooLong` if an entry is too long for any text that can be read. `NotWritten` and `NoMemory` may come at any time.
-/// After an error the writer has a beginning of a snapshot, which is read as none.
+/// After an error the writer has a beginning of a snapshot of the state's first entries, and not all of that snapshot:
+/// so nothing is read of it (`a_snapshot_is_read_back`, `cut`).
 pub fn write_snapshot<W: Write>(
     alloc: Global,
     state: &State,
     writer: &mut W,
 ) -> Result<(), WriteFault>
     ensures written { OnOk result (Writes (W.contents writer.old) (W.contents writer.new) state.now) }
+    ensures less { OnErr result (WritesLess (W.contents writer.old) (W.contents writer.new) state.now) }
     ensures short { OnOk result (All IsShort (map.entries state.now)) }
     ensures too_long { IsErrOf result WriteFault.TooLong → Any IsLong (map.entries state.now) }
 {

@@ -1,8 +1,11 @@
-use Rattle.std.proofs.Common.{◌∙◌}
+use Rattle.std.proofs.Common.{◌∙◌, [], map, refl, sym}
+use Rattle.std.specs.FinMap as fmap
 use Rattle.std.proofs.lemmas.List.{map_push}
 use Rattle.std.proofs.lemmas.Result.{err_from_is_err_and}
-use Rattle.std.proofs.lemmas.Map.Iter.{iter_end, iter_turn}
+use Rattle.std.proofs.lemmas.Map.Iter.{iter_end, iter_turn, rest_so_far}
 use Rattle.harvest_lattice.specs.Rows.{lent_entry}
+use Rattle.snapshot_sections.proofs.Appending.{on_err}
+use Rattle.snapshots.proofs.Beginning.{in_first_line, state_begun}
 use Rattle.snapshots.proofs.Sectioning.{nothing_started, rows_written, rows_short, one_is_long, same_fault}
 use Rattle.snapshots.proofs.writing.write_snapshot.Goals as goal
 
@@ -33,3 +36,19 @@ returns-clause-short g c =
     let start = c.into_iter-archive-iterator.ensures.into_iter_gives ∙ c.rows-archive-items.ensures in
     let whole = iter_end lent_entry _ c.loop-archive.yielded _ _ _ _ start c.loop-archive.yielded_by c.in-None.is c.next.ensures.steps in
     rows_short _ c.args.state.now _ _ _ _ _ c.loop-archive.invariant whole.0
+
+pub returns-in_err-write_first_line-clause-less : goal.returns-in_err-write_first_line-clause-less
+returns-in_err-write_first_line-clause-less g c =
+    on_err _ (state_begun _ _ c.args.state.now [] (fmap.entries c.args.state.now) (in_first_line _ _ c.in_err-write_first_line.ensures.less) refl)
+
+pub returns-in_err-add-clause-less : goal.returns-in_err-add-clause-less
+returns-in_err-add-clause-less g c =
+    let start = c.into_iter-archive-iterator.ensures.into_iter_gives ∙ c.rows-archive-items.ensures in
+    on_err _ (state_begun _ _ c.args.state.now (map lent_entry c.loop-archive.yielded) _ (c.in_err-add.ensures.begun _ _ c.loop-archive.invariant)
+    (sym (rest_so_far lent_entry c.loop-archive.yielded _ _ c.loop-archive.yielded_by) ∙ start))
+
+pub returns-in_err-end-clause-less : goal.returns-in_err-end-clause-less
+returns-in_err-end-clause-less g c =
+    let start = c.into_iter-archive-iterator.ensures.into_iter_gives ∙ c.rows-archive-items.ensures in
+    on_err _ (state_begun _ _ c.args.state.now (map lent_entry c.loop-archive.yielded) _ (c.in_err-end.ensures.begun _ _ c.loop-archive.invariant)
+    (sym (rest_so_far lent_entry c.loop-archive.yielded _ _ c.loop-archive.yielded_by) ∙ start))
