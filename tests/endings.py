@@ -17,8 +17,8 @@ import subprocess
 import tempfile
 import time
 
-from playing import (BASE, ENVIRONMENT, ORIGINAL, PROGRAM, TOP, Service, compiled, free_ports, get, holds, is_listening, settings_text, start_archive,
-                     wait_for)
+from playing import (BASE, ENVIRONMENT, ORIGINAL, PATIENCE, PROGRAM, TOP, Service, compiled, free_ports, get, holds, is_listening, settings_text,
+                     start_archive, wait_for)
 
 BAD_MACHINE = 3
 NOBODY = 61234    # a user without any other process
@@ -29,7 +29,7 @@ def ended(folder, gates, log=False, program=PROGRAM, **more):
     settings = folder / "settings.toml"
     settings.write_text(settings_text(gates=gates, originals=[ORIGINAL], archives=[("archive.test", "http://127.0.0.1:1")], log=log))
     settings.chmod(0o644)
-    ran = subprocess.run([program, "serve", settings], capture_output=True, text=True, timeout=30, env=ENVIRONMENT, check=False, **more)
+    ran = subprocess.run([program, "serve", settings], capture_output=True, text=True, timeout=PATIENCE, env=ENVIRONMENT, check=False, **more)
     return ran.returncode, ran.stdout, ran.stderr
 
 
@@ -60,9 +60,7 @@ def no_thread():
 
 def try_gates(folder):
     taken, other = free_ports(2)
-    with socket.socket() as one:
-        one.bind(("127.0.0.1", taken))
-        one.listen()
+    with socket.create_server(("127.0.0.1", taken)):
         holds("an address in use is no gate", ended(folder, [f"127.0.0.1:{taken}"]) == NO_GATE)
         both = [f"127.0.0.1:{other}", f"127.0.0.1:{taken}"]
         holds("nor is it beside one that is free", ended(folder, both) == NO_GATE)
@@ -121,12 +119,12 @@ def try_accept(stack):
     holds("the first round is told", service.line().startswith("round 1 "))
     most = resource.prlimit(service.process.pid, resource.RLIMIT_NOFILE)
     resource.prlimit(service.process.pid, resource.RLIMIT_NOFILE, (3, most[1]))
-    with socket.create_connection(("127.0.0.1", service.ports[0]), 10) as reader:
+    with socket.create_connection(("127.0.0.1", service.ports[0]), PATIENCE) as reader:
         reader.sendall(b"GET / HTTP/1.1\r\nHost: aggregator.test\r\nConnection: close\r\n\r\n")
         reader.settimeout(2)
         holds("who can't be accepted waits", nothing_comes(reader))
         resource.prlimit(service.process.pid, resource.RLIMIT_NOFILE, most)
-        reader.settimeout(30)
+        reader.settimeout(PATIENCE)
         holds("and is answered once there is a descriptor", reader.recv(9) == b"HTTP/1.1 ")
     holds("so is the gate's last connection", service.get("/")[0] == 404)
     status, output, complaint = service.ending()

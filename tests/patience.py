@@ -10,7 +10,7 @@ import socket
 import threading
 import time
 
-from playing import (BASE, MEMENTO, ORIGINAL, Listener, Played, Service, comes_true, delta, dripped, entry, holds, lacks, link, reply,
+from playing import (BASE, MEMENTO, ORIGINAL, PATIENCE, Listener, Played, Service, comes_true, delta, dripped, entry, holds, lacks, link, reply,
                      same, told)
 
 WAIT = 3    # seconds of patience, for a connection and a head
@@ -181,23 +181,26 @@ def try_equal_rounds():
 
 def try_other_rounds():
     """Rounds that bring other lists keep what the round before brought until they are published, and nothing older."""
-    count, each = 2_000, 50
-    asked = itertools.count()
+    count, each, rounds = 2_000, 50, 6
+    asked, is_over = itertools.count(), threading.Event()
 
     def address(number, k):
         return f"http://m.example/{number}/{k:060}"
 
     def answer(_):
         number = next(asked) // count
+        if number == rounds:    # so that the memory is what it is between two rounds
+            is_over.wait(PATIENCE)
         return reply(",".join(link(address(number, k)) for k in range(each)))
 
     with contextlib.ExitStack() as stack:
         archive = Played(stack, answer)
-        service = Service(stack, archives=[("a.example", archive.address)], workers=8, rounds=7, pause=1,
+        stack.callback(is_over.set)
+        service = Service(stack, archives=[("a.example", archive.address)], workers=8, rounds=rounds + 1, pause=1,
                           originals=[f"http://a.example/{k}" for k in range(count)])
         same(f"{count:,} lists of {each} mementos are harvested", service.line(), told(1, count, count))
         first = service.memory()
-        for number in range(2, 7):
+        for number in range(2, rounds + 1):
             same("and other ones", service.line(), told(number, count, count))
         grown, lists = service.memory() - first, count * each * (len(address(0, 0)) + 24) // 1024
         holds(f"five more rounds add {grown} KiB to {first}, for lists of {lists} KiB", grown < lists * 8 // 5)

@@ -108,15 +108,23 @@ def wait_for(port):
 # ---- ports and asking ----
 
 
+KEPT = contextlib.ExitStack()    # the sockets that keep ports for this test, until it ends
+
+
 def free_ports(count, in_a_row=False):
     """So many ports that were free, perhaps one after the other. They lie below those that connections go out from, so that
-    none of these takes one before it is listened at."""
+    none of these takes one before it is listened at. No other test is given one of them before this test ends, not even while
+    a service that listens at one is restarted: each has a socket that is bound to it and doesn't listen. Who listens there has to
+    let addresses be used again, as services, nginx and `socket.create_server` do."""
     while True:
         first = random.randrange(10_000, 32_000 - count)
         tried = range(first, first + count) if in_a_row else random.sample(range(10_000, 32_000), count)
         with contextlib.suppress(OSError), contextlib.ExitStack() as stack:
             for port in tried:
-                stack.enter_context(socket.socket()).bind(("127.0.0.1", port))
+                held = stack.enter_context(socket.socket())
+                held.bind(("127.0.0.1", port))
+                held.setsockopt(socket.SOL_SOCKET, socket.SO_REUSEADDR, 1)
+            KEPT.push(stack.pop_all())
             return list(tried)
 
 
@@ -298,7 +306,7 @@ class Relay(Played):
 def start(stack, *words, **more):
     """A program that ends with the script."""
     process = subprocess.Popen([str(word) for word in words], **more)
-    stack.callback(lambda: (process.terminate(), process.wait(10)))
+    stack.callback(lambda: (process.terminate(), process.wait(PATIENCE)))
     return process
 
 
@@ -426,9 +434,13 @@ class Service:
     def wish(self, original, archive):
         """Asks for an original each second, as a reader who misses it does, until the archive is asked for it. A gate takes no wish
         while another thread has the book of wishes, so one question may be in vain."""
+        def has_asked():
+            return BASE + original in archive.targets()
+
         def is_asked():
-            self.shows(original)
-            return comes_true(lambda: BASE + original in archive.targets(), 1)
+            if not has_asked():
+                self.shows(original)
+            return comes_true(has_asked, 1)
 
         until(f"the archive is asked for {original}", is_asked)
 
