@@ -90,10 +90,9 @@ def main():
         archive.go_on.set()
         holds("and what the other one brings", waited(front, (302, FIRST), 30))
         harvesters[0].kill()
-        time.sleep(1)
+        time.sleep(3)
         count = len(archive.played.heads)
-        for replica in replicas:
-            replica.rounds(3)
+        time.sleep(4)    # in which each replica makes some rounds
         same("with both down they see what came last", {shown(front, original) for original in ORIGINALS}, {(302, FIRST)})
         same("and what nobody knows is 404", {shown(front, f"http://nobody.example/{k}") for k in range(4)}, {(404, None)})
         same(f"and the archive, which was asked {count} times, is asked no more", len(archive.played.heads), count)

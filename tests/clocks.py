@@ -122,7 +122,8 @@ def try_standing(library):
 def try_set_back(library):
     """The clock is set while the program waits between two rounds."""
     with contextlib.ExitStack() as stack:
-        clock, archive, service = under(stack, library, second_of(2020), rounds=4, pause=2)
+        # The pause is long enough for the clock to be set in it, on a machine that is busy.
+        clock, archive, service = under(stack, library, second_of(2020), rounds=4, pause=5)
         round_of(service, archive, 1)
         first = revision_of(service)
         for number, year in ((2, 2010), (3, 1950)):

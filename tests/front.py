@@ -115,8 +115,8 @@ def try_wishes(stack, gate):
 
 
 def try_rate(stack, gate):
-    """Who asks too much is told when to ask again."""
-    port = nginx(stack, [gate.port])
+    """Who asks too much is told when to ask again, however slowly a machine that is busy lets this test ask."""
+    port = nginx(stack, [gate.port], ("rate=20r/s", "rate=1r/s"))
     came = [ask(port, "/timegate/" + ORIGINAL) for _ in range(100)]
     refused = [fields for status, fields, _ in came if status == 503]
     holds(f"{len(refused)} of 100 replies say 503", refused)
@@ -201,7 +201,7 @@ def try_unknown(stack):
     aren't counted (`error_page 404`), and a reader whose connections are free again once they have left
     (`proxy_ignore_client_abort`, in each of its places)."""
     gate = Played(stack, knows(ORIGINAL))
-    port = nginx(stack, [gate.port], ("rate=20r/s", "rate=1000r/s"), ("rate=12r/m", "rate=120r/m"))
+    port = nginx(stack, [gate.port], ("rate=20r/s", "rate=1000r/s"), ("rate=12r/m", "rate=60r/m"))
     one, other, gone = (Reader(port, f"127.0.0.{number}") for number in (5, 6, 7))
     begun = time.monotonic()
     first = [one.ask()[0] for _ in range(12)]
@@ -209,7 +209,7 @@ def try_unknown(stack):
     same("twelve replies to one reader are 404", first, [404] * 12)
     later = [one.ask() for _ in range(5)]
     took = time.monotonic() - begun
-    holds(f"and come in {early:.1f} s, and five more in {took - early:.1f} s", early < 5 and took > 1.5)
+    holds(f"and come in {early:.1f} s, and five more in {took - early:.1f} s", early < 8 and took > 3)
     same("as a gate says it, and when to ask again", [(status, body, fields["vary"], fields["retry-after"]) for status, fields, body in later],
          [(404, "no memento\n", "accept-datetime", "3")] * 5)
     same("by TimeMaps and dates, too", [ask(port, target + "http://nobody.example/x", source="127.0.0.8")[::2] for target in (
@@ -217,11 +217,11 @@ def try_unknown(stack):
     begun = time.monotonic()
     same("another reader's come at once meanwhile", [other.ask()[0] for _ in range(10)], [404] * 10)
     same("and what is known to the first", [ask(port, "/timegate/" + ORIGINAL, source="127.0.0.5")[0] for _ in range(20)], [302] * 20)
-    holds("all of that before they would, if they were counted", time.monotonic() - begun < 4.5)
+    holds("all of that before they would, if they were counted", time.monotonic() - begun < 9)
     begun, before = time.monotonic(), len(gate.heads)
-    while time.monotonic() - begun < 6:
+    while time.monotonic() - begun < 6 or gone.count < 150:
         gone.leave()
-    came, most = len(gate.heads) - before, 12 + 20 + 2 * (time.monotonic() - begun) + 2
+    came, most = len(gate.heads) - before, 12 + 20 + (time.monotonic() - begun) + 2
     holds(f"of {gone.count} wishes of a reader who leaves at once a gate is told {came}, at most {most:.0f}", came <= most < gone.count / 2)
 
 

@@ -12,7 +12,7 @@ import sys
 import threading
 import time
 
-from playing import BASE, CHUNKED, MEMENTO, ORIGINAL, Played, Service, chunk, delta, entry, holds, link, reply, same, told
+from playing import BASE, CHUNKED, MEMENTO, ORIGINAL, PATIENCE, Played, Service, chunk, delta, entry, holds, link, reply, same, told
 
 LATER = "http://m.example/2"
 PAGE = link(MEMENTO)
@@ -208,10 +208,17 @@ def try_growth():
     refused, and what is held is still shown."""
     more, count = 24 * 1024 * 1024, 12
     with contextlib.ExitStack() as stack:
-        peer = Played(stack, lambda _: reply(growing(len(peer.heads), 5_000 * len(peer.heads))))
+        is_limited = threading.Event()
+
+        def answer(_):
+            is_limited.wait(PATIENCE)
+            return reply(growing(len(peer.heads), 5_000 * len(peer.heads)))
+
+        peer = Played(stack, answer)
         service = Service(stack, peers=[peer.address], rounds=count)
         held = service.memory("VmData") * 1024 + more
         resource.prlimit(service.process.pid, resource.RLIMIT_DATA, (held, held))
+        is_limited.set()
         rounds = [service.line().split()[6:] for _ in range(count)]
         taken = [number for number, line in enumerate(rounds, 1) if line[:2] == ["pulls", "1"]]
         holds(f"of {count} deltas, each longer than the one before, it takes {taken} in 24 MiB",

@@ -10,7 +10,7 @@ import re
 import subprocess
 import urllib.parse
 
-from playing import TOP, Played, ask, free_ports, holds, needs, nginx, reply, same, start, wait_for
+from playing import TOP, Played, ask, comes_true, free_ports, holds, needs, nginx, reply, same, start, wait_for
 from service import Browser
 
 ORIGINAL = "http://a.example/x?y=1&z=%C3%A9"
@@ -59,7 +59,7 @@ def try_nothing(browser, front):
     browser.call("POST", "/url", {"url": f"http://127.0.0.1:{front}/nosuch/page"})
     [link] = browser.call("POST", "/element", {"using": "css selector", "value": "a"}).values()
     browser.call("POST", f"/element/{link}/click", {})
-    same("and its link leads home", browser.call("GET", "/url"), f"http://127.0.0.1:{front}/")
+    holds("and its link leads home", comes_true(lambda: browser.call("GET", "/url") == f"http://127.0.0.1:{front}/"))
 
 
 def try_typed(browser, front, copies):
@@ -70,9 +70,7 @@ def try_typed(browser, front, copies):
             [element] = browser.call("POST", "/element", {"using": "css selector", "value": selector}).values()
             if text:
                 browser.call("POST", f"/element/{element}/value", {"text": text})
-        for _ in range(100):
-            if browser.call("GET", "/url") == f"http://127.0.0.1:{copies.port}/copy":
-                break
+        comes_true(lambda: browser.call("GET", "/url") == f"http://127.0.0.1:{copies.port}/copy")
         same(f"without JavaScript the form leads by {wanted} to the copy", browser.call("GET", "/url"), f"http://127.0.0.1:{copies.port}/copy")
 
 

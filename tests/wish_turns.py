@@ -5,10 +5,12 @@ archive answers to a wish puts it to sleep for nobody; and a wish waits for an a
     ./run --unproved && tests/wish_turns.py
 """
 import contextlib
+import itertools
+import re
 import threading
 import time
 
-from playing import BASE, GOOD, MEMENTO, Played, Service, holds, originals, reply, same, slow, told, until
+from playing import BASE, GOOD, MEMENTO, PATIENCE, Played, Service, comes_true, get, holds, originals, reply, same, slow, told, until
 
 NONE = reply(status=404)
 MANY = 1_000_000    # rounds, for a service that is to go on until it is killed
@@ -28,13 +30,21 @@ def asked(archive, original):
     return archive.targets().count(BASE + original)
 
 
-def wish_for(service, seconds, every):
-    """Asks for one made-up original after another."""
-    end, number = time.monotonic() + seconds, 0
-    while time.monotonic() < end:
-        service.shows(f"http://made-up.example/{number}")
-        number += 1
+def until_when(port, what):
+    """Until when the service lets its archive be, as the status at this port tells it: `dormant` or `aside`; 0 if it doesn't."""
+    return int(re.search(rf"(?m)^maplewrench_archive_{what}_until_timestamp_seconds\{{.*\}} (\d+)$", get(port, "/metrics")[2])[1])
+
+
+def wish_for(service, every, is_over):
+    """Asks for one made-up original after another, until this holds, or for a patience."""
+    numbers = itertools.count()
+
+    def ask_on():
+        service.shows(f"http://made-up.example/{next(numbers)}")
         time.sleep(every)
+        return is_over()
+
+    comes_true(ask_on)
 
 
 def try_one_archive():
@@ -44,7 +54,12 @@ def try_one_archive():
         archives = [lazy] + [Played(stack, lambda _: NONE) for _ in range(3)]
         service = Service(stack, archives=[(f"a{k}.example", one.address) for k, one in enumerate(archives)], originals=LISTED,
                           workers=4, keys={"wanted": 1000, "wishes": 60_000, "at_once": 1})
-        wish_for(service, 14, 0.1)
+
+        def is_seen():
+            kinds = [is_listed(target) for target in lazy.targets()]
+            return kinds.count(True) >= 10 and kinds.count(False) >= 9
+
+        wish_for(service, 0.1, is_seen)
         kinds = [is_listed(target) for target in lazy.targets()]
         jobs, wishes = kinds.count(True), kinds.count(False)
         holds(f"it was asked for {jobs} of the round's 20 originals, and for {wishes} wishes", jobs >= 10 and wishes >= 9)
@@ -65,7 +80,15 @@ def try_one_archive():
 def try_hands():
     """Wishes for archives that have done their part of the round don't take all hands from one that hasn't."""
     with contextlib.ExitStack() as stack:
-        late = Played(stack, slow(0.2, NONE))
+        is_done, next_answer = threading.Event(), slow(0.2, NONE)
+
+        def answer_late(target):
+            """It has done a quarter of its part when the others have done theirs."""
+            if len(late.heads) > 5:
+                is_done.wait(PATIENCE)
+            return next_answer(target)
+
+        late = Played(stack, answer_late)
 
         def answer(target):
             time.sleep(0 if is_listed(target) else 0.5)
@@ -76,11 +99,17 @@ def try_hands():
                           originals=LISTED, workers=2, keys={"wanted": 1000, "wishes": 60_000, "at_once": 1})
         until("the others have done their part", lambda: all(len(one.heads) >= 20 for one in quick))
         before = len(late.heads)
-        holds(f"and it hasn't: {before} of 20", before < 16)
-        wish_for(service, 6, 0.1)
-        jobs = sum(map(is_listed, late.targets()))
-        holds(f"in 6 seconds of wishes it went on to {jobs} of 20", jobs >= min(20, before + 4))
-        holds("and wishes were granted meanwhile", sum(not is_listed(target) for one in quick for target in one.targets()) >= 6)
+        holds(f"and it hasn't: {before} of 20", before <= 6)
+        is_done.set()
+
+        def counts():
+            """How many of its jobs were begun, and how many walks for wishes."""
+            return sum(map(is_listed, late.targets())), sum(not is_listed(target) for one in quick for target in one.targets())
+
+        wish_for(service, 0.1, lambda: counts()[0] >= before + 8 and counts()[1] >= 6)
+        jobs, wishes = counts()
+        holds(f"beside wishes without a pause it goes on to {jobs} of 20", jobs >= before + 8)
+        holds(f"and wishes are granted meanwhile, by {wishes} walks", wishes >= 6)
 
 
 def try_statuses():
@@ -117,11 +146,12 @@ def try_statuses():
     with contextlib.ExitStack() as stack:
         archive = Played(stack, lambda _: b"")
         service = Service(stack, archives=[("a.example", archive.address)], rounds=2, pause=86_400,
-                          keys={"wanted": 1000, "wishes": 60_000, "tolerance": 3, "dormant": 600})
+                          keys={"wanted": 1000, "wishes": 60_000, "tolerance": 3, "dormant": 600, "status": "127.0.0.1:0"})
+        port = int(service.line().rpartition(":")[2])
         for number in range(3):
             service.wish(f"http://made-up.example/{number}", archive)
         same("it is asked three times", len(archive.heads), 3)
-        time.sleep(1)
+        until("and is dormant then", lambda: until_when(port, "dormant") > time.time())
         service.shows("http://after.example/")
         time.sleep(2)
         same("one that says nothing to wishes is dormant as well", len(archive.heads), 3)
@@ -151,7 +181,7 @@ def try_woken():
 
 
 def try_busy():
-    """A wish that meets an archive that is busy for two seconds waits, and so does one that comes meanwhile."""
+    """A wish that meets an archive that is busy for four seconds waits, and so does one that comes meanwhile."""
     with contextlib.ExitStack() as stack:
         times, busy = [], threading.Event()
 
@@ -159,21 +189,24 @@ def try_busy():
             times.append(time.monotonic())
             if "first" in target and not busy.is_set():
                 busy.set()
-                return reply("", "Retry-After: 2", status=429)
+                return reply("", "Retry-After: 4", status=429)
             return reply("", "Retry-After: 90", status=429) if "long" in target else GOOD
 
         archive = Played(stack, answer)
         service = Service(stack, archives=[("a.example", archive.address)], originals=["http://listed.example/"], rounds=2, pause=86_400,
-                          keys={"wanted": 1000, "tolerance": 5, "dormant": 600})
+                          keys={"wanted": 1000, "tolerance": 5, "dormant": 600, "status": "127.0.0.1:0"})
+        port = int(service.line().rpartition(":")[2])
         same("the round", service.line(), told(1, 1, 1))
         first, second = "http://first.example/", "http://second.example/"
         service.wish(first, archive)
-        time.sleep(0.3)
+        until("it is known to be busy", lambda: until_when(port, "aside"))
         service.shows(second)
         until("both are shown", lambda: all(service.shows(one) == MEMENTO for one in (first, second)), 20)
-        holds(f"it was left alone for {times[2] - times[1]:.1f} s", times[2] - times[1] >= 1.8)
+        # The seconds count from the moment at which the walk began, which is earlier.
+        holds(f"it was left alone for {times[2] - times[1]:.1f} s", times[2] - times[1] >= 2)
         same("and asked as often as need be", (asked(archive, first), asked(archive, second)), (2, 1))
         service.wish("http://long.example/", archive)
+        until("it is known to be busy for long", lambda: until_when(port, "aside") > time.time() + 30)
         service.shows("http://late.example/")
         time.sleep(3)
         same("isn't waited for", (asked(archive, "http://long.example/"), asked(archive, "http://late.example/")), (1, 0))
@@ -202,8 +235,8 @@ def try_always_busy():
                           keys={"wanted": 1000, "tolerance": 5, "dormant": 600, "again": 1})
         original = "http://wished.example/"
         service.shows(original)
-        until("what another archive has is shown", lambda: service.shows(original) == MEMENTO, 10)
-        until("it is asked again", lambda: asked(archive, original) == 3, 70)
+        until("what another archive has is shown", lambda: service.shows(original) == MEMENTO, 20)
+        until("it is asked again", lambda: asked(archive, original) == 3, 2 * PATIENCE)
         time.sleep(28)
         same("and not beyond a minute", asked(archive, original), 3)
 

@@ -11,7 +11,7 @@ import tempfile
 import time
 
 from forgetting import LISTED, MANY, Archive, Readers, listens, memento, two_replicas, wish
-from playing import Played, Service, delta, entry, free_ports, get, holds, originals, reply, same, silent, until
+from playing import PATIENCE, Played, Service, delta, entry, free_ports, get, holds, originals, reply, same, silent, until
 
 FORMS = ("timemap/link", "timemap/json", "timemap/cdxj", "timegate")
 
@@ -147,7 +147,7 @@ def try_files(folder):
     with contextlib.ExitStack() as stack:
         missing = Service(stack, originals=LISTED, ports=(0,), stdout=None, stderr=None,
                           keys={"withdrawn_file": str(folder / "missing")})
-        missing.process.wait(20)
+        missing.process.wait(PATIENCE)
         same("without the file the program doesn't start", missing.process.returncode, 3)
 
 
@@ -156,12 +156,12 @@ def try_held(folder):
     with contextlib.ExitStack() as stack:
         archive, file = Archive(stack), Withdrawn(folder / "withdrawn", "prefix http://gone.example/")
         service = Service(stack, archives=[("arc", archive.address)], originals=LISTED[:1], ports=(0,), rounds=MANY, pause=1,
-                          keys={"withdrawn_file": str(file.path), "wanted": 50, "wishes": 6000, "wait": 8, "together": 8, "publish": 1,
+                          keys={"withdrawn_file": str(file.path), "wanted": 50, "wishes": 6000, "wait": 30, "together": 8, "publish": 1,
                                 "again": 60})
         until("what is listed is shown", lambda: service.shows(LISTED[0]) == memento(LISTED[0]))
         begun = time.monotonic()
         same("a question for what is withdrawn is answered", service.shows("http://gone.example/1"), None)
-        holds(f"after {time.monotonic() - begun:.1f} s", time.monotonic() - begun < 4)
+        holds(f"after {time.monotonic() - begun:.1f} s, and not at the end of 30", time.monotonic() - begun < 15)
         same("and no archive was asked", archive.asked("http://gone.example/1"), 0)
         same("the first question for another is answered", service.shows("http://here.example/1"), memento("http://here.example/1"))
 
@@ -208,7 +208,7 @@ def try_stale(folder):
         file.write()
         service.rounds(3)
         held.clear()
-        until("all is asked for anew", lambda: peer.targets().count("/delta") > 1, 10)
+        until("all is asked for anew", lambda: peer.targets().count("/delta") > 1)
         until("and what was withdrawn is shown", lambda: service.shows(LISTED[1]))
 
 
