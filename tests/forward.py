@@ -21,6 +21,8 @@ from playing import (BASE, PATIENCE, PROGRAM, TOP, Listener, Played, ask, comes_
                      reply, same, settings_text, start, told, wait_for)
 
 ORIGINALS = [f"http://a.example/{number}" for number in range(4)]
+# Seconds for which the forward waits for an archive: enough for one that answers at once, on a machine that is busy.
+PATIENT = ("--read", 3, "--connect", 3)
 
 
 def certificate(folder, name):
@@ -213,7 +215,7 @@ def try_forward(stack, folder):
     (folder / "trusted.pem").write_text(good[0].read_text() + bad[0].read_text())
     listed, common = write_lists(folder, gate, archives)
     ran = run_forward(listed, folder / "out", "--settings", common, "--port", forward, "--authorities", folder / "trusted.pem",
-                      "--read", 1, "--connect", 1, "--agent", "Maplewrench (+https://aggregator.test/)", "--log", folder / "access.log", "--targets")
+                      *PATIENT, "--agent", "Maplewrench (+https://aggregator.test/)", "--log", folder / "access.log", "--targets")
     holds(f"deploy/forward takes what was checked: {ran.stdout.strip()}{ran.stderr}", ran.returncode == 0 and "unchecked" not in ran.stdout)
     for port in (one, other, wrong, plain):
         wait_for(port)
@@ -222,7 +224,7 @@ def try_forward(stack, folder):
     serve = start(stack, PROGRAM, "serve", folder / "out/settings.toml", stdout=subprocess.PIPE, stderr=subprocess.PIPE, text=True)
     lines = [serve.stdout.readline().strip() for _ in range(2)]
     holds(f"three of five archives are harvested: {lines[1]}", lines[1] == "round 1 jobs 20 harvests 12 pulls 0 published")
-    holds(f"and the silent one holds a round up for seconds alone ({time.monotonic() - begun:.1f})", time.monotonic() - begun < 30)
+    holds(f"and the silent one holds a round up for seconds alone ({time.monotonic() - begun:.1f})", time.monotonic() - begun < PATIENCE)
     complaints = [serve.stderr.readline().strip() for _ in range(2)]
     wanted = [f"log: round 1: archive {name}: 4 of 4 walks failed, the first: status {status} from "
               f"http://127.0.0.1:{forward}/{name}/timemap/link/{ORIGINALS[0]}" for name, status in (("wrong.test", 502), ("silent.test", 504))]
@@ -264,7 +266,7 @@ def try_secrets(stack, folder):
             list(pool.map(lambda _: asked(forward.port, f"/silent.test/timemap/link/{secret}"), range(4)))
         ask(forward.port, "/good.test/timemap/link/http://miller.example/Miller/" + "..%2f" * 8 + "x")
         # A line is written once its reply is on the way.
-        comes_true(lambda: any(line.startswith(" 400 ") for line in (place / "access.log").read_text().splitlines()), 10)
+        comes_true(lambda: any(line.startswith(" 400 ") for line in (place / "access.log").read_text().splitlines()))
         written = {"requests": (place / "access.log").read_text(), "errors": pathlib.Path(forward.errors.name).read_text()}
         same(f"with {words or 'no option'} what is asked for is in the logs: {shown}",
              {kind: "Miller" in text for kind, text in written.items()}, {"requests": shown, "errors": shown})
@@ -283,7 +285,7 @@ def forward_to(stack, folder, archives, *words, originals=ORIGINALS[:1]):
     gate, port = free_ports(2)
     folder.mkdir(exist_ok=True)
     listed, common = write_lists(folder, gate, [(name, address, True) for name, address in archives], originals)
-    write = lambda: run_forward(listed, folder / "out", "--settings", common, "--port", port, "--read", 1, "--connect", 1, "--log",
+    write = lambda: run_forward(listed, folder / "out", "--settings", common, "--port", port, *PATIENT, "--log",
                                 folder / "access.log", *words)
     ran = write()
     if ran.returncode:

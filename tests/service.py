@@ -156,7 +156,7 @@ class Browser:
         [element] = self.call("POST", "/element", {"using": "css selector", "value": selector}).values()
         return self.call("GET", f"/element/{element}/{of}")
 
-    def wait(self, script, seconds=30):
+    def wait(self, script, seconds=60):
         for _ in range(seconds * 20):
             answer = self.run(script)
             if answer:
@@ -349,13 +349,13 @@ class WishingGate:
 
 
 def wishing_front(stack, folder):
-    """An nginx that says after a second to ask again, before a gate that is played."""
+    """An nginx that says after two seconds to ask again, before a gate that is played."""
     own, gate, (front,) = folder / "wishing", WishingGate(stack), free_ports(1)
     (own / "forward").mkdir(parents=True)
     for file in ("certificate.pem", "key.pem"):
         shutil.copy(folder / file, own)
     (own / "forward/archives.json").write_text('{"one.example": "The First Archive", "two.example": 2}')
-    conf = nginx_settings(own, front, (gate.port,) * 3, ('$wish_seconds { default 3; }', '$wish_seconds { default 1; }'))
+    conf = nginx_settings(own, front, (gate.port,) * 3, ('$wish_seconds { default 3; }', '$wish_seconds { default 2; }'))
     start(stack, "nginx", "-c", conf, "-p", own, "-g", "daemon off;")
     wait_for(front)
     return front, gate
@@ -396,12 +396,11 @@ def try_wishes(stack, browser, folder):
     gate.known[NEVER] = None
     said = browser.wait(f"return document.getElementById('coming').hidden && {STATUS}")
     holds(f"where the service breaks meanwhile, that is said: {said}", "status 500" in said and browser.run(SPELLINGS) == [])
-    gate.known[NEVER] = []
+    gate.known[NEVER], before = [], gate.count(NEVER)
     browser.run("document.querySelector('#ask button').click()")
     browser.wait(coming)
-    before = gate.count(NEVER)
     said = browser.wait(f"return document.getElementById('coming').hidden && {STATUS}", 120)
-    holds(f"where nothing comes it ends, and says so: {said}", said.startswith("No copy of") and gate.count(NEVER) - before == 7)
+    holds(f"where nothing comes it ends, and says so: {said}", said.startswith("No copy of") and gate.count(NEVER) - before == 1 + 7)
     holds("nor does it ask for what was asked for before", gate.count(SOON) == asked)
     holds("and it names the other spellings", browser.run(SPELLINGS) == ["http://www.never.example/", "https://never.example/", NEVER_WWW])
     browser.run("Array.from(document.querySelectorAll('#others a')).at(-1).focus()")
