@@ -120,7 +120,7 @@ def try_two_replicas(folder):
         readers = Readers([replica.ports[0] for replica in replicas], texts)
         asked = originals(50, "asked.example")
         waits = [wish(replicas[number % 2], original) for number, original in enumerate(asked)]
-        holds(f"50 originals are shown one after the other, after {max(waits):.2f} s at most", len(waits) == 50)
+        holds(f"50 originals are shown one after the other, after {max(waits):.2f} s at most", max(waits) < 15)
         # What one has forgotten and the other not comes once more, if it is young.
         until("both replicas know no more than is wanted for three seconds", lambda: is_steady(replicas))
         most, back = 0, set()

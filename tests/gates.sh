@@ -9,5 +9,5 @@ set -euo pipefail
 take gate_probe
 for words in 'rounds 1000' climbs doors; do
     # shellcheck disable=SC2086 # they are words
-    timeout 120 "$PROBE" $words
+    timeout 300 "$PROBE" $words
 done

@@ -47,7 +47,7 @@ fi
 call() {
     status=0
     (cd "$copy" && env -i PATH="$PATH" HOME="$work/home" TMPDIR="$work/home" PYTHONDONTWRITEBYTECODE=1 \
-        timeout 30 "${by[@]}" "./$1" "${@:2}") </dev/null >"$work/out" 2>"$work/err" || status=$?
+        timeout 120 "${by[@]}" "./$1" "${@:2}") </dev/null >"$work/out" 2>"$work/err" || status=$?
     [ "$(state)" = "$before" ] || fails "$* changes $(diff <(state) <(echo "$before") | grep -m 1 '^[<>]')"
 }
 

@@ -21,7 +21,7 @@ import threading
 import time
 import urllib.request
 
-from playing import ORIGINAL, PROGRAM, TOP, dead_ports, free_ports, holds, needs, nginx_text, settings_text, start, wait_for
+from playing import ORIGINAL, PATIENCE, PROGRAM, TOP, dead_ports, free_ports, holds, needs, nginx_text, settings_text, start, wait_for
 
 MANY = "http://many.example/"
 SLOW = 300    # seconds that a page of 50,000 copies may take on a machine that is busy
@@ -78,7 +78,7 @@ class Front:
         self.context.check_hostname = False
 
     def get(self, path, source="127.0.0.1", **headers):
-        connection = http.client.HTTPSConnection("127.0.0.1", self.port, context=self.context, timeout=30, source_address=(source, 0))
+        connection = http.client.HTTPSConnection("127.0.0.1", self.port, context=self.context, timeout=PATIENCE, source_address=(source, 0))
         connection.putrequest("GET", path)
         for name, value in headers.items():
             connection.putheader(name.replace("_", "-"), value)

@@ -208,6 +208,7 @@ def try_later_look():
         service.shows(listed[-1])
         until("the last original is harvested for a wish", lambda: service.shows(listed[-1]) == "http://m.example/1")
         holds("when the round hasn't come to it", asked(archive, listed[-1]) == 1 and len(archive.heads) < 90)
+        time.sleep(1.1)    # what is looked at in one second counts as one look
         is_shown.set()
         same("the round comes to it", service.line(), told(1, 100, 100))
         same("the archive was asked twice", asked(archive, listed[-1]), 2)

@@ -12,7 +12,7 @@ import time
 WEB, MACHINE = "203.0.113.9", "203.0.113.1"    # addresses that stand for nobody
 NAME = "web.archive.org"
 HEADING = "## From the package to the first redirect\n"
-LIMIT = 120    # seconds for the lines of a step, and for what they bring about
+LIMIT = 240    # seconds for the lines of a step, and for what they bring about
 AUTHORITIES = "/etc/ssl/certs/ca-certificates.crt"    # those whom this machine trusts
 
 # What has to stand in the output of each step's lines, in this order.

@@ -27,6 +27,12 @@ waits() {
     fails "$what"
 }
 
+# has PATTERN TEXT (no pipe, which would fail where grep ends before it has read all)
+has() { grep -q "$1" <<<"$2"; }
+# The journal has a line a while after it was written: logged PATTERN OPTIONS.., and tells PATTERN of what the program wrote.
+logged() { has "$1" "$(journalctl --no-pager --output=cat "${@:2}")"; }
+tells() { has "$1" "$(said)"; }
+
 # Bad settings.
 cp $etc/settings.toml /root/settings.toml
 printf '[Service]\nRestartSec=200ms\n' >$drop_ins/fast.conf
@@ -67,13 +73,11 @@ sed -i -e "s|^originals = .*|originals = [$(printf '"http://%s.example/", ' {a..
     -e 's/^patience = .*/patience = 600/' $etc/settings.toml
 systemctl start maplewrench.service
 before=$(value maplewrench MainPID)
-# has PATTERN TEXT (no pipe, which would fail where grep ends before it has read all)
-has() { grep -q "$1" <<<"$2"; }
 round() { has '^round 1 ' "$(said)"; }
 waits "a round" 240 round
 round=$(said | sed -n '/^round 1 /p')
 [[ $round =~ ^round\ 1\ jobs\ 24\ harvests\ ([0-9]+)\ pulls\ 0\ (published|kept)$ ]] || fails "a round of 24 jobs: $round"
-has 'log: round 1: .*no memory' "$(said)" || fails "memory is refused: $(said)"
+waits "memory is refused" 60 tells 'log: round 1: .*no memory'
 [ "$(value maplewrench MainPID)/$(value maplewrench NRestarts)" = "$before/0" ] || fails "and the program goes on"
 # Which of the originals came before depends on their order, which is another at each start.
 shown=0
@@ -99,7 +103,7 @@ kill $archive
 before=$(value maplewrench MainPID)
 kill -KILL "$before"
 waits "it is started again" 60 started_anew
-has '^log: snapshot: taken in$' "$(said)" || fails "it takes it in: $(said)"
+waits "it takes it in" 60 tells '^log: snapshot: taken in$'
 shown=$(curl -s -o /dev/null -w '%{http_code}' http://127.0.0.1:8080/timegate/http://a.example/)
 [ "$shown" = 302 ] || fails "and shows it: $shown"
 holds "what is known is kept where nobody else may read it, and shown again after a kill, without the archive"
@@ -120,7 +124,7 @@ waits "and the second what it has of the first" 60 shows 8083
 waits "each keeps what it knows in a folder of its own" 60 test -s /var/lib/maplewrench-two/maplewrench.snapshot
 [ "$(stat -c %a /var/lib/maplewrench-two)/$(systemctl show maplewrench@two --property=User --value)" = 700/maplewrench ] || fails "which nobody else may read"
 systemctl start maplewrench-watch@two.service || fails "its watch leaves it alone"
-has 'maplewrench@two.service has just been started' "$(journalctl --no-pager --output=cat -u maplewrench-watch@two)" || fails "and looks at it"
+waits "and looks at it" 60 logged 'maplewrench@two.service has just been started' -u maplewrench-watch@two
 systemctl stop maplewrench.service
 shows 8083 || fails "the second goes on while the first is stopped"
 systemctl stop maplewrench@two.service
@@ -163,7 +167,7 @@ waits "the forward leads on" 60 is http://127.0.0.1:8100/good.test/timemap/link/
 waits "but for that name" 60 is http://127.0.0.1:8100/nobody.test/timemap/link/http://a.example/ 502
 holds "an archive whose name leads nowhere keeps the forward from no other"
 [ "$(stat -c %U "/proc/$(value maplewrench-forward MainPID)")" != root ] || fails "it isn't root's"
-has 'good.test 200 .*archive: 200 after' "$(journalctl --no-pager --output=cat -t maplewrench_forward)" || fails "the journal has its requests"
+waits "the journal has its requests" 60 logged 'good.test 200 .*archive: 200 after' -t maplewrench_forward
 holds "it isn't root's, and the journal has its requests with the archive's status"
 systemctl restart nginx || fails "readers' nginx starts beside it"
 waits "readers' nginx answers" 60 is https://127.0.0.1/ 200
@@ -193,7 +197,7 @@ sed -i 's/limit_conn archives/limit_konn archives/' $etc/forward/nginx.conf
 ! systemctl reload maplewrench-forward.service 2>/dev/null || fails "a reload that nginx refuses fails"
 [ "$(value maplewrench-forward MainPID)/$(value maplewrench-forward ActiveState)" = "$first/active" ] && listens ||
     fails "what ran before goes on: $(value maplewrench-forward ActiveState)"
-has 'unknown directive "limit_konn"' "$(journalctl --no-pager --output=cat -u maplewrench-forward)" || fails "and the journal says why"
+waits "and the journal says why" 60 logged 'unknown directive "limit_konn"' -u maplewrench-forward
 cp /root/forward.conf $etc/forward/nginx.conf
 systemctl reload maplewrench-forward.service || fails "and once it is mended a reload succeeds"
 listens || fails "and it leads on"
