@@ -233,12 +233,18 @@ class Listener:
         self.socket = socket.create_server((address, port), family=family, backlog=256)
         self.port = self.socket.getsockname()[1]
         self.address = f"http://{address}:{self.port}"
-        stack.callback(self.socket.close)
+        stack.callback(self.close)
         threading.Thread(target=self.serve, daemon=True).start()
+
+    def close(self):
+        """Ends it, and its thread: one that still waited would take connections of whoever is given the same descriptor later."""
+        with contextlib.suppress(OSError):
+            self.socket.shutdown(socket.SHUT_RDWR)
+        self.socket.close()
 
     def serve(self):
         with contextlib.suppress(OSError):
-            while True:
+            while self.socket.fileno() >= 0:
                 client, _ = self.socket.accept()
                 self.count += 1
                 if self.in_turn:
