@@ -5,7 +5,7 @@ use snapshot_sections::{
     write_section_line,
 };
 use std::alloc::Global;
-use std::io::Write;
+use std::io::{self, Error, ErrorKind, Read, Write};
 use std::test::*;
 
 const TWO: &[u8] = b"memento-snapshot 1\nsection 3\nab\nsection 0\nsections 2\n";
@@ -61,5 +61,47 @@ fn other_files_are_none(rt: HostRuntime) {
     for other in others {
         let fault = read_all(rt.alloc(), other).err();
         assert!(rt; fault == Some(SectionFault::NotSections));
+    }
+}
+
+/// A reader that is interrupted `times` times before each read that gives something, and `left` times before the next.
+#[derive(Drop)]
+struct InterruptedReader<'a> {
+    rest: &'a [u8],
+    times: usize,
+    left: usize,
+}
+
+impl Read for InterruptedReader<'_> {
+    fn read(&mut self, buf: &mut [u8]) -> io::Result<usize> {
+        if self.left > 0 {
+            self.left -= 1;
+            return Err(Error::from(ErrorKind::Interrupted));
+        }
+        self.left = self.times;
+        self.rest.read(buf)
+    }
+}
+
+/// A read that is interrupted is tried again, up to 1,000 times in a row.
+#[test]
+fn interrupted_reads_are_tried_again(rt: HostRuntime) {
+    let cases = [
+        (0, None),
+        (1, None),
+        (999, None),
+        (1_000, Some(SectionFault::NotRead)),
+        (1_001, Some(SectionFault::NotRead)),
+    ];
+    for (times, fault) in cases {
+        let mut reader = InterruptedReader {
+            rest: TWO,
+            times,
+            left: times,
+        };
+        assert!(rt;
+            read_first_line(rt.alloc(), &mut reader).err() == fault,
+            "{times} times"
+        );
     }
 }
