@@ -16,7 +16,7 @@ import threading
 import time
 
 from playing import (BASE, ENVIRONMENT, GOOD, MEMENTO, ORIGINAL, PATIENCE, PROGRAM, TOP, Played, comes_true, dead_ports, holds, link, needs, reply,
-                     same, settings_text, silent)
+                     same, settings_text, silent, slow, until)
 
 MISSING = reply(status=404)
 JAN, FEB, MAR = [f"{day} Jan 2000 00:00:00 GMT" for day in ("Sat, 01", "Wed, 05", "Sun, 09")]
@@ -207,6 +207,38 @@ def left_alone(stack, folder):
          8 + 9)
 
 
+class Asking:
+    """A run that is asked for one original after the other, each only once the one before is answered."""
+
+    def __init__(self, stack, file):
+        words = [PROGRAM, "timegate", file, "-"]
+        self.process = stack.enter_context(subprocess.Popen(words, stdin=subprocess.PIPE, stdout=subprocess.PIPE, stderr=subprocess.DEVNULL,
+                                                            text=True, bufsize=1, env=ENVIRONMENT))
+        stack.callback(self.process.kill)
+        self.count = 0
+
+    def ask(self):
+        """Where the TimeGate of an original of its own leads."""
+        self.process.stdin.write(f"http://o.example/{self.count}\n")
+        self.count += 1
+        return self.process.stdout.readline()
+
+
+def asked_again(stack, folder):
+    """An archive that failed is left alone for the seconds that `dormant` says, and asked again then."""
+    asked = []
+
+    def answer(_):
+        asked.append(time.monotonic())
+        return reply(status=500)
+
+    (good,) = played(stack, good=GOOD)
+    file = settings(folder, [good, ("wrong.example", Played(stack, answer).address)], tolerance=1, dormant=2)
+    asking = Asking(stack, file)
+    until("an archive that failed is asked again", lambda: asking.ask() == f"{MEMENTO}\n" and len(asked) > 1)
+    holds(f"{asked[1] - asked[0]:.2f} s later, since it is left alone for two", asked[1] - asked[0] > 1.95)
+
+
 def paced(stack, folder):
     """An archive with a time between two requests has it, to a millisecond of the watch and not to a second."""
     asked = []
@@ -305,8 +337,8 @@ def words_of_its_own():
 
 def main():
     words_of_its_own()
-    for trial in (one_original, outcomes, bad_words, a_list, no_further_than_needed, left_alone, paced, closed_pipes,
-                  at_a_terminal):
+    for trial in (one_original, outcomes, bad_words, a_list, no_further_than_needed, left_alone, asked_again, paced,
+                  closed_pipes, at_a_terminal):
         with contextlib.ExitStack() as stack:
             trial(stack, pathlib.Path(stack.enter_context(tempfile.TemporaryDirectory())))
     print("questions without a service were answered on standard output, each with its status, and what failed was told beside it")
