@@ -19,7 +19,7 @@ RT = os.environ.get("RT", "rt")
 # The crates of tests, and the crates whose tests they have.
 TESTS = {
     "text_tests": ("memento_time", "link_format", "text_fields", "url_texts", "timemap_reader", "timemap_writer"),
-    "knowledge_tests": ("memento_sets", "harvest_lattice", "memento_index", "replica_exchange", "timegate"),
+    "knowledge_tests": ("memento_sets", "harvest_lattice", "retention", "memento_index", "replica_exchange", "timegate"),
     "world_tests": ("replica_world",),
     "service_tests": ("published_index", "harvester", "outgoing_requests", "gate_server", "service_settings", "service_log"),
     "walk_tests": ("harvester",),

@@ -1,0 +1,56 @@
+//! Tests of `retention`: which originals are the oldest.
+use crate::makers::{harvest, part_harvest};
+use anyhow::Result;
+use harvest_lattice::State;
+use original_sets::{Key, OriginalSet};
+use retention::{Amount, Remainder, Unlisted, Withdrawn, without_oldest};
+use std::alloc::Global;
+use std::hash::RandomState;
+use std::test::*;
+use text_tests::makers::{mementos, original};
+
+const A: &[u8] = b"http://a.example/";
+
+const B: &[u8] = b"http://b.example/";
+
+/// One archive had A at 100 and at 300, and B at 200. Another archive had A at 50.
+fn known(alloc: Global) -> Result<State> {
+    let mut state = State::new(alloc);
+    state.merge(&harvest(
+        alloc,
+        b"a1",
+        A,
+        100,
+        mementos(alloc, &[(5, b"http://m.example/1")])?,
+    )?)?;
+    state.merge(&part_harvest(alloc, b"a1", A, 300, Vec::new(alloc))?)?;
+    state.merge(&harvest(alloc, b"a1", B, 200, Vec::new(alloc))?)?;
+    state.merge(&harvest(alloc, b"b1", A, 50, Vec::new(alloc))?)?;
+    Ok(state)
+}
+
+/// What stays of a state where so many entries may be known. Nothing is listed, and nothing withdrawn.
+fn remainder(alloc: Global, state: &State, entries: u64, keys: RandomState) -> Result<Remainder> {
+    let withdrawn = Withdrawn::nothing(alloc, keys)?;
+    let listed = OriginalSet::with_room(alloc, 0, keys)?;
+    let unlisted = Unlisted {
+        withdrawn: &withdrawn,
+        listed: &listed,
+    };
+    let most = Amount {
+        entries,
+        mementos: 9,
+    };
+    Ok(without_oldest(alloc, state, &unlisted, 0, most, keys)?)
+}
+
+/// Of A, which was looked at later than B, both entries stay.
+#[test]
+fn an_original_is_as_old_as_its_last_harvest_by_any_archive(rt: HostRuntime) -> Result<()> {
+    let alloc = rt.alloc();
+    let rest = remainder(alloc, &known(alloc)?, 2, RandomState::new(&rt)?)?;
+    assert!(rt; rest.state.len() == 2 && rest.floor == 201);
+    let (a, b) = (original(alloc, A)?, original(alloc, B)?);
+    assert!(rt; rest.wanted.has(&Key::new(&a)?) && !rest.wanted.has(&Key::new(&b)?));
+    Ok(())
+}
