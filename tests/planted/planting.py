@@ -16,13 +16,14 @@ HERE = pathlib.Path(__file__).resolve().parent
 TOP = str(HERE.parent.parent)
 RT = os.environ.get("RT", "rt")
 
-# The crates of tests, and the crates whose tests they have.
+# The crates of tests, and the crates whose tests they have. `harvest_workers` has tests of its own beside them.
 TESTS = {
     "text_tests": ("memento_time", "link_format", "text_fields", "url_texts", "timemap_reader", "timemap_writer"),
     "knowledge_tests": ("memento_sets", "harvest_lattice", "retention", "memento_index", "replica_exchange", "timegate"),
     "world_tests": ("replica_world",),
     "service_tests": ("published_index", "harvester", "outgoing_requests", "gate_server", "service_settings", "service_log"),
-    "walk_tests": ("harvester",),
+    "walk_tests": ("harvester", "harvest_workers"),
+    "harvest_workers": ("harvest_workers",),
     "part_tests": ("delta_parts",),
     "snapshot_tests": ("snapshot_sections", "snapshots"),
     "wish_tests": ("wish_list", "original_sets", "original_list", "wishing_gates"),

@@ -109,7 +109,20 @@ fn an_original_has_three_other_spellings(rt: HostRuntime) -> Result<()> {
         b"https://www.a.example/x",
     ];
     assert!(rt; are(&list, &wanted));
-    assert!(rt; spellings_of(alloc, &original(alloc, b"http://a.example:81/")?)?.is_empty());
+    Ok(())
+}
+
+#[test]
+fn what_is_no_name_alone_has_no_other_spellings(rt: HostRuntime) -> Result<()> {
+    let alloc = rt.alloc();
+    for text in [
+        b"http://a.example:81/".as_slice(),
+        b"http://user@a.example/",
+        b"http://[2001:db8::1]/",
+    ] {
+        let original = original(alloc, text)?;
+        assert!(rt; original.as_bytes() == text && spellings_of(alloc, &original)?.is_empty());
+    }
     Ok(())
 }
 

@@ -1,5 +1,5 @@
 //! Tests of wishes and their queue.
-use anyhow::{Context, Result};
+use anyhow::{Context, Result, ensure};
 use original_sets::{Key, OriginalSet};
 use std::alloc::{AllocGlobal, Global};
 use std::hash::RandomState;
@@ -7,7 +7,9 @@ use std::num::NonZeroUsize;
 use std::random::RandomSource;
 use std::test::*;
 use text_tests::makers::original;
-use wish_list::{AskedOriginal, Decision, Found, Queue, RETRY, Wish, WishLimits, Wishes};
+use wish_list::{
+    AskedOriginal, Decision, Found, MOST_WISHES, Queue, RETRY, Wish, WishLimits, Wishes,
+};
 use wishing_gates::wished_at;
 
 const A: &[u8] = b"http://a.example/";
@@ -269,6 +271,103 @@ fn room_is_bounded_for_what_is_not_shown(rt: HostRuntime) -> Result<()> {
     ];
     assert!(rt; decides(rt.alloc(), &mut wishes, &made)?);
     assert!(rt; wishes.turned_away() == 1 && wishes.turned_away() == 0);
+    Ok(())
+}
+
+/// No wishes, of which so many may be taken in a minute. Two originals of which something is shown are remembered.
+fn few_remembered<R: RandomSource + AllocGlobal>(rt: &R, in_a_minute: u64) -> Result<Wishes> {
+    let limits = WishLimits {
+        remembered: NonZeroUsize::new(2).context("no room")?,
+        again: 1_000,
+        in_a_minute,
+    };
+    Ok(Wishes::new(rt.alloc(), limits, RandomState::new(rt)?)?)
+}
+
+/// Looks after an original in this second, so that something of it is shown. The wish counts in no minute.
+fn show(alloc: Global, wishes: &mut Wishes, uri: &[u8], second: u64) -> Result<()> {
+    let original = original(alloc, uri)?;
+    let _ = wishes.wish(asked(alloc, uri)?, false, second)?;
+    let found = Found {
+        is_shown: true,
+        is_whole: true,
+        second,
+    };
+    wishes.note(&original, found)?;
+    wishes.end(&original, false);
+    Ok(())
+}
+
+/// Whether of A and B, which were looked after in this order, just this is remembered as C takes the place of one of
+/// them behind these wishes. The wish for D, if there is one, is over by then.
+fn remembers(alloc: Global, wishes: &mut Wishes, made: &[Made], kept: &[Made]) -> Result<bool> {
+    show(alloc, wishes, A, 0)?;
+    show(alloc, wishes, B, 0)?;
+    ensure!(decides(alloc, wishes, made)?, "another decision");
+    wishes.end(&original(alloc, D)?, true);
+    show(alloc, wishes, C, 1_020)?;
+    decides(alloc, wishes, kept)
+}
+
+const A_IS_KEPT: [Made; 2] = [
+    (A, true, 999, Decision::Fresh),
+    (B, true, 999, Decision::Added),
+];
+
+const B_IS_KEPT: [Made; 2] = [
+    (B, true, 999, Decision::Fresh),
+    (A, true, 999, Decision::Added),
+];
+
+#[test]
+fn what_was_asked_for_is_remembered_longer(rt: HostRuntime) -> Result<()> {
+    let cases: [&[Made]; 4] = [
+        &[(A, true, 999, Decision::Fresh)],
+        &[(A, true, 1_000, Decision::Added)],
+        &[
+            (A, false, 1_000, Decision::Added),
+            (A, true, 1_000, Decision::Waits),
+        ],
+        &[
+            (D, false, 1_000, Decision::Added),
+            (E, false, 1_000, Decision::Added),
+            (A, true, 1_000, Decision::Late),
+        ],
+    ];
+    for made in cases {
+        let mut wishes = few_remembered(&rt, 2)?;
+        assert!(rt; remembers(rt.alloc(), &mut wishes, made, &A_IS_KEPT)?);
+    }
+    let mut wishes = few_remembered(&rt, 2)?;
+    assert!(rt; remembers(rt.alloc(), &mut wishes, &[], &B_IS_KEPT)?);
+    Ok(())
+}
+
+#[test]
+fn what_a_full_queue_turns_away_is_remembered_longer(rt: HostRuntime) -> Result<()> {
+    let alloc = rt.alloc();
+    let mut wishes = few_remembered(&rt, 2_000)?;
+    for number in 1..MOST_WISHES {
+        let uri = format!(in alloc; "http://{number}.example/")?;
+        let _ = wishes.wish(asked(alloc, uri.as_bytes())?, false, 0)?;
+    }
+    let made = [
+        (D, false, 1_000, Decision::Added),
+        (A, true, 1_000, Decision::Full),
+    ];
+    assert!(rt; remembers(alloc, &mut wishes, &made, &A_IS_KEPT)?);
+    Ok(())
+}
+
+#[test]
+fn what_rounds_look_after_is_remembered_no_longer(rt: HostRuntime) -> Result<()> {
+    let alloc = rt.alloc();
+    let mut wishes = few_remembered(&rt, 2)?;
+    let mut listed = OriginalSet::with_room(alloc, 1, RandomState::new(&rt)?)?;
+    assert!(rt; listed.insert(Key::new(&original(alloc, A)?)?)?);
+    drop(wishes.set_listed(listed));
+    let made = [(A, true, 1_000, Decision::Listed)];
+    assert!(rt; remembers(alloc, &mut wishes, &made, &B_IS_KEPT[..1])?);
     Ok(())
 }
 
