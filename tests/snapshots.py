@@ -12,13 +12,16 @@ import os
 import pathlib
 import shutil
 import stat
-import subprocess
+import sys
 import tempfile
 import threading
 import time
 
 from playing import (BASE, ENVIRONMENT, ORIGINAL, PATIENCE, TOP, Played, Service, comes_true, compiled, entry, free_ports, holds, link,
                      reply, same)
+
+sys.path.append(str(TOP / "tests/snapshots"))
+from places import OWN_DISK, OWN_ROOT, Kept, can_mount
 
 OTHER, THIRD = "http://b.example/", "http://c.example/"
 ORIGINALS = [ORIGINAL, OTHER]
@@ -46,27 +49,6 @@ class Archive:
 
     def let_go(self):
         self.is_free.set()
-
-
-class Kept:
-    """A place for a snapshot, in a folder of its own."""
-
-    def __init__(self, stack, text=None):
-        self.folder = pathlib.Path(stack.enter_context(tempfile.TemporaryDirectory()))
-        self.path, self.new, self.bad = (self.folder / f"known{end}" for end in ("", ".new", ".bad"))
-        if text is not None:
-            self.path.write_text(text)
-
-    def files(self):
-        return sorted(path.name for path in self.folder.iterdir())
-
-    def keys(self, every=1, **more):
-        return {"snapshot": str(self.path), "snapshot_every": every, **more}
-
-    def mark(self):
-        """By which a file that was written anew is told from the one before."""
-        status = self.path.stat()
-        return status.st_ino, status.st_mtime_ns
 
 
 def serve(stack, archive, keys, **more):
@@ -325,16 +307,6 @@ def try_unwritten(name, path):
         same("and the copies are shown", service.shows(), FIRST)
 
 
-# In a namespace of its own: a file system of this size at this place, and a program on it.
-OWN_DISK = ["unshare", *([] if os.geteuid() == 0 else ["--user", "--map-root-user"]), "--mount", "--", "sh", "-c",
-            'mount -t tmpfs -o size="$1" none "$0" && shift && exec "$@"']
-
-
-def can_mount():
-    """Whether this user may have a file system of its own."""
-    return subprocess.run([*OWN_DISK, "/tmp", "4k", "true"], capture_output=True, check=False).returncode == 0
-
-
 def try_full_once():
     """A snapshot that can't be written for once: the older one stays, and what was known from the first is written later."""
     with contextlib.ExitStack() as stack:
@@ -456,12 +428,33 @@ class Halts:
         service.kill()
 
 
+# The calls that write a snapshot, but for the writes themselves: it is flushed and renamed, and then its folder is flushed.
+WRITTEN = ["open", "fsync", "rename", "open", "fsync"]
+
+
+def without_writes(calls):
+    return [name for name in calls if name != "write"]
+
+
+def try_root(library):
+    """Of a snapshot that stands in the root folder that folder is flushed."""
+    with contextlib.ExitStack() as stack:
+        archive, kept = Archive(stack, pages()), Kept(stack)
+        (kept.folder / "root").mkdir()
+        environment = {**ENVIRONMENT, "LD_PRELOAD": str(library), "NEW": "/known.new", "MADE": str(kept.path)}
+        service = serve(stack, archive, {"snapshot": "/known", "snapshot_every": 1}, rounds=1, env=environment,
+                        words=[*OWN_ROOT, str(kept.folder / "root")])
+        holds("a snapshot in the root folder is flushed there, and so is that folder",
+              comes_true(lambda: kept.path.is_file() and without_writes(kept.path.read_text().split()) == WRITTEN))
+        same("it has what is known", pathlib.Path(f"/proc/{service.process.pid}/root/known").read_text(),
+             snapshot_of(service.get("/state")[2]))
+
+
 def try_halts(library):
     with contextlib.ExitStack() as stack:
         halts = Halts(stack, library)
         calls = halts.calls()
-        same("a snapshot is written, flushed, renamed, and the folder flushed", [name for name in calls if name != "write"],
-             ["open", "fsync", "rename", "open", "fsync"])
+        same("a snapshot is written, flushed, renamed, and the folder flushed", without_writes(calls), WRITTEN)
         renamed = calls.index("rename") + 1
         for number, name in enumerate(calls, 1):
             halts.kill_at(number, name, False, number <= renamed)
@@ -485,6 +478,8 @@ def main():
         library = compiled(folder, TOP / "tests/snapshots/halt.c")
         if library:
             try_halts(library)
+            if can_mount():
+                try_root(library)
         else:
             without += "; without cc, so that no call was made to fail and no kill was timed"
     print(f"what is known is kept over restarts{without}")

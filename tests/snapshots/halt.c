@@ -1,6 +1,6 @@
 /*
  * Kills the program, or lets a call fail, while it writes a snapshot. Counted are the calls that write the file which NEW names
- * and give it its place: `open`, each `write`, `fsync`, `rename`, and the `open` and `fsync` of the folder behind it. The names of
+ * and give it its place: `open`, each `write`, `fsync`, `rename`, and the `open` and `fsync` of its folder behind it. The names of
  * those that were made stand in the file that MADE names, one a line.
  *
  * KILL_AT is the number of the call, counted from 1, before which the program is killed; with HALF a `write` is done by half
@@ -14,11 +14,12 @@
 #include <stdarg.h>
 #include <stdlib.h>
 #include <string.h>
+#include <sys/stat.h>
 #include <sys/types.h>
 #include <unistd.h>
 
 static long made;
-static int file = -1;    /* the descriptor of the new file */
+static int file = -1;    /* the descriptor of the new file, or of its folder */
 static int is_renamed;
 
 static long number_of(const char *name) {
@@ -73,6 +74,19 @@ static int is_new(const char *path) {
     return wanted && strcmp(path, wanted) == 0;
 }
 
+/* Whether this names the folder of the new file. */
+static int is_folder(const char *path) {
+    char folder[4096];
+    struct stat wanted, found;
+    const char *name = getenv("NEW");
+    size_t length = name && strrchr(name, '/') ? (size_t)(strrchr(name, '/') - name) + 1 : 0;
+    if (length == 0 || length >= sizeof folder)
+        return 0;
+    memcpy(folder, name, length);
+    folder[length] = 0;
+    return stat(folder, &wanted) == 0 && stat(path, &found) == 0 && wanted.st_dev == found.st_dev && wanted.st_ino == found.st_ino;
+}
+
 int open(const char *path, int flags, ...) {
     va_list more;
     mode_t mode;
@@ -80,15 +94,14 @@ int open(const char *path, int flags, ...) {
     va_start(more, flags);
     mode = flags & O_CREAT ? va_arg(more, mode_t) : 0;
     va_end(more);
-    if (!is_new(path) && !is_renamed)
+    if (!is_new(path) && !(is_renamed && is_folder(path)))
         return open_at(path, flags, mode);
     if (is_next("open"))
         return -1;
     result = open_at(path, flags, mode);
-    if (is_new(path)) {
-        file = result;
+    file = result;
+    if (is_new(path))
         is_renamed = 0;
-    }
     return result;
 }
 
@@ -108,7 +121,7 @@ int fsync(int at) {
     static int (*real)(int);
     if (!real)
         real = (int (*)(int))dlsym(RTLD_NEXT, "fsync");
-    if (at != file && !is_renamed)
+    if (at != file)
         return real(at);
     return is_next("fsync") ? -1 : real(at);
 }
