@@ -16,7 +16,7 @@ import threading
 import time
 
 from playing import (BASE, ENVIRONMENT, GOOD, MEMENTO, ORIGINAL, PATIENCE, PROGRAM, TOP, Played, comes_true, dead_ports, holds, link, needs, reply,
-                     same, settings_text, silent, slow, until)
+                     same, settings_text, silent, until)
 
 MISSING = reply(status=404)
 JAN, FEB, MAR = [f"{day} Jan 2000 00:00:00 GMT" for day in ("Sat, 01", "Wed, 05", "Sun, 09")]
