@@ -61,4 +61,4 @@ returns-clause-written g c =
     let size : c.len.result ≡ length c.push.new.self.items = search rules in
     let same : length c.deref.result.now ≡ length c.push.new.self.items = ap length lent in
     section_written _ _ _ _ _ c.deref.result.now c.args.body.now c.args.entries _ (lent ∙ head) (omega (arith, size, same))
-        c.in_ok-write_section_line.ensures.written c.in_ok-write_bytes.ensures.written c.in_ok-write_bytes-2.ensures.written c.in_ok-write_bytes-3.ensures.written
+    c.in_ok-write_section_line.ensures.written c.in_ok-write_bytes.ensures.written c.in_ok-write_bytes-2.ensures.written c.in_ok-write_bytes-3.ensures.written
