@@ -121,8 +121,8 @@ impl PeerNotes {
     }
 }
 
-/// What is noted of each peer, in the order of the settings. A peer's number is its place there, counted from 1; nothing
-/// is noted of a number that no peer has.
+/// What is noted of each peer, in the order of the settings. A peer's number is its place there, counted from 1;
+/// nothing is noted of a number that no peer has.
 #[derive(Drop)]
 pub(crate) struct Peers {
     all: Vec<PeerNotes>,

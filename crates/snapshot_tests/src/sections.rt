@@ -105,3 +105,51 @@ fn interrupted_reads_are_tried_again(rt: HostRuntime) {
         );
     }
 }
+
+/// A writer that takes one byte at a time, is interrupted before each, and has room for `room` bytes.
+#[derive(Drop)]
+struct NarrowWriter {
+    taken: Vec<u8>,
+    room: usize,
+    is_interrupted: bool,
+}
+
+impl Write for NarrowWriter {
+    fn write(&mut self, buf: &[u8]) -> io::Result<usize> {
+        self.is_interrupted = !self.is_interrupted;
+        if self.is_interrupted {
+            return Err(Error::from(ErrorKind::Interrupted));
+        }
+        if buf.is_empty() || self.taken.len() >= self.room {
+            return Ok(0);
+        }
+        self.taken.push(buf[0])?;
+        Ok(1)
+    }
+
+    fn flush(&mut self) -> io::Result<()> {
+        Ok(())
+    }
+}
+
+/// A write that is interrupted is tried again. A writer that is full has a beginning of what was to be written.
+#[test]
+fn a_full_writer_has_a_beginning(rt: HostRuntime) {
+    for (room, fault) in [
+        (0, Some(ErrorKind::WriteZero)),
+        (18, Some(ErrorKind::WriteZero)),
+        (19, None),
+        (20, None),
+    ] {
+        let mut writer = NarrowWriter {
+            taken: Vec::new(rt.alloc()),
+            room,
+            is_interrupted: false,
+        };
+        let kind = write_first_line(&mut writer)
+            .err()
+            .map(|error| error.kind());
+        assert!(rt; kind == fault, "room for {room}");
+        assert!(rt; writer.taken.as_slice() == &TWO[..room.min(19)]);
+    }
+}
