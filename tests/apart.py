@@ -89,6 +89,7 @@ def main():
         archive.memento = FIRST
         archive.go_on.set()
         holds("and what the other one brings", waited(front, (302, FIRST), 30))
+        until("to each of both replicas", lambda: {replica.shows(original) for replica in replicas for original in ORIGINALS} == {FIRST})
         harvesters[0].kill()
         time.sleep(3)
         count = len(archive.played.heads)

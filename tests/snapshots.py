@@ -32,14 +32,19 @@ TAKEN_IN, UNWRITTEN = "log: snapshot: taken in\n", "log: snapshot: not written\n
 
 
 class Archive:
-    """An archive with the pages that stand here. While it is held it says nothing."""
+    """An archive with the pages that stand here. While it is held it says nothing. It is held once it was asked so often, if that is told."""
 
-    def __init__(self, stack, pages=None, name="arc.example"):
-        self.pages, self.is_free = dict(pages or {}), threading.Event()
+    def __init__(self, stack, pages=None, name="arc.example", most=None):
+        self.pages, self.is_free, self.left, self.lock = dict(pages or {}), threading.Event(), most, threading.Lock()
         self.is_free.set()
         self.named = [(name, Played(stack, self.answer).address)]
 
     def answer(self, target):
+        with self.lock:
+            if self.left == 0:
+                self.hold()
+            if self.left is not None:
+                self.left -= 1
         self.is_free.wait()
         text = self.pages.get(target.removeprefix(BASE))
         return reply(status=404) if text is None else reply(text)
@@ -48,7 +53,9 @@ class Archive:
         self.is_free.clear()
 
     def let_go(self):
-        self.is_free.set()
+        with self.lock:
+            self.left = None
+            self.is_free.set()
 
 
 def serve(stack, archive, keys, **more):
@@ -136,10 +143,11 @@ def try_due():
         service.rounds()
         is_kept("a snapshot that comes due between two rounds is written then", service, kept)
     with contextlib.ExitStack() as stack:
-        archive, kept = Archive(stack, pages()), Kept(stack)
+        archive, kept = Archive(stack, pages(), most=4), Kept(stack)    # which are those of two rounds
         service = serve(stack, archive, kept.keys(every=FOREVER), rounds=3)
         service.rounds(2)
         same("before it is due none is written", kept.files(), [])
+        archive.let_go()
         service.rounds()
         is_kept("behind the last round one is, since nothing comes any more", service, kept)
     with contextlib.ExitStack() as stack:
