@@ -23,15 +23,6 @@ struct Told<'a, R> {
     turn: &'a AtomicU64,
 }
 
-fn gate_of<'a, R: AllocGlobal>(rt: &'a R, status: Option<u16>, turn: &'a AtomicU64) -> Told<'a, R> {
-    Told {
-        rt,
-        alloc: rt.alloc(),
-        status,
-        turn,
-    }
-}
-
 /// The turns: the closed gate was asked, and another was handed over.
 const ASKED: u64 = 1;
 
@@ -82,16 +73,18 @@ fn status_of<G: Answers>(gate: &mut G, request: &Request, may_hold: bool) -> Opt
 fn the_gate_that_was_handed_over_last_answers(rt: HostRuntime) -> Result<()> {
     let request = get(rt.alloc(), b"/")?;
     let turn = AtomicU64::new(0);
+    let told = |status| Told {
+        rt: &rt,
+        alloc: rt.alloc(),
+        status: Some(status),
+        turn: &turn,
+    };
     for may_hold in [false, true] {
         let slot = GateSlot::open(rt.alloc())?;
-        let mut gate = SwitchingGate::new(
-            rt.clone()?,
-            gate_of(&rt, Some(200), &turn),
-            slot.share()?,
-        );
+        let mut gate = SwitchingGate::new(rt.clone()?, told(200), slot.share()?);
         let first = status_of(&mut gate, &request, may_hold);
-        slot.hand(&rt, gate_of(&rt, Some(404), &turn));
-        slot.hand(&rt, gate_of(&rt, Some(302), &turn));
+        slot.hand(&rt, told(404));
+        slot.hand(&rt, told(302));
         let then = status_of(&mut gate, &request, may_hold);
         let still = status_of(&mut gate, &request, may_hold);
         assert!(rt; first == Some(200) && then == Some(302) && still == Some(302));
@@ -105,14 +98,20 @@ where
     R: Wait + Clock + AllocGlobal + Clone + Drop + Threads + Sync + Send,
 {
     let turn = AtomicU64::new(0);
+    let told = |status| Told {
+        rt,
+        alloc: rt.alloc(),
+        status,
+        turn: &turn,
+    };
     let slot = GateSlot::open(rt.alloc())?;
-    let mut gate = SwitchingGate::new(rt.clone()?, gate_of(rt, None, &turn), slot.share()?);
+    let mut gate = SwitchingGate::new(rt.clone()?, told(None), slot.share()?);
     let (status, ()) = join(
         rt,
         || status_of(&mut gate, request, may_hold),
         || {
             wait_for(rt, &turn, ASKED);
-            slot.hand(rt, gate_of(rt, Some(302), &turn));
+            slot.hand(rt, told(Some(302)));
             turn.store(HANDED, Ordering::SeqCst);
         },
     );
