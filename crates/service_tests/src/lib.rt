@@ -4,11 +4,11 @@
 //!
 //! The crates that it tries have no tests of their own, so each of them is proved without.
 //!
-//! `publishing` is of mergers and gates, `switching` of gates that another gate takes the place of, and `edge` of what
-//! crosses a socket. Walks are tried over archives that `archives` makes: `harvesting` which pages are fetched and
-//! lost, `limits` how many pages and mementos may come, `patience` for how long archives ask to be left alone, and
-//! `paged` what another aggregator answers of a long list. `settings` and `log` are of the crates `service_settings`
-//! and `service_log`. `uses` shows in a few lines how `published_index` is used.
+//! `publishing` is of mergers and gates, and `edge` of what crosses a socket. Walks are tried over archives that
+//! `archives` makes: `harvesting` which pages are fetched and lost, `limits` how many pages and mementos may come,
+//! `patience` for how long archives ask to be left alone, and `paged` what another aggregator answers of a long list.
+//! `settings` and `log` are of the crates `service_settings` and `service_log`. `uses` shows in a few lines how
+//! `published_index` is used.
 #![tactic(auto)]
 
 #[cfg(test)]
@@ -29,7 +29,5 @@ mod patience;
 mod publishing;
 #[cfg(test)]
 mod settings;
-#[cfg(test)]
-mod switching;
 #[cfg(test)]
 mod uses;
