@@ -1,74 +1,20 @@
 //! The thread of the rounds at work for wishes. The schedule has them and the jobs of a round take turns.
 ghost use Rattle.std.specs.Prelude.{◌≡◌};
-ghost use Rattle.harvester.specs.Unkept.{Comes};
-ghost use Rattle.service_ledger.specs.Leads.{IsWalked};
 
-use crate::bounds::book_room;
-use crate::course::Course;
 use crate::making::Rounds;
-use forgetting::Forgetting;
-use harvest_lattice::Harvest;
-use harvest_schedule::{Permit, Verdict};
-use harvest_workers::{Assignment, Errand, Opened, WalkRules};
+use harvest_schedule::Permit;
+use harvest_workers::WalkRules;
 use harvester::SocketRuntime;
-use memento_time::{NoMemory, Original};
-use original_list::spellings_of;
-use published_index::Merger;
-use round_values::{
-    Millis, Second, WishJob, answer_to, has_mementos, is_fresh, is_kept, second_now, wish_timing,
-};
+use part_gates::NamesBase;
+use round_values::WishJob;
 use service_ledger::Begins;
-use service_log::{Line, Want};
-use service_settings::Settings;
-use service_status::WishCounts;
-use std::alloc::Global;
 use std::io::Write;
 use std::rt::Files;
-use wish_list::{Decision, Ended, MOST_WISHES, WishAnswer};
-use wishing_gates::wished_at;
-
-/// For each archive, whether its harvest of an original is too young to be asked for by a wish, or withdrawn.
-fn spared(
-    alloc: Global,
-    settings: &Settings,
-    forgetting: &Forgetting,
-    merger: &Merger,
-    original: &Original,
-    second: Second,
-) -> Result<Vec<bool>, NoMemory> {
-    let timing = wish_timing(settings.timing);
-    let mut spared = Vec::with_capacity(alloc, settings.archives.len())?;
-    for archive in &settings.archives {
-        let is_spared = match merger.published_entry(archive.name, original) {
-            Some(entry) => is_fresh(timing, entry, second),
-            None => false,
-        };
-        let is_withdrawn = forgetting.has_withdrawn(archive.name, original);
-        spared.push(is_spared || is_withdrawn)?;
-    }
-    Ok(spared)
-}
-
-/// Whether gates show something of an original.
-fn is_shown(settings: &Settings, merger: &Merger, original: &Original) -> bool {
-    let has_some = settings.archives.iter().any(|archive| {
-        match merger.published_entry(archive.name, original) {
-            Some(entry) => has_mementos(entry),
-            None => false,
-        }
-    });
-    // An archive that isn't in these settings may be known from a peer.
-    has_some
-        || match merger.published_state().shown(original) {
-            Ok(shown) => !shown.is_empty(),
-            Err(_) => true,
-        }
-}
 
 impl<R, P, L> Rounds<'_, R, P, L>
 where
     R: SocketRuntime + Files,
-    P: WalkRules + Begins,
+    P: WalkRules + Begins + NamesBase,
     L: Write + Copy,
 {
     /// Grants what readers wish for, and hands out its jobs, as far as there are hands and archives may be asked.
@@ -77,7 +23,8 @@ where
             return;
         }
         self.course.grant_wishes();
-        self.course.standing.desk.allow_all();
+        let course = &mut self.course;
+        course.standing.desk.allow_all();
         let settings = self.course.settings();
         let most = self.pool.hands().saturating_add(settings.archives.len());
         for _ in 0..most {
@@ -86,7 +33,8 @@ where
             }
         }
         let now = self.course.now();
-        self.course.standing.skip_archives(settings, now);
+        let course = &mut self.course;
+        course.standing.skip_archives(settings, now);
     }
 
     /// Hands out a job of a wish, or finds that its archive can't be asked now. Returns whether there may be more.
@@ -102,12 +50,13 @@ where
             return false;
         };
         let now = self.course.now();
-        let schedule = &mut self.course.standing.schedule;
+        let course = &mut self.course;
+        let schedule = &mut course.standing.schedule;
         let Some(permit) = schedule.begin_walk(job.archive, now.0, free == 1) else {
-            self.course.standing.desk.refuse(job.archive, now);
+            course.standing.desk.refuse(job.archive, now);
             return true;
         };
-        self.course.standing.desk.ask(&job);
+        course.standing.desk.ask(&job);
         self.walk_wish(permit, &job)
     }
 
@@ -115,242 +64,20 @@ where
     fn walk_wish(&mut self, permit: Permit, job: &WishJob) -> bool
         requires { permit.archive ≡ job.now.archive }
     {
-        let archive = job.archive;
         let Some(assignment) = self.course.assignment_of_wish(permit, job) else {
             self.course.note_unwalked_wish(job);
             return true;
         };
         match self.pool.give(self.course.rt, assignment) {
             Ok(()) => {
-                self.course.standing.desk.add_out();
+                let course = &mut self.course;
+                course.standing.desk.add_out();
                 true
             }
             Err(assignment) => {
-                let report = self.course.terms.walk(self.course.rt, assignment);
-                self.course.accept_wish_walk(archive, report.open());
+                self.course.walk_wish_here(job.archive, assignment);
                 false
             }
-        }
-    }
-}
-
-impl<R, P, L> Course<'_, R, P, L>
-where
-    R: SocketRuntime + Files,
-    P: WalkRules + Begins,
-    L: Write + Copy,
-{
-    /// Grants each wish that waits, as far as there is memory.
-    fn grant_wishes(&mut self) {
-        for _ in 0..MOST_WISHES {
-            let Some(original) = self.shared.book.grant(self.rt) else {
-                return;
-            };
-            if self.begin_wish(&original).is_err() {
-                self.shared.book.put_back(self.rt, &original);
-                return;
-            }
-            self.console.show_wishes(WishCounts {
-                granted: 1,
-                ..WishCounts::NONE
-            });
-        }
-    }
-
-    /// Takes on a granted wish.
-    fn begin_wish(&mut self, original: &Original) -> Result<(), NoMemory> {
-        let settings = self.settings();
-        let second = second_now(self.rt);
-        let alloc = self.alloc();
-        let spared = spared(
-            alloc,
-            settings,
-            &self.standing.forgetting,
-            self.ledger.merger(),
-            original,
-            second,
-        )?;
-        self.standing.desk.push(original.try_clone()?, &spared)?;
-        let is_spelling = self.standing.desk.take_spelling(original);
-        if settings.wishing.alike
-            && !is_spelling
-            && !self.standing.is_all_withdrawn(settings, original)
-            && !is_shown(settings, self.ledger.merger(), original)
-        {
-            self.wish_spellings(original, second);
-        }
-        Ok(())
-    }
-
-    /// Wishes for the other spellings of an original of which nothing is shown. What is wished for so leads to no
-    /// further wishes.
-    fn wish_spellings(&mut self, original: &Original, second: Second) {
-        let Ok(spellings) = spellings_of(self.alloc(), original) else {
-            return;
-        };
-        for spelling in spellings {
-            let Ok(Some(noted)) = wished_at(self.alloc(), spelling.as_bytes()) else {
-                continue;
-            };
-            if is_shown(self.settings(), self.ledger.merger(), &spelling)
-                || !self.standing.desk.add_spelling(&spelling)
-            {
-                continue;
-            }
-            if self.shared.book.note(noted, false, second.0) != Some(Decision::Added) {
-                let _ = self.standing.desk.take_spelling(&spelling);
-            }
-        }
-    }
-
-    /// The job of a wish, whose archive may be asked, to be handed out now.
-    fn assignment_of_wish(&self, permit: Permit, job: &WishJob) -> Option<Assignment<P>>
-        requires { permit.archive ≡ job.now.archive }
-    {
-        let errand = Errand::Wish {
-            archive: job.archive,
-        };
-        self.assignment(permit, errand, &job.original, second_now(self.rt))
-    }
-
-    /// Notes that a job of a wish couldn't be made: memory was refused, or the URL is too long.
-    fn note_unwalked_wish(&mut self, job: &WishJob) {
-        let now = self.now().0;
-        let standing = &mut self.standing;
-        let _ = standing
-            .schedule
-            .end_walk(job.archive, Verdict::Unknown, now);
-        standing
-            .desk
-            .answer(&job.original, job.archive, WishAnswer::NoHarvest);
-    }
-
-    /// Takes in what came of a wish's walk. If the archive was busy, and is waited for, the job comes again.
-    pub(crate) fn accept_wish_walk(&mut self, archive: usize, opened: Opened)
-        requires own { ∥ P.jobs opened.errand opened.job ∥₁ }
-        requires comes { ∥ Comes P.answers P.faults opened.job opened.begun opened.result opened.asked ∥₁ }
-    {
-        let is_busy = self.note_walk(&opened).is_some();
-        let Opened {
-            errand: _,
-            job,
-            begun: _,
-            result: walked,
-            asked: _,
-        } = opened;
-        let answer = answer_to(&walked);
-        let now = self.now();
-        let is_taken = match walked {
-            Ok(harvest) => self.accept_wished(harvest, now),
-            Err(_) => {
-                self.standing.desk.count_failed();
-                true
-            }
-        };
-        if is_busy
-            && matches!(answer, WishAnswer::NoHarvest)
-            && self.standing.walks_again(archive, &job.original, now)
-        {
-            return;
-        }
-        let answer = if is_taken {
-            answer
-        } else {
-            WishAnswer::NoHarvest
-        };
-        self.standing.desk.answer(&job.original, archive, answer);
-    }
-
-    /// Appends the harvest of a wish's walk, if it is kept. Returns whether it could be taken: there was memory for it,
-    /// and it isn't too far ahead of the clock.
-    fn accept_wished(&mut self, harvest: Harvest, now: Millis) -> bool
-        requires { ∥ IsWalked P.jobs P.answers P.faults harvest ∥₁ }
-    {
-        if !self.may_accept(&harvest) {
-            return false;
-        }
-        let is_shown = is_shown(self.settings(), self.ledger.merger(), harvest.original());
-        if !is_kept(&harvest, is_shown) {
-            return true;
-        }
-        if !self.has_room(&harvest) {
-            return false;
-        }
-        let is_taken = self.ledger.append_walked(harvest).is_ok();
-        if is_taken {
-            self.standing.desk.add_pending(now);
-        } else {
-            self.standing.notes.add_unkept();
-        }
-        is_taken
-    }
-
-    /// Publishes what wishes brought, where that is due, ends wishes that are over, and logs them.
-    pub(crate) fn tend_wishes(&mut self) {
-        if !self.shared.book.is_open() {
-            return;
-        }
-        let now = self.now();
-        if self.standing.desk.is_due(now) {
-            self.publish();
-        }
-        self.end_wishes();
-        let now = self.now();
-        if let Some(counts) = self.standing.desk.take_counts(now) {
-            self.console.log_line(Line::Wishes(counts));
-        }
-    }
-
-    /// Ends the wishes that are over.
-    fn end_wishes(&mut self) {
-        for _ in 0..MOST_WISHES {
-            let Some(ended) = self.standing.desk.take_ended() else {
-                return;
-            };
-            self.end_wish(&ended);
-        }
-    }
-
-    /// Tells the book that a wish is over.
-    fn end_wish(&mut self, ended: &Ended) {
-        let (settings, original) = (self.settings(), &ended.original);
-        let is_found = ended.outcome.is_found || is_shown(settings, self.ledger.merger(), original);
-        let mut outcome = ended.outcome;
-        if self.standing.is_all_withdrawn(settings, original) {
-            // It may be lifted soon.
-            outcome.is_whole = false;
-        }
-        let second = second_now(self.rt).0;
-        self.shared
-            .book
-            .end(self.rt, original, is_found, outcome, second);
-        self.standing.desk.count(is_found);
-        self.console.show_wishes(WishCounts {
-            ended: 1,
-            ..WishCounts::NONE
-        });
-    }
-
-    /// Tells the book how many more unknown originals may be wished for, by what is published.
-    pub(crate) fn book_room(&self) {
-        let settings = self.settings();
-        let listed = self.standing.list(settings).len();
-        let (book, merger) = (&self.shared.book, self.ledger.merger());
-        let room = book_room(self.rt, book, settings, listed, merger);
-        if let (Some(room), Some(wanted)) = (room, settings.wishing.wanted) {
-            self.console.show_room(room, wanted.get());
-        }
-    }
-
-    /// Logs how many wishes were turned away since the last round, if any were.
-    pub(crate) fn log_turned_away(&self, number: u64) {
-        let count = self.shared.book.turned_away(self.rt);
-        if count > 0 {
-            self.console.log_wanting(number, count, Want::Room);
-            self.console.show_wishes(WishCounts {
-                turned_away: count,
-                ..WishCounts::NONE
-            });
         }
     }
 }

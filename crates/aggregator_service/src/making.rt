@@ -1,12 +1,12 @@
 //! The thread of the rounds at work: it makes rounds, and hands out their jobs.
 ghost use Rattle.std.specs.Prelude.{◌≡◌};
 
-use crate::course::{Course, TICK};
-use crate::standing::tells_more;
 use crate::taking::Heard;
 use harvest_schedule::{Permit, Turn};
 use harvest_workers::WalkRules;
 use harvester::SocketRuntime;
+use part_gates::NamesBase;
+use round_course::{Course, TICK};
 use round_values::{Round, second_now};
 use service_ledger::Begins;
 use service_settings::Settings;
@@ -21,7 +21,7 @@ const MOST_PASSED: usize = 4_096;
 
 /// What the thread of the rounds works with.
 #[derive(Drop)]
-pub(crate) struct Rounds<'a, R, P: WalkRules + Begins, L: Copy> {
+pub(crate) struct Rounds<'a, R, P: WalkRules + Begins + NamesBase, L: Copy> {
     pub(crate) course: Course<'a, R, P, L>,
     pub(crate) pool: &'a Pool<P>,
     pub(crate) pullers: &'a Pullers,
@@ -46,7 +46,7 @@ fn is_tended_between(settings: &Settings) -> bool {
 impl<'a, R, P, L> Rounds<'a, R, P, L>
 where
     R: SocketRuntime + Files,
-    P: WalkRules + Begins,
+    P: WalkRules + Begins + NamesBase,
     L: Write + Copy,
 {
     /// Makes the round with this number, and logs what went wrong. What is refused for lack of memory isn't
@@ -98,7 +98,8 @@ where
             if self.course.passes_over(turn) {
                 continue;
             }
-            let Some(permit) = self.course.standing.schedule.hand_out(turn, now) else {
+            let course = &mut self.course;
+            let Some(permit) = course.standing.schedule.hand_out(turn, now) else {
                 continue;
             };
             self.hand(permit, turn);
@@ -120,7 +121,10 @@ where
             return;
         };
         match self.pool.give(self.course.rt, assignment) {
-            Ok(()) => self.course.standing.add_out(),
+            Ok(()) => {
+                let course = &mut self.course;
+                course.standing.add_out();
+            }
             Err(assignment) => self.course.walk_here(turn, assignment),
         }
     }
@@ -149,7 +153,8 @@ where
     /// pulled and snapshots written, that goes on meanwhile, and so do wishes.
     pub(crate) fn wait_between(&mut self) {
         let settings = self.course.settings();
-        let pause = self.course.standing.absences.end(settings);
+        let course = &mut self.course;
+        let pause = course.standing.absences.end(settings);
         if self.course.shared.book.is_open() {
             self.serve_between(pause);
             return;

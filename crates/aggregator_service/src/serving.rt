@@ -1,27 +1,30 @@
 //! Serves: gates in threads of their own, and rounds in the caller's thread.
-ghost use Rattle.std.specs.Prelude.{◌≡◌, ℕ, OnOk};
+ghost use Rattle.std.specs.Prelude.{◌≡◌, ◌&&◌, ℕ, All, IfOk, OnOk, is_some, true};
 ghost use Rattle.std.specs.Io.KnownBytes.{Appends};
 ghost use Rattle.std.specs.Arc.{arc_value};
 ghost use Rattle.service_threads.specs.Jobs.{Covers};
 ghost use Rattle.round_values.specs.Keeping.{Starts};
 ghost use Rattle.round_values.specs.Lines.{round_line};
+ghost use Rattle.round_values.specs.Ahead as ahead;
+ghost use Rattle.forgetting.specs.Renewing.{AreGone};
+ghost use Rattle.round_course.specs.Asking as asking;
 
-use crate::bounds::book_bounds;
-use crate::console::Console;
-use crate::course::Course;
-use crate::dropping::begin_rule;
+use crate::beginning::{begin_rule, book_bounds};
 use crate::making::Rounds;
-use crate::standing::Standing;
+use format_gates::NamesForms;
 use harvest_workers::WalkRules;
 use harvester::SocketRuntime;
+use part_gates::{NamesBase, PartGate, part_gates};
 use published_index::{Gate, Merger, open};
+use round_course::Course;
+use round_standing::{Console, Standing};
 use round_values::{
     Keeping, Log, Millis, Round, Stopwatch, incarnation_now, last_taken, second_now, shuffle,
 };
 use service_ledger::{Begins, Ledger};
 use service_log::Line;
 use service_settings::Settings;
-use service_threads::{Listeners, Means, ServeFault, Terms, forgets, open_listeners};
+use service_threads::{Listeners, Means, ServeFault, Shared, Terms, forgets, open_listeners};
 use std::alloc::{AllocGlobal, Global};
 use std::hash::RandomState;
 use std::io::Write;
@@ -91,7 +94,7 @@ fn take_snapshot_in<R, L>(rt: &R, settings: &Settings, merger: &mut Merger, log:
 where
     R: SocketRuntime + Files,
     L: Write + Copy,
-    ensures { (last : ℕ) × Starts last merger.old merger.new }
+    ensures { (now : ℕ) × Starts (ahead.last_taken settings.now.timing.ahead now) merger.old merger.new }
 {
     let mut keeping = Keeping::new(&settings.storing, Millis(0));
     if let Some(path) = &settings.storing.snapshot {
@@ -105,7 +108,9 @@ where
 fn secret_keys<R: RandomSource>(
     rt: &R,
     settings: &Settings,
-) -> Result<Option<RandomState>, ServeFault> {
+) -> Result<Option<RandomState>, ServeFault>
+    ensures { IfOk result (λ keys. asking.forgets settings.now ≡ true → is_some keys ≡ true) }
+{
     let has_sets = settings.wishing.wanted.is_some() || settings.wishing.originals_file.is_some();
     if !has_sets && !forgets(settings) {
         return Ok(None);
@@ -125,8 +130,8 @@ struct Opened {
 
 /// Gates that aren't served yet, and what the rounds begin with.
 #[derive(Drop)]
-struct Begun {
-    gates: Vec<Gate>,
+struct Begun<P: NamesBase> {
+    gates: Vec<PartGate<P>>,
     keeping: Keeping,
     incarnation: u64,
 }
@@ -143,9 +148,12 @@ where
     R: SocketRuntime + Files + Threads + Sync + Send + Clone + Drop + 'static,
     W: Write,
     L: Write + Copy + Send + 'static,
-    P: WalkRules + Begins + Send + Sync + 'static,
+    P: WalkRules + Begins + NamesBase + NamesForms + Send + Sync + 'static,
     requires covers { Covers (arc_value settings.now) P.jobs P.answers P.faults }
     requires begun { opened.merger ≡ P.begun }
+    requires base { (arc_value settings.now).base ≡ P.base }
+    requires forms { (arc_value settings.now).forms ≡ P.forms }
+    requires gates { All (λ gate. gate.base ≡ P.base) opened.gates.items }
 {
     let Opened {
         merger,
@@ -154,12 +162,17 @@ where
         incarnation,
     } = opened;
     let mut ledger: Ledger<P> = Ledger::new(merger);
-    let begun = Begun {
-        gates,
-        keeping,
-        incarnation,
+    let served = match part_gates(rt.alloc(), gates, settings.timing.room()) {
+        Ok(gates) => {
+            let begun = Begun {
+                gates,
+                keeping,
+                incarnation,
+            };
+            serve_gates(rt, settings, begun, &mut ledger, out, log)
+        }
+        Err(_) => Err(ServeFault::NoMemory),
     };
-    let served = serve_gates(rt, settings, begun, &mut ledger, out, log);
     ledger.close(rt);
     served
 }
@@ -169,7 +182,7 @@ where
 fn serve_gates<R, W, L, P>(
     rt: &R,
     settings: &Arc<Settings, Global>,
-    begun: Begun,
+    begun: Begun<P>,
     ledger: &mut Ledger<P>,
     out: &mut W,
     log: Log<L>,
@@ -178,8 +191,10 @@ where
     R: SocketRuntime + Files + Threads + Sync + Send + Clone + Drop + 'static,
     W: Write,
     L: Write + Copy + Send + 'static,
-    P: WalkRules + Begins + Send + Sync + 'static,
-    requires { Covers (arc_value settings.now) P.jobs P.answers P.faults }
+    P: WalkRules + Begins + NamesBase + NamesForms + Send + Sync + 'static,
+    requires covers { Covers (arc_value settings.now) P.jobs P.answers P.faults }
+    requires base { (arc_value settings.now).base ≡ P.base }
+    requires forms { (arc_value settings.now).forms ≡ P.forms }
 {
     let Begun {
         gates,
@@ -191,19 +206,8 @@ where
     let mut means = Means::new(rt.alloc(), terms.settings(), keys)?;
     let mut standing = Standing::new(rt.alloc(), terms.settings(), keeping, incarnation)?;
     begin_rule(rt, &terms, &means.shared, &mut standing, ledger, log)?;
-    if !ledger.merger().published_state().is_empty() {
-        means.shared.readiness.set();
-        means.shared.telling.tell_snapshot(rt, ledger.merger());
-    }
-    book_bounds(
-        rt,
-        &means.shared.book,
-        means.shared.keys,
-        terms.settings(),
-        ledger.merger(),
-    );
     let watch = Stopwatch::start(rt);
-    let listeners = open_listeners(rt, terms.settings(), gates, &means.shared, log)?;
+    let listeners = listen(rt, &terms, gates, &means.shared, &standing, ledger, log)?;
     let said = say_ports(&listeners, terms.settings(), out);
     let made = match said {
         Ok(()) => {
@@ -245,6 +249,36 @@ where
     ended
 }
 
+/// Opens the gates' listeners, and tells what they share what is known by then. The rule of a service that forgets is
+/// known, and nothing that is withdrawn is published.
+fn listen<R, L, P>(
+    rt: &R,
+    terms: &Terms<P>,
+    gates: Vec<PartGate<P>>,
+    shared: &Shared<P>,
+    standing: &Standing,
+    ledger: &Ledger<P>,
+    log: Log<L>,
+) -> Result<Listeners, ServeFault>
+where
+    R: SocketRuntime + Threads + Sync + Send + Clone + Drop + 'static,
+    L: Write + Copy + Send + 'static,
+    P: WalkRules + Begins + NamesBase + NamesForms + Send + Sync + 'static,
+    requires forms { (arc_value terms.now.settings).forms ≡ P.forms }
+    requires gone { asking.forgets (arc_value terms.now.settings) ≡ true
+        → AreGone standing.now.forgetting.withdrawn standing.now.forgetting.listed ledger.now.merger }
+    requires read { asking.forgets (arc_value terms.now.settings) ≡ true
+        → (is_some standing.now.forgetting.withdrawn && is_some standing.now.forgetting.listed) ≡ true }
+{
+    let (settings, merger) = (terms.settings(), ledger.merger());
+    if !merger.published_state().is_empty() {
+        shared.readiness.set();
+        shared.telling.tell_snapshot(rt, merger);
+    }
+    book_bounds(rt, shared, settings, standing.list(settings), merger);
+    open_listeners(rt, settings, gates, shared, log)
+}
+
 /// Writes a line for each gate, in the order of the settings, and one for the status, if the settings ask for it.
 fn say_ports<W: Write>(
     listeners: &Listeners,
@@ -273,7 +307,7 @@ where
     R: SocketRuntime + Files,
     W: Write,
     L: Write + Copy,
-    P: WalkRules + Begins,
+    P: WalkRules + Begins + NamesBase,
 {
     rounds.greet();
     for number in 1..=rounds.course.settings().rounds {

@@ -1,20 +1,9 @@
 //! What workers report is taken in.
-ghost use Rattle.harvester.specs.Unkept.{Comes};
-ghost use Rattle.service_ledger.specs.Leads.{IsWalked};
-
-use crate::console::WalkShown;
-use crate::course::Course;
 use crate::making::Rounds;
-use crate::standing::is_asleep;
-use harvest_lattice::Harvest;
-use harvest_schedule::{Mood, Turn};
-use harvest_workers::{Errand, Opened, WalkReport, WalkRules, verdict_of};
+use harvest_workers::WalkRules;
 use harvester::SocketRuntime;
-use published_index::Merger;
-use round_values::{Millis, Second, has_mementos, walk_end};
+use part_gates::NamesBase;
 use service_ledger::Begins;
-use service_log::{Matter, Want};
-use service_settings::Settings;
 use service_threads::News;
 use std::io::Write;
 use std::rt::Files;
@@ -29,18 +18,10 @@ pub(crate) enum Heard {
     Gone,
 }
 
-/// For how many seconds an archive is left alone that asked for it: an archive is only where it may be dormant, too.
-fn heeded(settings: &Settings, asked: Option<u64>) -> Option<u64> {
-    match settings.asking.tolerance {
-        Some(_) => asked,
-        None => None,
-    }
-}
-
 impl<R, P, L> Rounds<'_, R, P, L>
 where
     R: SocketRuntime + Files,
-    P: WalkRules + Begins,
+    P: WalkRules + Begins + NamesBase,
     L: Write + Copy,
 {
     /// Waits so many milliseconds for what comes, and takes it in.
@@ -64,140 +45,5 @@ where
             };
             self.course.accept_report(report);
         }
-    }
-}
-
-impl<R, P, L> Course<'_, R, P, L>
-where
-    R: SocketRuntime + Files,
-    P: WalkRules + Begins,
-    L: Write + Copy,
-{
-    /// Takes in what a worker reports.
-    pub(crate) fn accept_report(&mut self, report: WalkReport<P>) {
-        let opened = report.open();
-        match opened.errand {
-            Errand::Round(turn) => {
-                self.standing.end_out();
-                self.accept_round_walk(turn, opened);
-            }
-            Errand::Wish { archive } => {
-                self.standing.desk.end_out();
-                self.accept_wish_walk(archive, opened);
-            }
-        }
-    }
-
-    /// Notes in the schedule how a walk ended, shows it, and logs it. Returns for how many seconds its archive is left
-    /// alone, if it asked for that.
-    pub(crate) fn note_walk(&mut self, opened: &Opened) -> Option<u64> {
-        let archive = opened.errand.archive();
-        let asked = heeded(self.settings(), opened.asked);
-        let before = self.standing.schedule.mood(archive);
-        let now = self.now();
-        let verdict = verdict_of(opened.errand, &opened.result, asked, now.0);
-        self.standing.note_verdict(opened.errand, verdict, now);
-        let walk = WalkShown {
-            archive,
-            end: walk_end(&opened.result, asked.is_some()),
-            begun: Second(opened.begun),
-            mood: self.standing.schedule.mood(archive),
-        };
-        self.console.show_walk(walk, now);
-        self.log_mood(archive, before, now);
-        asked
-    }
-
-    /// Logs, once each in a round, that an archive is dormant, and that it answers again; and, once each time, that it
-    /// asked to be left alone for long.
-    fn log_mood(&mut self, archive: usize, before: Option<Mood>, now: Millis) {
-        let settings = self.settings();
-        let round = self.standing.number;
-        if let Some(matter) = self
-            .standing
-            .mood_matter(settings, archive, is_asleep(before))
-        {
-            self.console.log_archive(settings, round, archive, matter);
-        }
-        if let Some(matter) = self.standing.aside_matter(archive, before, now) {
-            self.console.log_archive(settings, round, archive, matter);
-        }
-    }
-
-    /// Takes in what came of a job of the round.
-    pub(crate) fn accept_round_walk(&mut self, turn: Turn, opened: Opened)
-        requires own { ∥ P.jobs opened.errand opened.job ∥₁ }
-        requires comes { ∥ Comes P.answers P.faults opened.job opened.begun opened.result opened.asked ∥₁ }
-    {
-        if self.note_walk(&opened).is_none() {
-            self.standing.round.add_job();
-        }
-        let Opened {
-            errand: _,
-            job,
-            begun: _,
-            result: walked,
-            asked: _,
-        } = opened;
-        self.standing.notes.add(turn.archive, &job.first, &walked);
-        if let Ok(harvest) = walked {
-            self.accept_harvest(turn, harvest);
-        }
-    }
-
-    /// Appends the harvest of a walk.
-    fn accept_harvest(&mut self, turn: Turn, harvest: Harvest)
-        requires { ∥ IsWalked P.jobs P.answers P.faults harvest ∥₁ }
-    {
-        if !self.may_accept(&harvest) {
-            return;
-        }
-        if is_emptied(self.ledger.merger(), &harvest) {
-            self.standing.notes.add_emptied(turn.archive);
-        }
-        match self.ledger.append_walked(harvest) {
-            Ok(()) => self.standing.round.add_harvest(),
-            Err(_) => self.standing.notes.add_unkept(),
-        }
-    }
-
-    /// Whether a harvest may be taken: it isn't withdrawn, and isn't too far ahead of the clock, which was set back
-    /// since. One that is ahead is counted.
-    pub(crate) fn may_accept(&mut self, harvest: &Harvest) -> bool {
-        let last = self.last_taken();
-        !self
-            .standing
-            .is_withdrawn(harvest.archive(), harvest.original())
-            && !self.standing.is_left_out(harvest, last)
-    }
-
-    /// Logs how many harvests weren't taken since the last round, if there were some.
-    pub(crate) fn log_left_out(&mut self, round: u64) {
-        let count = self.standing.take_left_out();
-        self.console.log_wanting(round, count, Want::Clock);
-    }
-
-    /// Logs jobs that weren't handed out, since their archive was dormant.
-    pub(crate) fn log_left(&self) {
-        let settings = self.settings();
-        for place in 0..settings.archives.len() {
-            let left = self.standing.schedule.left(place);
-            if left > 0 {
-                let matter = Matter::Left(left as u64);
-                self.console
-                    .log_archive(settings, self.standing.number, place, matter);
-            }
-        }
-    }
-}
-
-/// Whether a whole harvest has no memento where there were some.
-fn is_emptied(merger: &Merger, harvest: &Harvest) -> bool {
-    if harvest.is_part() || !harvest.mementos().is_empty() {
-        return false;
-    }
-    match merger.published_entry(harvest.archive(), harvest.original()) {
-        Some(entry) => has_mementos(entry),
-        None => false,
     }
 }

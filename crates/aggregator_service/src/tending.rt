@@ -1,25 +1,16 @@
-//! What is due while rounds are made: publishes, snapshots, pulls, and lines of the log.
-use crate::course::Course;
+//! What is due while rounds are made.
 use crate::making::Rounds;
 use harvest_workers::WalkRules;
 use harvester::SocketRuntime;
-use published_index::Merger;
-use round_values::PublishEnd;
+use part_gates::NamesBase;
 use service_ledger::Begins;
-use service_settings::Settings;
 use std::io::Write;
 use std::rt::Files;
-
-/// Whether something is published, so many peers were heard in the round, or there is nobody to learn from.
-fn has_learnt(settings: &Settings, merger: &Merger, pulls: u64, jobs: u64) -> bool {
-    let is_known = !merger.published_state().is_empty();
-    is_known || pulls > 0 || jobs == 0 && settings.peers.is_empty()
-}
 
 impl<R, P, L> Rounds<'_, R, P, L>
 where
     R: SocketRuntime + Files,
-    P: WalkRules + Begins,
+    P: WalkRules + Begins + NamesBase,
     L: Write + Copy,
 {
     /// Does what is due: takes in what peers gave, pulls, publishes, and logs how far the round is.
@@ -42,146 +33,12 @@ where
         }
         let now = self.course.now();
         if self.course.standing.dues.pull.is_due(now) {
-            self.course.standing.dues.pull.done(now);
+            let course = &mut self.course;
+            course.standing.dues.pull.done(now);
             self.course.ask_peers(self.pullers);
         }
         self.course.publish_round();
         self.course.tend_forgetting();
         self.course.tend_ready();
-    }
-}
-
-impl<R, P, L> Course<'_, R, P, L>
-where
-    R: SocketRuntime + Files,
-    P: WalkRules + Begins,
-    L: Write + Copy,
-{
-    /// Logs how far the round is, where that is due.
-    pub(crate) fn log_progress(&mut self) {
-        let now = self.now();
-        if self.standing.dues.progress.is_due(now) {
-            self.standing.dues.progress.done(now);
-            let progress = self.standing.progress(self.settings());
-            self.console.log_progress(self.standing.number, progress);
-        }
-    }
-
-    /// Publishes what the round brought so far, where that is due.
-    pub(crate) fn publish_round(&mut self) {
-        let now = self.now();
-        if self.standing.round.pending && self.standing.dues.publish.is_due(now) {
-            self.standing.dues.publish.done(now);
-            self.publish();
-        }
-    }
-
-    /// Publishes what is pending, and keeps it where that is due.
-    pub(crate) fn publish(&mut self) {
-        let is_appended = self.standing.has_pending();
-        let (number, log) = (self.standing.number, self.console.log);
-        self.ledger
-            .publish(self.rt, &mut self.standing.round, number, log);
-        let is_published = self.standing.round.published;
-        let end = PublishEnd {
-            is_appended,
-            is_published,
-        };
-        self.note_learnt();
-        self.show_publish(is_published);
-        let now = self.now();
-        self.standing.note_publish(end, now);
-        self.book_room();
-        self.console.show_behind(&self.standing.keeping);
-        self.tend_forgetting();
-        self.tend_snapshot();
-    }
-
-    /// Notes whether something is shown, or nobody can be learnt from: then the gates are ready once no part is to
-    /// come.
-    fn note_learnt(&mut self) {
-        let settings = self.settings();
-        let jobs = self.standing.jobs(settings);
-        let pulls = self.standing.round.pulls;
-        let is_published = self.standing.round.published;
-        if is_published && has_learnt(settings, self.ledger.merger(), pulls, jobs) {
-            self.standing.has_learnt = true;
-            self.tend_ready();
-        }
-    }
-
-    /// The gates are ready once something was learnt, and no part of a peer's delta is to come: before its last part
-    /// came, not all is known that the peer has. A part that doesn't come for one patience isn't waited for.
-    pub(crate) fn tend_ready(&mut self) {
-        let patience = self.settings().patience.saturating_mul(1_000);
-        let now = self.now();
-        if self.standing.has_learnt && !self.standing.peers.are_unfinished(now, patience) {
-            self.standing.has_learnt = false;
-            self.shared.readiness.set();
-            self.shared.telling.tell_shown(self.rt);
-        }
-    }
-
-    /// Writes a snapshot, where one is due.
-    pub(crate) fn tend_snapshot(&mut self) {
-        let now = self.now();
-        if self.standing.keeping.is_due(now) {
-            self.keep();
-        }
-    }
-
-    /// Writes a snapshot, if the settings ask for one and it would have more than the last one.
-    pub(crate) fn keep(&mut self) {
-        let Some(path) = &self.settings().storing.snapshot else {
-            return;
-        };
-        if self.standing.keeping.is_behind() {
-            let log = self.console.log;
-            self.standing
-                .keeping
-                .keep(self.rt, path.as_str(), self.ledger.merger(), log);
-            let now = self.now();
-            self.standing.keeping.tried(now);
-            self.console.show_kept(&self.standing.keeping);
-        }
-    }
-
-    /// Shows how far the round is.
-    pub(crate) fn show_progress(&self) {
-        let progress = self.standing.progress(self.settings());
-        self.console.show_progress(progress);
-    }
-
-    /// Shows each second how much memory is held, and how many wishes came too late.
-    pub(crate) fn show_memory(&mut self) {
-        let now = self.now();
-        let shown = self.standing.measured;
-        self.standing.measured = self.console.show_memory(shown, &self.shared.book, now);
-    }
-
-    /// Shows what a publish came to, and once a minute how much is known.
-    fn show_publish(&mut self, is_published: bool) {
-        let now = self.now();
-        let counted = self.standing.counted;
-        if self.console.show_publish(is_published, counted, now) {
-            self.count_known();
-        }
-    }
-
-    /// Shows how much is published.
-    fn count_known(&mut self) {
-        let unlisted = self.standing.forgetting.mementos();
-        self.console.show_known(self.ledger.merger(), unlisted);
-        let now = self.now();
-        self.standing.counted = Some(now);
-    }
-
-    /// Shows that a round is over, and how much is known.
-    pub(crate) fn show_round(&mut self) {
-        self.show_progress();
-        self.show_memory();
-        if self.console.show_round() {
-            self.count_known();
-        }
     }
 }

@@ -1,5 +1,5 @@
 //! What goes, and when.
-ghost use Rattle.std.specs.Prelude.{◌≡◌, ◌⊎◌, ◌&&◌, ◌+◌, ◌-◌, ◌/◌, ◌^◌, ◌≤◌, IfOk, IfSome, IsErrOf, None, OnErr, OnOk};
+ghost use Rattle.std.specs.Prelude.{◌≡◌, ◌⊎◌, ◌&&◌, ◌+◌, ◌-◌, ◌/◌, ◌^◌, ◌≤◌, [], IfOk, IfSome, IsErrOf, None, OnErr, OnOk};
 ghost use Rattle.std.specs.Prelude.{false, is_some, min, true};
 ghost use Rattle.std.specs.FinMap as map;
 ghost use Rattle.retention.specs.Restriction.{restrict};
@@ -11,7 +11,7 @@ use crate::standing::Forgetting;
 use harvest_lattice::State;
 use memento_time::NoMemory;
 use original_sets::OriginalSet;
-use part_gates::PartGate;
+use part_gates::{NamesBase, PartGate};
 use published_index::Merger;
 use retention::{
     Amount, Remainder, Retention, Unlisted, Withdrawn, restricted, unlisted_amount, without_oldest,
@@ -30,14 +30,16 @@ use switching_gates::GateSlot;
 
 /// By what something is forgotten.
 #[derive(Drop)]
-pub struct Ways<'a, R, L: Copy> {
+pub struct Ways<'a, R, L: Copy, B: NamesBase> {
     pub rt: &'a R,
     pub settings: &'a Settings,
     pub keys: RandomState,
     /// Where each gate's thread is handed another gate.
-    pub slots: &'a [GateSlot<PartGate>],
+    pub slots: &'a [GateSlot<PartGate<B>>],
     pub watch: Stopwatch,
     pub log: Log<L>,
+    /// The gates that are handed over name the settings' base, as those before them.
+    pub ghost named: { settings.now.base ≡ B.base },
 }
 
 /// What a forgetting came to.
@@ -70,7 +72,7 @@ fn has_withdrawn(state: &State, withdrawn: &Withdrawn) -> bool
     false
 }
 
-impl<R: Wait + Clock + AllocGlobal, L: Write + Copy> Ways<'_, R, L> {
+impl<R: Wait + Clock + AllocGlobal, L: Write + Copy, B: NamesBase> Ways<'_, R, L, B> {
     fn alloc(&self) -> Global {
         self.rt.alloc()
     }
@@ -103,15 +105,17 @@ pub enum BeginFault {
 
 impl Forgetting {
     /// Reads what is withdrawn before the first gate answers, and forgets it. Where it can't be read, nothing is to be
-    /// shown. Returns what was forgotten.
-    pub fn begin<R, L>(
+    /// shown. What is pending would be lost, so publish it first. Returns what was forgotten.
+    pub fn begin<R, L, B>(
         &mut self,
-        ways: &Ways<'_, R, L>,
+        ways: &Ways<'_, R, L, B>,
         merger: &mut Merger,
     ) -> Result<Option<Forgot>, BeginFault>
     where
         R: Wait + Clock + Files + AllocGlobal,
         L: Write + Copy,
+        B: NamesBase,
+        requires { merger.old.pending ≡ [] }
         ensures some { IfOk result (λ it. IfSome it (λ _.
             ForgetsSome self.new.withdrawn self.new.listed merger.old merger.new)) }
         ensures none { IfOk result (λ it. it ≡ None → merger.new ≡ merger.old) }
@@ -131,16 +135,19 @@ impl Forgetting {
         }
     }
 
-    /// Forgets at once what is withdrawn. `None` if nothing of it is published.
+    /// Forgets at once what is withdrawn. What is pending would be lost, so publish it first. `None` if nothing of it
+    /// is published.
     #[tactic(auto, using(crate::proofs::RenewingLemmas::some_forgotten))]
-    pub fn forget_withdrawn<R, L>(
+    pub fn forget_withdrawn<R, L, B>(
         &mut self,
-        ways: &Ways<'_, R, L>,
+        ways: &Ways<'_, R, L, B>,
         merger: &mut Merger,
     ) -> Result<Option<Forgot>, NoMemory>
     where
         R: Wait + Clock + AllocGlobal,
         L: Write + Copy,
+        B: NamesBase,
+        requires { merger.old.pending ≡ [] }
         ensures some { IfOk result (λ it. IfSome it (λ _.
             ForgetsSome self.old.withdrawn self.old.listed merger.old merger.new)) }
         ensures none { IfOk result (λ it. it ≡ None → merger.new ≡ merger.old) }
@@ -176,15 +183,18 @@ impl Forgetting {
         self.missing > 0 || !few || most.entries < merger.published_state().len() as u64
     }
 
-    /// Forgets what is known beyond what is wanted, where that is due. `None` if it isn't, or if no more is known.
-    pub fn tend<R, L>(
+    /// Forgets what is known beyond what is wanted, where that is due. What is pending would be lost, so publish it
+    /// first. `None` if it isn't due, or if no more is known.
+    pub fn tend<R, L, B>(
         &mut self,
-        ways: &Ways<'_, R, L>,
+        ways: &Ways<'_, R, L, B>,
         merger: &mut Merger,
     ) -> Result<Option<Forgot>, NoMemory>
     where
         R: Wait + Clock + AllocGlobal,
         L: Write + Copy,
+        B: NamesBase,
+        requires { merger.old.pending ≡ [] }
         ensures some { IfOk result (λ it. IfSome it (λ _.
             ForgetsSome self.old.withdrawn self.old.listed merger.old merger.new)) }
         ensures none { IfOk result (λ it. it ≡ None → merger.new ≡ merger.old) }
@@ -208,14 +218,15 @@ impl Forgetting {
     }
 
     /// What stays of what is published, if more is known than is wanted.
-    fn remainder<R, L>(
+    fn remainder<R, L, B>(
         &mut self,
-        ways: &Ways<'_, R, L>,
+        ways: &Ways<'_, R, L, B>,
         merger: &Merger,
     ) -> Result<Option<Remainder>, NoMemory>
     where
         R: Wait + Clock + AllocGlobal,
         L: Write + Copy,
+        B: NamesBase,
         ensures { IfOk result (λ it. IfSome it (λ rest. rest.state
             ≡ restrict (rule_of self.old.withdrawn self.old.listed rest.wanted) (known merger.now))) }
     {
@@ -266,9 +277,9 @@ impl Forgetting {
     }
 
     /// Begins anew with what stays. If memory is refused, everything stays as it was. `None` if all of it stays.
-    fn forget<R, L>(
+    fn forget<R, L, B>(
         &mut self,
-        ways: &Ways<'_, R, L>,
+        ways: &Ways<'_, R, L, B>,
         merger: &mut Merger,
         state: State,
         floor: u64,
@@ -276,6 +287,7 @@ impl Forgetting {
     where
         R: Wait + Clock + AllocGlobal,
         L: Write + Copy,
+        B: NamesBase,
         ensures some { IfOk result (λ it. IfSome it (λ _. IsBegun state merger.new)) }
         ensures none { IfOk result (λ it. it ≡ None → merger.new ≡ merger.old) }
         ensures all { IfOk result (λ it. it ≡ None → map.len state ≡ map.len (known merger.old)) }
@@ -294,7 +306,7 @@ impl Forgetting {
         }
         let incarnation = incarnation_now(ways.rt).max(self.incarnation.saturating_add(1));
         let (fresh, gates) = begin(ways.rt, ways.alloc(), ways.settings, incarnation, state)?;
-        replace(ways.rt, ways.settings, ways.slots, merger, fresh, gates);
+        replace(ways.rt, ways.slots, merger, fresh, gates);
         self.floor = floor;
         self.incarnation = incarnation;
         self.mementos = None;

@@ -56,9 +56,9 @@ RepliesBy gives None q made = gives q made
 RepliesBy gives (Some asked) q made =
     (inner : Reply) × gives (as_link asked.1 q) inner × IsConverted asked.0 q inner made
 
--- the same, whichever forms the gate answers in
-abbrev pub RepliesInForms : (Request → Reply → Type 0) → Request → Reply → Type 0
-RepliesInForms gives q made = (forms : Forms) × RepliesBy gives (form_at forms q.target) q made
+-- the same of a gate that answers in these forms
+abbrev pub ShowsInForms : (Request → Reply → Type 0) → Forms → Request → Reply → Type 0
+ShowsInForms gives forms q made = RepliesBy gives (form_at forms q.target) q made
 
 -- of one reply one is made
 abbrev pub IsConvertedOnce : Type 0

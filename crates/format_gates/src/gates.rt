@@ -6,20 +6,24 @@ ghost use Rattle.text_fields.specs.Parts.{behind};
 ghost use Rattle.format_gates.specs.Converted.{asked_in, form_at, as_link, form_reply, unread_reply, listing_reply};
 ghost use Rattle.format_gates.specs.Converted.{IsConverted, RepliesBy};
 
+use crate::naming::NamesForms;
 use gate_server::Answers;
 use memento_time::{Items, NoMemory, Octets};
 use published_index::GateFault;
 use std::alloc::Global;
+use std::marker::PhantomData;
 use text_fields::behind;
 use timegate::{Header, Reply, Request};
 use timemap_formats::{Form, Forms, Listing, read_listing, write_listing};
 
-/// A gate that also answers in these forms, by what the gate inside says.
+/// A gate that also answers in the forms that the type has, by what the gate inside says.
 #[derive(Drop)]
-pub struct FormGate<G> {
+pub struct FormGate<G, F: NamesForms> {
     alloc: Global,
     gate: G,
     forms: Forms,
+    of: PhantomData<F>,
+    ghost named: { forms ≡ F.forms },
 }
 
 /// The form and what the target names, if the form is answered and the target asks in it.
@@ -129,18 +133,26 @@ fn converted_or_fault(
     }
 }
 
-impl<G: Answers> FormGate<G> {
+impl<G: Answers, F: NamesForms> FormGate<G, F> {
     /// A gate that answers in these forms too.
-    pub fn new(alloc: Global, gate: G, forms: Forms) -> FormGate<G>
-        ensures { result.forms ≡ forms }
+    pub fn new(alloc: Global, gate: G, forms: Forms) -> FormGate<G, F>
+        requires { forms ≡ F.forms }
+        ensures forms { result.forms ≡ forms }
+        ensures gate { result.gate ≡ gate }
     {
-        FormGate { alloc, gate, forms }
+        FormGate {
+            alloc,
+            gate,
+            forms,
+            of: PhantomData,
+        }
     }
 
     /// The reply to a request for what `rest` names, in the form.
     fn answer_in(&mut self, form: Form, rest: &[u8], request: &Request) -> Result<Reply, GateFault>
-        ensures made { IfOk result (λ made. (inner : Answered) × G.replies (as_link rest.now request.now) inner
+        ensures made { IfOk result (λ made. (inner : Answered) × G.shows self.new.gate (as_link rest.now request.now) inner
             × IsConverted form request.now inner made) }
+        ensures later { G.follows self.old.gate self.new.gate }
         ensures closed { result ≡ Err GateFault.Closed → G.may_close }
     {
         let Ok(asked) = as_link(self.alloc, rest, request) else {
@@ -160,7 +172,8 @@ impl<G: Answers> FormGate<G> {
         is_held: bool,
     ) -> Result<Option<Reply>, GateFault>
         ensures made { IfOk result (λ it. IfSome it (λ made. (inner : Answered)
-            × G.replies (as_link rest.now request.now) inner × IsConverted form request.now inner made)) }
+            × G.shows self.new.gate (as_link rest.now request.now) inner × IsConverted form request.now inner made)) }
+        ensures later { G.follows self.old.gate self.new.gate }
         ensures closed { result ≡ Err GateFault.Closed → G.may_close }
     {
         let Ok(asked) = as_link(self.alloc, rest, request) else {
@@ -175,7 +188,9 @@ impl<G: Answers> FormGate<G> {
 
     /// The reply to a request: in a form, what is made of the TimeMap in link-format; and else that of the gate inside.
     pub fn reply(&mut self, request: &Request) -> Result<Reply, GateFault>
-        ensures allowed { IfOk result (RepliesBy G.replies (form_at self.old.forms request.now.target) request.now) }
+        ensures shown { IfOk result
+            (RepliesBy (G.shows self.new.gate) (form_at F.forms request.now.target) request.now) }
+        ensures later { G.follows self.old.gate self.new.gate }
         ensures closed { result ≡ Err GateFault.Closed → G.may_close }
     {
         match form_at(self.forms, request.target.as_slice()) {
@@ -190,8 +205,9 @@ impl<G: Answers> FormGate<G> {
         request: &Request,
         is_held: bool,
     ) -> Result<Option<Reply>, GateFault>
-        ensures allowed { IfOk result
-            (λ it. IfSome it (RepliesBy G.replies (form_at self.old.forms request.now.target) request.now)) }
+        ensures shown { IfOk result
+            (λ it. IfSome it (RepliesBy (G.shows self.new.gate) (form_at F.forms request.now.target) request.now)) }
+        ensures later { G.follows self.old.gate self.new.gate }
         ensures closed { result ≡ Err GateFault.Closed → G.may_close }
     {
         match form_at(self.forms, request.target.as_slice()) {
@@ -201,10 +217,12 @@ impl<G: Answers> FormGate<G> {
     }
 }
 
-impl<G: Answers> Answers for FormGate<G> {
-    ghost use Rattle.format_gates.specs.Converted.{RepliesInForms};
+impl<G: Answers, F: NamesForms> Answers for FormGate<G, F> {
+    ghost use Rattle.format_gates.specs.Converted.{ShowsInForms};
 
-    ghost replies = { RepliesInForms G.replies };
+    ghost shows = { λ it. ShowsInForms (G.shows it.gate) F.forms };
+
+    ghost follows = { λ it next. G.follows it.gate next.gate };
 
     ghost may_close = { G.may_close };
 
@@ -219,4 +237,8 @@ impl<G: Answers> Answers for FormGate<G> {
     ) -> Result<Option<Reply>, GateFault> {
         self.reply_or_hold(request, is_held)
     }
+
+    ghost stays = { λ it. G.stays it.gate };
+
+    ghost goes_on = { λ it next last. G.goes_on it.gate next.gate last.gate };
 }

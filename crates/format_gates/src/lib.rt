@@ -8,7 +8,9 @@
 
 mod gates;
 mod laws;
+mod naming;
 
 pub use gates::FormGate;
 pub use laws::{forms_agree, texts_list_once};
+pub use naming::NamesForms;
 pub use timemap_formats::Forms;

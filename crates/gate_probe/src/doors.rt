@@ -36,7 +36,9 @@ struct Meeting<'a, R> {
 impl<'a, R: Clock> Answers for Meeting<'a, R> {
     ghost use Rattle.std.specs.Prelude.{⊤};
 
-    ghost replies = { λ _ _. ⊤ };
+    ghost shows = { λ _ _ _. ⊤ };
+
+    ghost follows = { λ _ _. ⊤ };
 
     ghost may_close = { ⊤ };
 
@@ -51,6 +53,10 @@ impl<'a, R: Clock> Answers for Meeting<'a, R> {
             body: Octets::of(Vec::new(self.alloc)),
         })
     }
+
+    ghost stays = { λ _. tt };
+
+    ghost goes_on = { λ _ _ _ _ _. tt };
 }
 
 /// Answers each request alike.
@@ -62,7 +68,9 @@ struct Steady {
 impl Answers for Steady {
     ghost use Rattle.std.specs.Prelude.{⊤};
 
-    ghost replies = { λ _ _. ⊤ };
+    ghost shows = { λ _ _ _. ⊤ };
+
+    ghost follows = { λ _ _. ⊤ };
 
     ghost may_close = { ⊤ };
 
@@ -73,6 +81,10 @@ impl Answers for Steady {
             body: Octets::of(Vec::new(self.alloc)),
         })
     }
+
+    ghost stays = { λ _. tt };
+
+    ghost goes_on = { λ _ _ _ _ _. tt };
 }
 
 /// Whether the flag is set, before so many sleeps are over.

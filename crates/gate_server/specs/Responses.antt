@@ -9,6 +9,7 @@ use Rattle.http_header.specs.FieldValue.{FieldValue, plain_value}
 use Rattle.http_header.specs.HeaderMap.{append_all}
 use Rattle.timegate.specs.declared.reply.Header.{Header}
 use Rattle.timegate.specs.declared.reply.Reply.{Reply}
+use Rattle.timegate.specs.declared.request.Request.{Request}
 use Rattle.timegate.specs.Reply.{header_name}
 
 -- the field of a header with its value; names are written in lower case
@@ -31,3 +32,7 @@ pub record IsRefusal (response : Response (List ℕ)) : Type 0 where
   pub status : (head_of response).status ≡ 503
   pub headers : (head_of response).headers ≡ []
   pub body : body_of response ≡ []
+
+-- the response has the form of a reply to the request that some value shows
+abbrev pub IsShown : {G : Type 0} → (G → Request → Reply → Type 0) → Request → Response (List ℕ) → Type 0
+IsShown {G} shows request response = (it : G) × (reply : Reply) × shows it request reply × IsFormOf reply response

@@ -57,7 +57,9 @@ impl<G> ReadyGate<G> {
 }
 
 impl<G: Answers> Answers for ReadyGate<G> {
-    ghost replies = { G.replies };
+    ghost shows = { λ it. G.shows it.gate };
+
+    ghost follows = { λ it next. G.follows it.gate next.gate };
 
     ghost may_close = { G.may_close };
 
@@ -78,4 +80,8 @@ impl<G: Answers> Answers for ReadyGate<G> {
         }
         self.gate.answer_or_hold(request, is_held)
     }
+
+    ghost stays = { λ it. G.stays it.gate };
+
+    ghost goes_on = { λ it next last. G.goes_on it.gate next.gate last.gate };
 }

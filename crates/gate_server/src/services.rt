@@ -2,8 +2,7 @@
 ghost use Rattle.std.specs.Prelude.{◌≡◌, ◌⊎◌, IfOk, IfSome, None, is_some, true};
 ghost use Rattle.tokio.specs.Timers.{sleep_source};
 ghost use Rattle.timegate.specs.declared.request.Request.{Request as Asked};
-ghost use Rattle.timegate.specs.declared.reply.Reply.{Reply as Answered};
-ghost use Rattle.gate_server.specs.Responses.{IsFormOf, IsRefusal};
+ghost use Rattle.gate_server.specs.Responses.{IsRefusal, IsShown};
 ghost use Rattle.gate_server.specs.Requests.{IsAskedBy};
 
 use crate::answers::Answers;
@@ -60,8 +59,7 @@ enum Called<G, R> {
 impl<G: Answers, R: Wait + Drop> Shared<G, R> {
     /// The form of the reply that the gate gives.
     fn respond(&self, request: &Request) -> Result<Response<Bytes>, RespondFault>
-        ensures form { IfOk result
-            (λ response. (reply : Answered) × G.replies request.now reply × IsFormOf reply response) }
+        ensures form { IfOk result (IsShown G.shows request.now) }
         ensures closed { result ≡ Err RespondFault.Closed → G.may_close }
     {
         let reply = self.gate.lock(&self.rt).answer(request)?;
@@ -74,8 +72,7 @@ impl<G: Answers, R: Wait + Drop> Shared<G, R> {
         request: &Request,
         is_held: bool,
     ) -> Result<Option<Response<Bytes>>, RespondFault>
-        ensures form { IfOk result (λ it. IfSome it
-            (λ response. (reply : Answered) × G.replies request.now reply × IsFormOf reply response)) }
+        ensures form { IfOk result (λ it. IfSome it (IsShown G.shows request.now)) }
         ensures closed { result ≡ Err RespondFault.Closed → G.may_close }
     {
         match self.gate.lock(&self.rt).answer_or_hold(request, is_held)? {
@@ -86,7 +83,7 @@ impl<G: Answers, R: Wait + Drop> Shared<G, R> {
 
     /// The form of the reply to a request, or the response that stands for a fault.
     fn answer_now(&self, request: &Request) -> Response<Bytes>
-        ensures { ((reply : Answered) × G.replies request.now reply × IsFormOf reply result) ⊎ IsRefusal result }
+        ensures { IsShown G.shows request.now result ⊎ IsRefusal result }
     {
         match self.respond(request) {
             Ok(response) => response,
@@ -96,8 +93,7 @@ impl<G: Answers, R: Wait + Drop> Shared<G, R> {
 
     /// As `answer_now`, or `None` if the gate would rather answer later.
     fn answer_or_hold(&self, request: &Request, is_held: bool) -> Option<Response<Bytes>>
-        ensures { IfSome result (λ response.
-            ((reply : Answered) × G.replies request.now reply × IsFormOf reply response) ⊎ IsRefusal response) }
+        ensures { IfSome result (λ response. IsShown G.shows request.now response ⊎ IsRefusal response) }
     {
         match self.respond_or_hold(request, is_held) {
             Ok(given) => given,
@@ -152,8 +148,7 @@ impl<G: Answers, R: Wait + Drop> GateService<G, R> {
     /// The form of the reply that the gate gives. May wait for the lock. After a fault, the gate is as its `answer`
     /// left it.
     pub fn respond(&self, request: &Request) -> Result<Response<Bytes>, RespondFault>
-        ensures form { IfOk result
-            (λ response. (reply : Answered) × G.replies request.now reply × IsFormOf reply response) }
+        ensures form { IfOk result (IsShown G.shows request.now) }
         ensures closed { result ≡ Err RespondFault.Closed → G.may_close }
     {
         self.shared.respond(request)
@@ -163,8 +158,8 @@ impl<G: Answers, R: Wait + Drop> GateService<G, R> {
 impl<G: Answers, R: Wait + Clock + Drop> GateService<G, R> {
     /// The form of the reply to what was sent, or the response that stands for a fault; or the request, if it is held.
     fn begin<B>(&self, sent: &hyper::Request<B>) -> Called<G, R>
-        ensures given { (response : _) → result ≡ Called.Given response → ((asked : Asked) × (reply : Answered)
-            × IsAskedBy sent.now asked × G.replies asked reply × IsFormOf reply response) ⊎ IsRefusal response }
+        ensures given { (response : _) → result ≡ Called.Given response → ((asked : Asked)
+            × IsAskedBy sent.now asked × IsShown G.shows asked response) ⊎ IsRefusal response }
         ensures held { (held : _) → result ≡ Called.Held held → IsAskedBy sent.now held.request }
     {
         let shared = &*self.shared;
@@ -193,8 +188,7 @@ impl<G: Answers, R: Wait + Clock + Drop> GateService<G, R> {
 impl<G: Answers, R: Wait + Clock + Drop> Held<G, R> {
     /// The response, if it is to be given now. Otherwise the timer is set to the next look.
     fn look(&mut self) -> Option<Response<Bytes>>
-        ensures given { IfSome result (λ response. ((reply : Answered) × G.replies self.old.request reply
-            × IsFormOf reply response) ⊎ IsRefusal response) }
+        ensures given { IfSome result (λ response. IsShown G.shows self.old.request response ⊎ IsRefusal response) }
         ensures request { self.new.request ≡ self.old.request }
     {
         let shared = &*self.shared;

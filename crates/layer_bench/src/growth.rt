@@ -1,29 +1,26 @@
 //! What an index keeps of the same mementos, come in different ways.
-use crate::memory::mementos;
-use anyhow::{Context, Result};
-use harvest_lattice::{Harvest, State};
+use crate::memory::{harvest, original};
+use anyhow::Result;
+use harvest_lattice::State;
 use memento_index::{Index, Merge};
-use memento_time::{ArchiveName, Original};
 use replica_exchange::{read_state, write_state};
 use std::alloc::Global;
 
-const ORIGINALS: u32 = 10;
-
-/// The first `count` mementos of an original.
-fn harvest(alloc: Global, name: &str, number: u32, revision: u32, count: u32) -> Result<Harvest> {
-    let archive = ArchiveName::new(name.as_bytes()).context("no name")?;
-    let text = format!(in alloc; "http://a.example/{number}")?;
-    let original = Original::new(alloc, text.as_bytes())?;
-    let captures = mementos(alloc, number.saturating_mul(10_000), count)?;
-    let harvest = Harvest::new(archive, &original, u64::from(revision), captures)?;
-    Ok(harvest)
+/// The merges of an archive's first `count` mementos of each of ten originals.
+fn merges(alloc: Global, name: &str, revision: u32, count: u32) -> Result<Vec<Merge>> {
+    let mut list = Vec::new(alloc);
+    for number in 0..10u32 {
+        let of = original(alloc, number)?;
+        let first = number.saturating_mul(10_000);
+        list.push(Merge::Harvest(harvest(alloc, name, &of, revision, first, count)?))?;
+    }
+    Ok(list)
 }
 
-/// Has an index take the first `count` mementos of each of ten originals.
+/// Has an index take these merges.
 fn absorb(alloc: Global, index: &mut Index, name: &str, revision: u32, count: u32) -> Result<()> {
-    for number in 0..ORIGINALS {
-        let taken = harvest(alloc, name, number, revision, count)?;
-        index.absorb(&Merge::Harvest(taken))?;
+    for merge in &merges(alloc, name, revision, count)? {
+        index.absorb(merge)?;
     }
     Ok(())
 }
@@ -35,65 +32,39 @@ fn begun(alloc: Global) -> Result<Index> {
     Ok(index)
 }
 
-fn tell<R: Print + AllocGlobal>(rt: &R, index: &Index) -> Result<()> {
-    let keys = index.state().len();
-    println!(rt; "{keys}")?;
-    Ok(())
-}
-
-/// `count` mementos of each original in one merge. Prints how many keys there are then, as the others here do.
-pub(crate) fn take_at_once<R: Print + AllocGlobal>(rt: &R, count: u32) -> Result<()> {
-    let alloc: Global = rt.alloc();
+/// `count` mementos of each original: in one merge (`at_once`), in revisions that each have one memento more than the
+/// one before (`rounds`), or in one revision that comes again and again, each time with one memento more (`repeats`).
+/// How many keys there are then.
+pub(crate) fn take(alloc: Global, kind: &str, count: u32) -> Result<usize> {
     let mut index = begun(alloc)?;
-    absorb(alloc, &mut index, "one.example", 1, count)?;
-    tell(rt, &index)
-}
-
-/// Revisions that each have one memento more than the one before.
-pub(crate) fn take_rounds<R: Print + AllocGlobal>(rt: &R, count: u32) -> Result<()> {
-    let alloc: Global = rt.alloc();
-    let mut index = begun(alloc)?;
-    for round in 0..count {
-        let more = round.saturating_add(1);
-        absorb(alloc, &mut index, "one.example", more, more)?;
+    let first = if kind == "at_once" { count } else { 1 };
+    for more in first..=count {
+        let revision = if kind == "rounds" { more } else { 1 };
+        absorb(alloc, &mut index, "one.example", revision, more)?;
     }
-    tell(rt, &index)
+    Ok(index.state().len())
 }
 
-/// One revision that comes again and again, each time with one memento more.
-pub(crate) fn take_repeats<R: Print + AllocGlobal>(rt: &R, count: u32) -> Result<()> {
-    let alloc: Global = rt.alloc();
-    let mut index = begun(alloc)?;
-    for round in 0..count {
-        absorb(alloc, &mut index, "one.example", 1, round.saturating_add(1))?;
-    }
-    tell(rt, &index)
-}
-
-/// Texts of states that each have one key more than the one before.
-pub(crate) fn take_texts<R: Print + AllocGlobal>(rt: &R, count: u32) -> Result<()> {
-    let alloc: Global = rt.alloc();
+/// Texts of states that each have one key more than the one before. How many keys there are then.
+pub(crate) fn take_texts(alloc: Global, count: u32) -> Result<usize> {
     let mut index = Index::new(alloc);
     let mut sent = State::new(alloc);
     for number in 0..count {
-        sent.merge(&harvest(alloc, "one.example", number, 1, 1)?)?;
+        let first = number.saturating_mul(10_000);
+        let of = original(alloc, number)?;
+        sent.merge(&harvest(alloc, "one.example", &of, 1, first, 1)?)?;
         let text = write_state(alloc, &sent)?;
         index.absorb(&Merge::State(read_state(alloc, &text)?))?;
     }
-    tell(rt, &index)
+    Ok(index.state().len())
 }
 
-/// Merges that an index tries `count` times to take, of 1,000 mementos of each original. Prints how many were refused
-/// memory, which has to be seen to from outside.
-pub(crate) fn try_again<R: Print + AllocGlobal>(rt: &R, count: u32) -> Result<()> {
-    let alloc: Global = rt.alloc();
+/// Merges that an index tries `count` times to take, of 1,000 mementos of each original. How many were refused memory,
+/// which has to be seen to from outside.
+pub(crate) fn try_again(alloc: Global, count: u32) -> Result<usize> {
     let mut index = begun(alloc)?;
-    let mut merges = Vec::new(alloc);
-    for number in 0..ORIGINALS {
-        let taken = harvest(alloc, "one.example", number, 1, 1000)?;
-        merges.push(Merge::Harvest(taken))?;
-    }
-    let mut refused: u32 = 0;
+    let merges = merges(alloc, "one.example", 1, 1000)?;
+    let mut refused = 0usize;
     for _ in 0..count {
         for merge in &merges {
             if index.absorb(merge).is_err() {
@@ -101,6 +72,5 @@ pub(crate) fn try_again<R: Print + AllocGlobal>(rt: &R, count: u32) -> Result<()
             }
         }
     }
-    println!(rt; "{refused}")?;
-    Ok(())
+    Ok(refused)
 }

@@ -17,16 +17,13 @@ fn harvest(alloc: Global, text: &mut String, archive: ArchiveName, number: u32) 
     Ok(Harvest::new(archive, &original, 1, mementos)?)
 }
 
-/// Merges one memento for each of `count` originals into a state, and prints how many keys it has then.
-pub(crate) fn merge<R: Print + AllocGlobal>(rt: &R, count: u32) -> Result<()> {
-    let alloc: Global = rt.alloc();
+/// Merges one memento for each of `count` originals into a state: how many keys it has then.
+pub(crate) fn merge(alloc: Global, count: u32) -> Result<usize> {
     let archive = ArchiveName::new(b"arc.example").context("no name")?;
     let mut state = State::new(alloc);
     let mut text = String::new(alloc);
     for number in 0..count {
         state.merge(&harvest(alloc, &mut text, archive, number)?)?;
     }
-    let keys = state.len();
-    println!(rt; "{keys}")?;
-    Ok(())
+    Ok(state.len())
 }

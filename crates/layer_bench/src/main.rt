@@ -27,42 +27,46 @@
 
 mod deltas;
 mod growth;
-mod hostile;
 mod keys;
 mod links;
 mod memory;
 mod pages;
 mod states;
+mod telling;
 mod walks;
 
+use crate::telling::tell;
 use anyhow::{Context, Result, bail};
+use std::alloc::Global;
 use std::env;
 use std::io::Read;
 
-/// All of standard input.
-fn input(rt: &HostRuntime) -> Result<Vec<u8>> {
-    let mut bytes = Vec::new(rt.alloc());
-    rt.stdin().read_to_end(&mut bytes)?;
-    Ok(bytes)
+/// Reads standard input, and does this `count` times with it.
+fn read(rt: &HostRuntime, kind: &str, count: u32) -> Result<()> {
+    let alloc = rt.alloc();
+    let mut text = Vec::new(alloc);
+    rt.stdin().read_to_end(&mut text)?;
+    for _ in 0..count {
+        match kind {
+            "links" => tell(rt, &links::counts_of(alloc, &text)?)?,
+            "pages" => tell(rt, &pages::counts_of(alloc, &text)?)?,
+            "states" => tell(rt, &[states::rewrite(alloc, &text)?])?,
+            _ => tell(rt, &[states::absorb(alloc, &text)?])?,
+        }
+    }
+    Ok(())
 }
 
-fn measure(rt: &HostRuntime, kind: &str, count: u32) -> Result<()> {
+/// Fills a state, an index or a replica so, and counts what is in it.
+fn fill(alloc: Global, kind: &str, count: u32) -> Result<usize> {
     match kind {
-        "links" => links::read(rt, &input(rt)?, count),
-        "pages" => pages::read(rt, &input(rt)?, count),
-        "keys" => keys::merge(rt, count),
-        "hostile" => hostile::read_and_absorb(rt, &input(rt)?, count),
-        "memory" => memory::fill(rt, count),
-        "spread" => memory::spread(rt, count),
-        "at_once" => growth::take_at_once(rt, count),
-        "rounds" => growth::take_rounds(rt, count),
-        "repeats" => growth::take_repeats(rt, count),
-        "texts" => growth::take_texts(rt, count),
-        "refused" => growth::try_again(rt, count),
-        "stamped" => deltas::fill(rt, count),
-        "last" => deltas::write_last(rt, count),
-        "all" => deltas::write_all(rt, count),
-        "states" => states::read_and_write(rt, &input(rt)?, count),
+        "keys" => keys::merge(alloc, count),
+        "memory" => memory::fill(alloc, count),
+        "spread" => memory::spread(alloc, count),
+        "at_once" | "rounds" | "repeats" => growth::take(alloc, kind, count),
+        "texts" => growth::take_texts(alloc, count),
+        "refused" => growth::try_again(alloc, count),
+        "stamped" => deltas::fill(alloc, count),
         _ => bail!("nothing of that name is measured"),
     }
 }
@@ -76,9 +80,10 @@ fn main(rt: HostRuntime) -> Result<()> {
     let count = words.next().context("how often?")?;
     let count = count.parse::<u32>().context("how often?")?;
     match kind.as_str() {
-        "walk" => walks::walk_pages(&rt, count),
-        "read" => walks::read_pages(&rt, count),
-        "round" => walks::round(&rt, count as usize),
-        kind => measure(&rt, kind, count),
+        "links" | "pages" | "states" | "hostile" => read(&rt, &kind, count),
+        "last" | "all" => deltas::write(&rt, count, kind.as_str() == "last"),
+        "walk" | "read" => walks::go_over(&rt, count, kind.as_str() == "walk"),
+        "round" => tell(&rt, &[walks::round(&rt, count as usize)?]),
+        kind => tell(&rt, &[fill(rt.alloc(), kind, count)?]),
     }
 }

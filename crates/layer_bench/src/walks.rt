@@ -1,4 +1,5 @@
 //! Walking over the pages of a TimeMap, and rounds of workers.
+use crate::telling::tell;
 use anyhow::{Context, Result, bail};
 use harvester::{Answer, Fetch, FetchFault, Job, MemoryFetch, have_first_urls, run_round, walk};
 use memento_time::{ArchiveName, Clean, Items, Octets, Original};
@@ -63,51 +64,41 @@ fn pages(alloc: Global) -> Result<MemoryFetch> {
     Ok(fetch)
 }
 
-/// Walks over the pages `count` times.
-pub(crate) fn walk_pages<R>(rt: &R, count: u32) -> Result<()>
-where
-    R: Print
-        + Wait
-        + Clock
-        + Net<Listener = TcpListener, Stream = TcpStream>
-        + RandomSource
-        + AllocGlobal,
-{
-    let alloc: Global = rt.alloc();
-    let fetch = pages(alloc)?;
-    let job = job(alloc, 0)?;
-    if !job.has_first_url() {
-        bail!("no first URL");
-    }
-    for _ in 0..count {
-        let outcome = walk(rt, &fetch, &job);
-        let fetched = outcome.fetched.as_slice().len();
-        match &outcome.result {
-            Ok(harvest) => println!(rt; "{fetched} {}", harvest.mementos().len())?,
-            Err(fault) => bail!("{fault}"),
-        }
-    }
-    Ok(())
-}
-
-fn count_mementos<R>(rt: &R, fetch: &MemoryFetch, urls: &[Clean]) -> Result<usize>
+/// How many pages a walk fetches, and how many mementos it harvests.
+fn walk_once<R>(rt: &R, table: &MemoryFetch) -> Result<[usize; 2]>
 where
     R: Wait + Clock + Net<Listener = TcpListener, Stream = TcpStream> + RandomSource + AllocGlobal,
 {
-    let mut mementos = 0usize;
-    for url in urls {
-        let answer = fetch.fetch(rt, url)?;
-        let Ok(base) = std::str::from_utf8(url.as_bytes()) else {
-            bail!("no text");
-        };
-        let page = read_page(rt.alloc(), base, answer.body.as_slice())?;
-        mementos = mementos.saturating_add(page.mementos.as_slice().len());
+    let job = job(rt.alloc(), 0)?;
+    if !job.has_first_url() {
+        bail!("no first URL");
     }
-    Ok(mementos)
+    let outcome = walk(rt, table, &job);
+    match &outcome.result {
+        Ok(harvest) => Ok([outcome.fetched.as_slice().len(), harvest.mementos().len()]),
+        Err(fault) => bail!("{fault}"),
+    }
 }
 
-/// Fetches and reads the same pages `count` times, and does no more with them.
-pub(crate) fn read_pages<R>(rt: &R, count: u32) -> Result<()>
+/// How many pages are fetched and read, with nothing more done with them, and how many mementos they have.
+fn read_once<R>(rt: &R, table: &MemoryFetch) -> Result<[usize; 2]>
+where
+    R: Wait + Clock + Net<Listener = TcpListener, Stream = TcpStream> + RandomSource + AllocGlobal,
+{
+    let alloc: Global = rt.alloc();
+    let mut counts = [0usize; 2];
+    for number in 0..PAGES {
+        let text = format!(in alloc; "http://arc.example/{number}")?;
+        let answer = table.fetch(rt, &Clean::new(alloc, text.as_bytes())?)?;
+        let page = read_page(alloc, text.as_str(), answer.body.as_slice())?;
+        counts[0] = counts[0].saturating_add(1);
+        counts[1] = counts[1].saturating_add(page.mementos.as_slice().len());
+    }
+    Ok(counts)
+}
+
+/// Walks over the pages `count` times, or fetches and reads them as often.
+pub(crate) fn go_over<R>(rt: &R, count: u32, is_walk: bool) -> Result<()>
 where
     R: Print
         + Wait
@@ -116,16 +107,13 @@ where
         + RandomSource
         + AllocGlobal,
 {
-    let alloc: Global = rt.alloc();
-    let fetch = pages(alloc)?;
-    let mut urls = Vec::new(alloc);
-    for number in 0..PAGES {
-        urls.push(url(alloc, number)?)?;
-    }
+    let table = pages(rt.alloc())?;
     for _ in 0..count {
-        let mementos = count_mementos(rt, &fetch, &urls)?;
-        let fetched = urls.len();
-        println!(rt; "{fetched} {mementos}")?;
+        if is_walk {
+            tell(rt, &walk_once(rt, &table)?)?;
+        } else {
+            tell(rt, &read_once(rt, &table)?)?;
+        }
     }
     Ok(())
 }
@@ -155,11 +143,10 @@ impl Fetch for SlowFetch {
     }
 }
 
-/// A round of 1,000 jobs of one slow page each.
-pub(crate) fn round<R>(rt: &R, workers: usize) -> Result<()>
+/// A round of 1,000 jobs of one slow page each: how many harvests it gives.
+pub(crate) fn round<R>(rt: &R, workers: usize) -> Result<usize>
 where
-    R: Print
-        + Threads
+    R: Threads
         + Sync
         + Wait
         + Clock
@@ -176,10 +163,11 @@ where
         bail!("1 to 64 workers");
     }
     let outcomes = run_round(rt, &SlowFetch, &jobs, workers)?;
-    let harvests = outcomes
-        .iter()
-        .filter(|outcome| outcome.result.is_ok())
-        .count();
-    println!(rt; "{harvests}")?;
-    Ok(())
+    let mut harvests = 0usize;
+    for outcome in &outcomes {
+        if outcome.result.is_ok() {
+            harvests = harvests.saturating_add(1);
+        }
+    }
+    Ok(harvests)
 }

@@ -4,6 +4,10 @@
 //! parts is given, gets the reply of the gate inside.
 #![tactic(auto)]
 
+mod bases;
 mod gates;
+mod laws;
 
-pub use gates::PartGate;
+pub use bases::NamesBase;
+pub use gates::{PartGate, part_gates};
+pub use laws::parts_are_of_their_base;

@@ -1,5 +1,5 @@
 //! Mergers, which publish.
-ghost use Rattle.std.specs.Prelude.{◌≡◌, ◌∷◌, [], ◌++◌, true, IfOk, IfErr, OnOk, OnErr, option_copied};
+ghost use Rattle.std.specs.Prelude.{◌≡◌, ◌∷◌, [], ◌++◌, false, true, IfOk, IfErr, OnOk, OnErr, option_copied};
 ghost use Rattle.std.specs.FinMap as map;
 ghost use Rattle.harvest_lattice.specs.Knowledge.{lat};
 ghost use Rattle.replica_exchange.specs.CursorRule as rule;
@@ -156,6 +156,13 @@ impl Merger {
     {
         let shown = self.writer.published().stamped.index().state();
         shown.entry(archive, original)
+    }
+
+    /// Whether something may be pending: after a refused publish that is said even where nothing is.
+    pub fn may_have_pending(&self) -> bool
+        ensures { result ≡ false → self.now.pending ≡ [] }
+    {
+        self.writer.has_pending_operations()
     }
 
     /// Makes everything that is pending into one batch, which may be empty, at the end of the published list, and

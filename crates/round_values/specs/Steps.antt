@@ -1,5 +1,5 @@
 -- How far the parts of a peer's delta were taken.
-use Rattle.std.specs.Prelude.{◌≡◌, ℕ, ◌+◌, ◌-◌, ◌^◌, min, Bool, true, false, not, cond, ◌&&◌, Option, Some, None}
+use Rattle.std.specs.Prelude.{◌≡◌, Bool, true, false, not, cond, ◌&&◌, Option, Some, None}
 use Rattle.replica_exchange.specs.declared.cursor.Cursor.{Cursor}
 use Rattle.delta_parts.specs.declared.asks.PartAsk.{PartAsk}
 use Rattle.delta_parts.specs.declared.asks.PartAsk.TheVariants.{First, Next}
@@ -34,16 +34,14 @@ is_still None part = false
 is_still (Some walk) part = goes_on (Some walk) part && is_no_further walk.place part.until
 
 -- what was noted of the walk with which a part goes on, or what is noted of one that it begins
-abbrev pub noted : Option Cursor → Option Walking → Part → Option Cursor × Bool × ℕ
-noted asked None part = (asked, false, 0)
-noted asked (Some known) part =
-    cond (goes_on (Some known.walk) part) (known.asked, known.left_out, known.parts) (asked, false, 0)
+abbrev pub noted : Option Cursor → Option Walking → Part → Option Cursor × Bool
+noted asked None part = (asked, false)
+noted asked (Some known) part = cond (goes_on (Some known.walk) part) (known.asked, known.left_out) (asked, false)
 
 -- what was noted stands beside the walk
-abbrev pub IsNotedOf : Option Cursor × Bool × ℕ → Option Walking → Type 0
+abbrev pub IsNotedOf : Option Cursor × Bool → Option Walking → Type 0
 IsNotedOf notes None = Unit {0}
-IsNotedOf notes (Some next) =
-    (next.asked ≡ notes.0) × (next.left_out ≡ notes.1) × (next.parts ≡ min (notes.2 + 1) (2 ^ 64 - 1))
+IsNotedOf notes (Some next) = (next.asked ≡ notes.0) × (next.left_out ≡ notes.1)
 
 abbrev pub IsNoted : Option Cursor → Option Walking → Part → Stepped → Type 0
 IsNoted asked walking part it = (it.asked ≡ (noted asked walking part).0)

@@ -16,8 +16,6 @@ pub struct Walking {
     pub asked: Option<Cursor>,
     /// Whether something of the parts wasn't taken.
     pub left_out: bool,
-    /// How many parts were taken, as far as 64 bits count.
-    pub parts: u64,
 }
 
 /// What a part comes to.
@@ -77,20 +75,14 @@ fn is_still(walk: Option<&Walk>, part: &Part) -> bool
     }
 }
 
-/// What was noted of a walk with which a part goes on: from which cursor it began, whether something wasn't taken, and
-/// how many parts were. A part that doesn't go on begins a walk, from the cursor from which it was asked for.
-fn noted(
-    asked: Option<Cursor>,
-    walking: Option<&Walking>,
-    part: &Part,
-) -> (Option<Cursor>, bool, u64)
+/// What was noted of a walk with which a part goes on: from which cursor it began, and whether something wasn't taken.
+/// A part that doesn't go on begins a walk, from the cursor from which it was asked for.
+fn noted(asked: Option<Cursor>, walking: Option<&Walking>, part: &Part) -> (Option<Cursor>, bool)
     ensures { result ≡ spec.noted asked (option_copied walking.entry) part.now }
 {
     match walking {
-        Some(known) if goes_on(Some(&known.walk), part) => {
-            (known.asked, known.left_out, known.parts)
-        }
-        _ => (asked, false, 0),
+        Some(known) if goes_on(Some(&known.walk), part) => (known.asked, known.left_out),
+        _ => (asked, false),
     }
 }
 
@@ -124,14 +116,13 @@ pub fn step(
     let Ok(after) = walk_after(walk, &part) else {
         return Err(PartFault::NoMemory);
     };
-    let (asked, left_out, parts) = noted(asked, walking, &part);
+    let (asked, left_out) = noted(asked, walking, &part);
     let delta = walk_end(walk, part);
     let next = match after {
         Some(walk) => Some(Walking {
             walk,
             asked,
             left_out,
-            parts: parts.saturating_add(1),
         }),
         None => None,
     };

@@ -1,5 +1,5 @@
 //! The merger of a service, and the calls that it gets.
-ghost use Rattle.std.specs.Prelude.{◌≡◌, ◌&&◌, IfOk, IfSome, None, OnErr, OnOk, false, is_some, true};
+ghost use Rattle.std.specs.Prelude.{◌≡◌, ◌&&◌, [], IfOk, IfSome, None, OnErr, OnOk, false, is_some, true};
 ghost use Rattle.std.specs.FinMap as map;
 ghost use Rattle.memento_index.specs.declared.merge.Merge.TheVariants.{Harvest as OfHarvest};
 ghost use Rattle.replica_exchange.specs.CursorRule.{fits, taken_from};
@@ -19,6 +19,7 @@ use harvester::SocketRuntime;
 use memento_index::Merge;
 use memento_time::{Clean, NoMemory};
 use outgoing_requests::Patience;
+use part_gates::NamesBase;
 use published_index::{Merger, TakenAs};
 use replica_exchange::Delta;
 use round_values::{Log, Round};
@@ -166,15 +167,18 @@ impl<P: WalkRules + Begins> Ledger<P> {
         forgetting.take(round, &mut self.merger, peer, delta)
     }
 
-    /// Reads what is withdrawn before the first gate answers, and forgets it (`Forgetting::begin`).
-    pub fn begin<R, L>(
+    /// Reads what is withdrawn before the first gate answers, and forgets it (`Forgetting::begin`). What is pending
+    /// would be lost, so publish it first.
+    pub fn begin<R, L, B>(
         &mut self,
         forgetting: &mut Forgetting,
-        ways: &Ways<'_, R, L>,
+        ways: &Ways<'_, R, L, B>,
     ) -> Result<Option<Forgot>, BeginFault>
     where
         R: Wait + Clock + Files + AllocGlobal,
         L: Write + Copy,
+        B: NamesBase,
+        requires { self.old.merger.pending ≡ [] }
         ensures some { IfOk result (λ it. IfSome it (λ _.
             ForgetsSome forgetting.new.withdrawn forgetting.new.listed self.old.merger self.new.merger)) }
         ensures read { OnOk result ((is_some forgetting.new.withdrawn && is_some forgetting.new.listed) ≡ true) }
@@ -186,15 +190,18 @@ impl<P: WalkRules + Begins> Ledger<P> {
         forgetting.begin(ways, &mut self.merger)
     }
 
-    /// Forgets at once what is withdrawn. `None` if nothing of it is published.
-    pub fn forget_withdrawn<R, L>(
+    /// Forgets at once what is withdrawn. What is pending would be lost, so publish it first. `None` if nothing of it
+    /// is published.
+    pub fn forget_withdrawn<R, L, B>(
         &mut self,
         forgetting: &mut Forgetting,
-        ways: &Ways<'_, R, L>,
+        ways: &Ways<'_, R, L, B>,
     ) -> Result<Option<Forgot>, NoMemory>
     where
         R: Wait + Clock + AllocGlobal,
         L: Write + Copy,
+        B: NamesBase,
+        requires { self.old.merger.pending ≡ [] }
         ensures some { IfOk result (λ it. IfSome it (λ _.
             ForgetsSome forgetting.old.withdrawn forgetting.old.listed self.old.merger self.new.merger)) }
         ensures gone { OnOk result (forgetting.old.is_new ≡ true
@@ -205,15 +212,18 @@ impl<P: WalkRules + Begins> Ledger<P> {
         forgetting.forget_withdrawn(ways, &mut self.merger)
     }
 
-    /// Forgets what is known beyond what is wanted, where that is due. `None` if it isn't, or if no more is known.
-    pub fn forget_oldest<R, L>(
+    /// Forgets what is known beyond what is wanted, where that is due. What is pending would be lost, so publish it
+    /// first. `None` if it isn't due, or if no more is known.
+    pub fn forget_oldest<R, L, B>(
         &mut self,
         forgetting: &mut Forgetting,
-        ways: &Ways<'_, R, L>,
+        ways: &Ways<'_, R, L, B>,
     ) -> Result<Option<Forgot>, NoMemory>
     where
         R: Wait + Clock + AllocGlobal,
         L: Write + Copy,
+        B: NamesBase,
+        requires { self.old.merger.pending ≡ [] }
         ensures some { IfOk result (λ it. IfSome it (λ _.
             ForgetsSome forgetting.old.withdrawn forgetting.old.listed self.old.merger self.new.merger)) }
         ensures none { IfOk result (λ it. it ≡ None → self.new.merger ≡ self.old.merger) }

@@ -1,7 +1,7 @@
 //! Calls of TimeMaps in other forms than link-format.
 use crate::services::get;
 use anyhow::Result;
-use format_gates::{FormGate, Forms};
+use format_gates::{FormGate, Forms, NamesForms};
 use gate_server::Answers;
 use memento_time::{Items, Octets};
 use published_index::GateFault;
@@ -25,7 +25,9 @@ struct Listed {
 impl Answers for Listed {
     ghost use Rattle.std.specs.Prelude.{⊤};
 
-    ghost replies = { λ _ _. ⊤ };
+    ghost shows = { λ _ _ _. ⊤ };
+
+    ghost follows = { λ _ _. ⊤ };
 
     ghost may_close = { ⊤ };
 
@@ -39,6 +41,19 @@ impl Answers for Listed {
             body,
         })
     }
+
+    ghost stays = { λ _. tt };
+
+    ghost goes_on = { λ _ _ _ _ _. tt };
+}
+
+/// The forms of the gate.
+struct AllForms;
+
+impl NamesForms for AllForms {
+    ghost use Rattle.std.specs.Prelude.{true};
+
+    ghost forms = { record { json = true; cdxj = true } };
 }
 
 /// The calls. Another answer than that without a refusal counts as a change.
@@ -70,7 +85,7 @@ fn try_write(alloc: Global) -> Option<Tried> {
 }
 
 /// Asks a gate for a TimeMap in JSON.
-fn ask(gate: &mut FormGate<Listed>, question: &Request) -> Tried {
+fn ask(gate: &mut FormGate<Listed, AllForms>, question: &Request) -> Tried {
     match gate.reply(question) {
         Ok(reply) if reply.status == 200 => Tried::Answered,
         Ok(_) => Tried::Changed,
@@ -84,7 +99,7 @@ fn try_reply(alloc: Global) -> Option<Tried> {
         json: true,
         cdxj: true,
     };
-    let mut gate = FormGate::new(alloc, Listed { alloc }, forms);
+    let mut gate: FormGate<Listed, AllForms> = FormGate::new(alloc, Listed { alloc }, forms);
     let tried = ask(&mut gate, &question);
     if tried != Tried::Refused {
         return Some(tried);

@@ -1,14 +1,17 @@
 //! Calls of mergers and gates, of what stands between them and HTTP, and of settings.
+ghost use Rattle.std.specs.Prelude.{◌≡◌};
+
 use anyhow::Result;
 use delta_parts::PartAsk;
 use gate_server::{Answers, GateService, Readiness, form, request_of};
 use memento_time::{Items, Octets};
 use outgoing_requests::{Agent, allowed_addresses, read_host};
-use part_gates::PartGate;
+use part_gates::{NamesBase, PartGate};
 use published_index::{Gate, GateFault, Merger, ask_both, open};
 use refused_calls::{Change, Tried, insist, share};
 use replica_exchange::{Delta, read_delta};
 use std::alloc::Global;
+use std::marker::Brand;
 use std::net::{IpAddr, Ipv4Addr, SocketAddr};
 use std::sync::Wait;
 use std::sync::atomic::{AtomicU64, Ordering};
@@ -95,7 +98,9 @@ struct Steady {
 impl Answers for Steady {
     ghost use Rattle.std.specs.Prelude.{⊤};
 
-    ghost replies = { λ _ _. ⊤ };
+    ghost shows = { λ _ _ _. ⊤ };
+
+    ghost follows = { λ _ _. ⊤ };
 
     ghost may_close = { ⊤ };
 
@@ -107,6 +112,10 @@ impl Answers for Steady {
             body: Octets::of(body),
         })
     }
+
+    ghost stays = { λ _. tt };
+
+    ghost goes_on = { λ _ _ _ _ _. tt };
 }
 
 /// Calls of a service, of a merger and of its gates.
@@ -183,13 +192,18 @@ fn try_answer_then<R: Wait>(rt: &R, alloc: Global) -> Option<Tried> {
     tried
 }
 
+/// Whether a gate with room for parts replies with one.
+fn replies_with_part<B: NamesBase>(alloc: Global, gate: Gate, question: &Request) -> bool
+    requires { gate.base ≡ B.base }
+{
+    let mut gate: PartGate<B> = PartGate::new(alloc, gate, Some(ROOM));
+    matches!(gate.reply(question), Ok(reply) if reply.status == 200)
+}
+
 /// Asks a gate for the first part of all that it knows, by itself or with room for parts.
 fn ask_for_part(alloc: Global, mut gate: Gate, call: OnGate, question: &Request) -> Tried {
     let is_answered = match call {
-        OnGate::PartGateReply => {
-            let mut gate = PartGate::new(alloc, gate, Some(ROOM));
-            matches!(gate.reply(question), Ok(reply) if reply.status == 200)
-        }
+        OnGate::PartGateReply => replies_with_part::<Brand>(alloc, gate, question),
         _ => gate.answer_part(&PartAsk::First(None), ROOM).is_ok(),
     };
     Tried::of(is_answered)

@@ -55,15 +55,22 @@ impl<R: Clock + Wait + AllocGlobal + Drop> StatusGate<R> {
 }
 
 impl<R: Clock + Wait + AllocGlobal + Drop> Answers for StatusGate<R> {
+    ghost use Rattle.std.specs.Prelude.{⊤};
     ghost use Rattle.service_status.specs.Replies.{IsStatusReply};
 
-    ghost replies = { IsStatusReply };
+    ghost shows = { λ _. IsStatusReply };
+
+    ghost follows = { λ _ _. ⊤ };
 
     ghost may_close = { ⊥ };
 
     fn answer(&mut self, request: &Request) -> Result<Reply, GateFault> {
         self.reply(request)
     }
+
+    ghost stays = { λ _. tt };
+
+    ghost goes_on = { λ _ _ _ _ _. tt };
 }
 
 /// A gate whose replies are counted by their status. It answers what the gate inside answers.
@@ -83,7 +90,9 @@ impl<G> CountingGate<G> {
 }
 
 impl<G: Answers> Answers for CountingGate<G> {
-    ghost replies = { G.replies };
+    ghost shows = { λ it. G.shows it.gate };
+
+    ghost follows = { λ it next. G.follows it.gate next.gate };
 
     ghost may_close = { G.may_close };
 
@@ -111,4 +120,8 @@ impl<G: Answers> Answers for CountingGate<G> {
         }
         answered
     }
+
+    ghost stays = { λ it. G.stays it.gate };
+
+    ghost goes_on = { λ it next last. G.goes_on it.gate next.gate last.gate };
 }

@@ -257,6 +257,7 @@ fn push_samples(
 ) -> Result<(), AllocError>
     ensures { OnOk result (out.new.items ≡ out.old.items ++ lines_of metric (samples_of status.now metric)) }
 {
+    let forgetting = status.forgetting;
     match metric {
         Metric::Clock => push_alone(out, metric, status.clock),
         Metric::Build => push_version(out, metric, status.version),
@@ -271,18 +272,12 @@ fn push_samples(
         Metric::Publishes => push_publishes(out, metric, status.publishes),
         Metric::LastPublish => push_alone(out, metric, status.publishes.last),
         Metric::Snapshots => push_snapshots(out, metric, status.snapshots),
-        Metric::LastSnapshot => {
-            push_if_known(
-                out,
-                metric,
-                status.snapshots.map(|snapshots| snapshots.last),
-            )
-        }
+        Metric::LastSnapshot => push_if_known(out, metric, status.snapshots.map(|kept| kept.last)),
         Metric::SnapshotBehind => {
             push_if_known(
                 out,
                 metric,
-                status.snapshots.map(|snapshots| bit(snapshots.is_behind)),
+                status.snapshots.map(|kept| bit(kept.is_behind)),
             )
         }
         Metric::Pulls | Metric::LastDelta | Metric::PullEntries | Metric::PullParts => {
@@ -298,29 +293,11 @@ fn push_samples(
         Metric::WantedLimit => push_if_known(out, metric, status.room.map(|room| room.most)),
         Metric::BadLines => push_if_known(out, metric, status.list.map(|list| list.bad)),
         Metric::LastList => push_if_known(out, metric, status.list.map(|list| list.last)),
-        Metric::Forgettings => push_forgettings(out, metric, status.forgetting),
-        Metric::ForgottenEntries => {
-            push_if_known(
-                out,
-                metric,
-                status.forgetting.map(|forgetting| forgetting.entries),
-            )
-        }
-        Metric::Floor => {
-            push_if_known(
-                out,
-                metric,
-                status.forgetting.map(|forgetting| forgetting.floor),
-            )
-        }
-        Metric::UnlistedMementos => {
-            push_if_known(
-                out,
-                metric,
-                status.forgetting.map(|forgetting| forgetting.mementos),
-            )
-        }
-        Metric::UnlistedLimit => push_if_known(out, metric, most_of(status.forgetting)),
+        Metric::Forgettings => push_forgettings(out, metric, forgetting),
+        Metric::ForgottenEntries => push_if_known(out, metric, forgetting.map(|it| it.entries)),
+        Metric::Floor => push_if_known(out, metric, forgetting.map(|it| it.floor)),
+        Metric::UnlistedMementos => push_if_known(out, metric, forgetting.map(|it| it.mementos)),
+        Metric::UnlistedLimit => push_if_known(out, metric, most_of(forgetting)),
     }
 }
 

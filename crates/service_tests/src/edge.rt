@@ -25,13 +25,19 @@ struct Spent;
 impl Answers for Spent {
     ghost use Rattle.std.specs.Prelude.{⊤};
 
-    ghost replies = { λ _ _. ⊤ };
+    ghost shows = { λ _ _ _. ⊤ };
+
+    ghost follows = { λ _ _. ⊤ };
 
     ghost may_close = { ⊤ };
 
     fn answer(&mut self, _request: &Request) -> Result<Reply, GateFault> {
         Err(GateFault::NoMemory)
     }
+
+    ghost stays = { λ _. tt };
+
+    ghost goes_on = { λ _ _ _ _ _. tt };
 }
 
 /// The URL on the server behind a port.
@@ -122,7 +128,9 @@ struct Steady {
 impl Answers for Steady {
     ghost use Rattle.std.specs.Prelude.{⊤};
 
-    ghost replies = { λ _ _. ⊤ };
+    ghost shows = { λ _ _ _. ⊤ };
+
+    ghost follows = { λ _ _. ⊤ };
 
     ghost may_close = { ⊤ };
 
@@ -133,6 +141,10 @@ impl Answers for Steady {
             body: Octets::of(Vec::new(self.alloc)),
         })
     }
+
+    ghost stays = { λ _. tt };
+
+    ghost goes_on = { λ _ _ _ _ _. tt };
 }
 
 /// The status that a gate answers, if it answers.

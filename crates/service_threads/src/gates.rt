@@ -4,13 +4,12 @@ ghost use Rattle.std.specs.Prelude.{◌≡◌, Err, IfErr, IfOk};
 use crate::faults::ServeFault;
 use crate::shared::Shared;
 use crossbeam_channel::{Receiver, Sender, bounded};
-use format_gates::FormGate;
+use format_gates::{FormGate, NamesForms};
 use harvester::SocketRuntime;
 use hyper_edge::{
     Answers, Bound, EdgeFault, GateService, ReadyGate, bind, serve_gate, serve_together,
 };
-use part_gates::PartGate;
-use published_index::Gate;
+use part_gates::{NamesBase, PartGate};
 use round_values::Log;
 use service_log::{GateEnd, Line};
 use service_settings::Settings;
@@ -26,8 +25,11 @@ use wishing_gates::WishingGate;
 type Ending = Result<(), ServeFault>;
 
 /// A gate as its thread serves it: it goes on with each gate that it is handed, answers with parts of deltas and in the
-/// settings' forms, once it is ready, and notes what readers wish for. Its replies are counted.
-type ServedGate<R> = CountingGate<FormGate<WishingGate<ReadyGate<SwitchingGate<PartGate, R>>, R>>>;
+/// settings' forms, once it is ready, and notes what readers wish for. Its replies are counted. The type `N` has the
+/// base and the forms.
+pub type ServedGate<R, N> = CountingGate<
+    FormGate<WishingGate<ReadyGate<SwitchingGate<PartGate<N>, R>>, R>, N>,
+>;
 
 /// A gate's thread, as the thread that makes the rounds sees it.
 #[derive(Drop)]
@@ -166,16 +168,18 @@ fn first_fault(first: Ending, then: Ending) -> Ending
 }
 
 /// A gate as its thread serves it.
-fn served_gate<R>(
+fn served_gate<R, N>(
     rt: &R,
     settings: &Settings,
-    gate: Gate,
-    shared: &Shared,
+    gate: PartGate<N>,
+    shared: &Shared<N>,
     counter: &ReplyCounter,
-    slot: &GateSlot<PartGate>,
-) -> Result<ServedGate<R>, ServeFault>
+    slot: &GateSlot<PartGate<N>>,
+) -> Result<ServedGate<R, N>, ServeFault>
 where
     R: SocketRuntime + Clone + Drop,
+    N: NamesBase + NamesForms,
+    requires { settings.now.forms ≡ N.forms }
 {
     let (Ok(readiness), Ok(book), Ok(counter), Ok(slot)) = (
         shared.readiness.share(),
@@ -185,7 +189,6 @@ where
     ) else {
         return Err(ServeFault::NoMemory);
     };
-    let gate = PartGate::new(rt.alloc(), gate, settings.timing.room());
     let gate = SwitchingGate::new(rt.clone()?, gate, slot);
     let gate = WishingGate::new(rt.clone()?, ReadyGate::new(gate, readiness), book);
     let gate = FormGate::new(rt.alloc(), gate, settings.forms);
@@ -193,9 +196,10 @@ where
 }
 
 /// The gate of the status.
-fn status_gate<R>(rt: &R, shared: &Shared) -> Result<StatusGate<R>, ServeFault>
+fn status_gate<R, N>(rt: &R, shared: &Shared<N>) -> Result<StatusGate<R>, ServeFault>
 where
     R: SocketRuntime + Clone + Drop,
+    N: NamesBase,
 {
     let own = rt.clone()?;
     match shared.telling.gate(own, rt.alloc()) {
@@ -205,17 +209,20 @@ where
     }
 }
 
-/// Binds each gate and the status in a thread of its own, and lets all serve once all are bound.
-pub fn open_listeners<R, L>(
+/// Binds each gate and the status in a thread of its own, and lets all serve once all are bound. What the gates may
+/// reply is in `laws::served_gates_reply_so`.
+pub fn open_listeners<R, L, N>(
     rt: &R,
     settings: &Settings,
-    gates: Vec<Gate>,
-    shared: &Shared,
+    gates: Vec<PartGate<N>>,
+    shared: &Shared<N>,
     log: Log<L>,
 ) -> Result<Listeners, ServeFault>
 where
     R: SocketRuntime + Threads + Sync + Send + Clone + Drop + 'static,
     L: Write + Copy + Send + 'static,
+    N: NamesBase + NamesForms + Send + Sync + 'static,
+    requires { settings.now.forms ≡ N.forms }
 {
     let alloc = rt.alloc();
     let mut listeners = Vec::with_capacity(alloc, gates.len())?;

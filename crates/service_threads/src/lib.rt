@@ -11,12 +11,13 @@
 //! - threads: `gates` (those that answer), `pool` (those that walk) and `pulls` (those that ask peers);
 //! - what they share: `means`, and in it `shared`, with `telling` (the status) and `slots` (where gates are handed
 //!   over);
-//! - `faults` (why serving ends early).
+//! - `faults` (why serving ends early), and `laws` (what gates may reply).
 #![tactic(auto)]
 
 mod faults;
 mod gates;
 mod jobs;
+mod laws;
 mod means;
 mod pool;
 mod pulls;
@@ -26,8 +27,9 @@ mod telling;
 mod terms;
 
 pub use faults::ServeFault;
-pub use gates::{Listeners, open_listeners};
+pub use gates::{Listeners, ServedGate, open_listeners};
 pub use jobs::original_of;
+pub use laws::{served_gates_go_on, served_gates_reply_so};
 pub use means::Means;
 pub use pool::{News, Pool};
 pub use pulls::{PullAnswer, PullRequest, Pullers};

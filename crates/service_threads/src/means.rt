@@ -1,4 +1,6 @@
 //! The threads that rounds are made with, and what these share with the gates.
+ghost use Rattle.std.specs.Prelude.{◌≡◌, IfOk};
+
 use crate::pool::Pool;
 use crate::pulls::Pullers;
 use crate::shared::Shared;
@@ -6,6 +8,7 @@ use crate::terms::Terms;
 use harvest_workers::WalkRules;
 use harvester::SocketRuntime;
 use outgoing_requests::Patience;
+use part_gates::NamesBase;
 use service_settings::Settings;
 use std::alloc::{AllocError, Global};
 use std::hash::RandomState;
@@ -14,10 +17,10 @@ use std::thread::Threads;
 
 /// The threads that rounds are made with, and what these share with the gates.
 #[derive(Drop)]
-pub struct Means<P: WalkRules> {
+pub struct Means<P: WalkRules + NamesBase> {
     pub pool: Pool<P>,
     pub pullers: Pullers,
-    pub shared: Shared,
+    pub shared: Shared<P>,
 }
 
 /// How many peers are pulled in threads of their own.
@@ -29,13 +32,15 @@ fn peers_pulled(settings: &Settings) -> usize {
     }
 }
 
-impl<P: WalkRules> Means<P> {
+impl<P: WalkRules + NamesBase> Means<P> {
     /// Room for the threads that these settings ask for, of which none is started. Hashes have these keys.
     pub fn new(
         alloc: Global,
         settings: &Settings,
         keys: Option<RandomState>,
-    ) -> Result<Means<P>, AllocError> {
+    ) -> Result<Means<P>, AllocError>
+        ensures keys { IfOk result (λ means. means.shared.keys ≡ keys) }
+    {
         Ok(Means {
             pool: Pool::new(alloc, settings.threads.count)?,
             pullers: Pullers::new(alloc, peers_pulled(settings))?,
@@ -54,7 +59,7 @@ impl<P: WalkRules> Means<P> {
     }
 }
 
-impl<P: WalkRules + Send + Sync + 'static> Means<P> {
+impl<P: WalkRules + NamesBase + Send + Sync + 'static> Means<P> {
     /// Starts the threads, as far as that is possible.
     pub fn start<R>(&mut self, rt: &R, terms: &Terms<P>)
     where

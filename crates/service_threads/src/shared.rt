@@ -1,8 +1,10 @@
 //! What the thread of the rounds shares with the gates.
+ghost use Rattle.std.specs.Prelude.{◌≡◌, IfOk};
+
 use crate::slots::slots_of;
 use crate::telling::Telling;
 use hyper_edge::Readiness;
-use part_gates::PartGate;
+use part_gates::{NamesBase, PartGate};
 use round_values::DEFAULT_AGAIN;
 use service_settings::Settings;
 use std::alloc::{AllocError, Global};
@@ -13,7 +15,7 @@ use wishing_gates::WishBook;
 
 /// What the thread of the rounds shares with the gates.
 #[derive(Drop)]
-pub struct Shared {
+pub struct Shared<B: NamesBase> {
     /// By it gates are ready.
     pub readiness: Readiness,
     /// What readers wish for.
@@ -23,7 +25,7 @@ pub struct Shared {
     /// The secret keys of hashes, where sets of originals are made.
     pub keys: Option<RandomState>,
     /// Where each gate's thread is handed another gate, in the order of the gates.
-    pub slots: Vec<GateSlot<PartGate>>,
+    pub slots: Vec<GateSlot<PartGate<B>>>,
 }
 
 /// The book of wishes that these settings ask for. Hashes have these keys.
@@ -43,13 +45,15 @@ fn book_of(
     WishBook::open(alloc, limits, keys).map_err(|_| AllocError)
 }
 
-impl Shared {
+impl<B: NamesBase> Shared<B> {
     /// What these settings ask for. Hashes have these keys.
     pub(crate) fn new(
         alloc: Global,
         settings: &Settings,
         keys: Option<RandomState>,
-    ) -> Result<Shared, AllocError> {
+    ) -> Result<Shared<B>, AllocError>
+        ensures keys { IfOk result (λ shared. shared.keys ≡ keys) }
+    {
         let Ok(readiness) = Readiness::new(alloc) else {
             return Err(AllocError);
         };

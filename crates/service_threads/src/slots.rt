@@ -2,7 +2,7 @@
 ghost use Rattle.std.specs.Prelude.{◌≡◌, ◌||◌, is_some};
 
 use memento_time::NoMemory;
-use part_gates::PartGate;
+use part_gates::{NamesBase, PartGate};
 use service_settings::Settings;
 use std::alloc::Global;
 use switching_gates::GateSlot;
@@ -15,10 +15,10 @@ pub fn forgets(settings: &Settings) -> bool
 }
 
 /// A place for another gate, for each gate of these settings. Where nothing is forgotten nothing is left in it.
-pub(crate) fn slots_of(
+pub(crate) fn slots_of<B: NamesBase>(
     alloc: Global,
     settings: &Settings,
-) -> Result<Vec<GateSlot<PartGate>>, NoMemory> {
+) -> Result<Vec<GateSlot<PartGate<B>>>, NoMemory> {
     let mut slots = Vec::with_capacity(alloc, settings.gates.len())?;
     for _ in &settings.gates {
         let slot = if forgets(settings) {

@@ -1,9 +1,8 @@
 //! What the jobs of a service are, and how they are walked.
-ghost use Rattle.std.specs.Prelude.{◌≡◌, IfOk, IfSome, slice_get};
-ghost use Rattle.std.specs.Option.{option_and_then};
+ghost use Rattle.std.specs.Prelude.{◌≡◌, IfOk, IfSome, option_map};
 ghost use Rattle.std.specs.Arc.{arc_value};
 ghost use Rattle.harvest_workers.specs.Errands.{archive_of};
-ghost use Rattle.service_threads.specs.Jobs.{Covers};
+ghost use Rattle.service_threads.specs.Jobs.{AreLimitsAt, Covers};
 
 use crate::jobs::job_at;
 use harvest_schedule::Permit;
@@ -29,10 +28,7 @@ pub struct Terms<P: WalkRules> {
 
 /// Within what the archive at this place of the settings is walked.
 fn limits_at(settings: &Settings, archive: usize) -> FetchLimits
-    ensures walk { result.walk ≡ settings.now.asking.walk }
-    ensures rate { result.rate ≡ settings.now.asking.rate }
-    ensures every { result.every
-        ≡ option_and_then (λ archive. archive.every) (slice_get settings.now.archives.items archive) }
+    ensures { AreLimitsAt settings.now archive result }
 {
     FetchLimits {
         walk: settings.asking.walk,
@@ -101,18 +97,31 @@ impl<P: WalkRules> Terms<P> {
         Some(Assignment::new(permit, errand, job))
     }
 
+    /// How the jobs of the archive at this place are fetched.
+    fn fetch_at(&self, archive: usize) -> CarefulFetch<'_>
+        ensures patience { result.patience.seconds ≡ (arc_value self.now.settings).patience }
+        ensures limits { AreLimitsAt (arc_value self.now.settings) archive result.limits }
+        ensures hosts { option_map (λ hosts. hosts.now) result.hosts
+            ≡ option_map (λ hosts. hosts.items) (arc_value self.now.settings).hosts }
+        ensures agent { option_map (λ agent. agent.now) result.agent ≡ (arc_value self.now.settings).agent }
+    {
+        let settings = self.settings();
+        CarefulFetch {
+            patience: Patience::of_seconds(settings.patience),
+            hosts: settings.hosts.as_deref(),
+            limits: limits_at(settings, archive),
+            agent: settings.agent.as_ref(),
+        }
+    }
+
     /// Walks a job that was handed out.
     pub fn walk<R>(&self, rt: &R, assignment: Assignment<P>) -> WalkReport<P>
     where
         R: SocketRuntime,
+        ensures errand { result.errand ≡ assignment.errand }
+        ensures job { result.job ≡ assignment.job }
     {
-        let settings = self.settings();
-        let fetch = CarefulFetch {
-            patience: Patience::of_seconds(settings.patience),
-            hosts: settings.hosts.as_deref(),
-            limits: limits_at(settings, assignment.errand().archive()),
-            agent: settings.agent.as_ref(),
-        };
+        let fetch = self.fetch_at(assignment.errand().archive());
         let fetch: RuledFetch<CarefulFetch<'_>, P> = RuledFetch::new(fetch);
         walk_assignment(rt, &fetch, assignment, second_now(rt).0)
     }

@@ -1,5 +1,5 @@
 //! Gates that go on with another gate.
-ghost use Rattle.std.specs.Prelude.{◌≡◌, IfOk, IfSome};
+ghost use Rattle.std.specs.Prelude.{◌≡◌, IfOk, IfSome, None, false};
 
 use crate::slots::GateSlot;
 use gate_server::Answers;
@@ -24,14 +24,21 @@ impl<G: Answers, R: Wait + Drop> SwitchingGate<G, R> {
     }
 
     /// Takes the newest gate, if one was left. Doesn't wait.
-    fn go_on(&mut self) {
+    fn go_on(&mut self)
+        ensures slot { self.new.slot ≡ self.old.slot }
+        ensures closed { self.old.slot.shared ≡ None → self.new.gate ≡ self.old.gate }
+    {
         if let Some(next) = self.slot.newest() {
             self.gate = next;
         }
     }
 
     /// Takes the gate that is being left, if there is one. Returns whether there was one.
-    fn go_on_at_last(&mut self) -> bool {
+    fn go_on_at_last(&mut self) -> bool
+        ensures slot { self.new.slot ≡ self.old.slot }
+        ensures closed { self.old.slot.shared ≡ None → result ≡ false }
+        ensures same { result ≡ false → self.new ≡ self.old }
+    {
         match self.slot.awaited(&self.rt) {
             Some(next) => {
                 self.gate = next;
@@ -43,7 +50,11 @@ impl<G: Answers, R: Wait + Drop> SwitchingGate<G, R> {
 }
 
 impl<G: Answers, R: Wait + Drop> Answers for SwitchingGate<G, R> {
-    ghost replies = { G.replies };
+    ghost use Rattle.switching_gates.specs.Switching.{Switches, goes_on_switching, stays_without_switching};
+
+    ghost shows = { λ it. G.shows it.gate };
+
+    ghost follows = { λ it next. Switches G.follows it.slot.shared it.gate next.slot.shared next.gate };
 
     ghost may_close = { G.may_close };
 
@@ -78,4 +89,9 @@ impl<G: Answers, R: Wait + Drop> Answers for SwitchingGate<G, R> {
             answered => answered,
         }
     }
+
+    ghost stays = { λ it. stays_without_switching G.follows G.stays it.slot.shared it.gate };
+
+    ghost goes_on = { λ it next last. goes_on_switching G.follows G.goes_on it.slot.shared it.gate next.slot.shared
+        next.gate last.slot.shared last.gate };
 }

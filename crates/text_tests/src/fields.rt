@@ -1,68 +1,85 @@
 //! The fields and the decimals of a text's lines (`text_fields`).
+use crate::tables::{are_same, halves, hold, is, number};
+use std::alloc::Global;
 use std::test::Fail;
 use text_fields::{
     decimals_are_read_back, leading_decimal, next_field, next_line, parts_are_read_back,
     read_decimal, split_once, write_decimal,
 };
 
-/// The greatest number, `u64::MAX`.
-const MOST: &[u8] = b"18446744073709551615";
+/// Texts, and the number that each is.
+const DECIMALS: &str = "0|0
+18446744073709551615|18446744073709551615
+18446744073709551616|none
+|none
+007|none
++7|none
+7 |none
+";
+
+fn is_decimal(_: Global, case: &str) -> Result<bool, Fail> {
+    let (text, wanted) = halves(case)?;
+    Ok(read_decimal(text.as_bytes()) == number(wanted)?)
+}
 
 #[test]
-fn decimals(rt: HostRuntime) {
+fn decimals(rt: HostRuntime) -> Result<(), Fail> {
     decimals_are_read_back();
-    assert!(rt; read_decimal(b"0") == Some(0) && read_decimal(MOST) == Some(u64::MAX));
-    for text in [
-        b"18446744073709551616".as_slice(),
-        b"",
-        b"007",
-        b"+7",
-        b"7 ",
-    ] {
-        assert!(rt; read_decimal(text).is_none());
-    }
+    hold(&rt, DECIMALS, is_decimal)
 }
 
 /// Each is written behind what stands there.
 #[test]
 fn written_decimals(rt: HostRuntime) -> Result<(), Fail> {
     let mut out = Vec::new(rt.alloc());
-    for number in [0, u64::MAX] {
-        write_decimal(&mut out, number)?;
-    }
-    assert!(rt; out.strip_prefix(b"0".as_slice()) == Some(MOST));
+    write_decimal(&mut out, 0)?;
+    write_decimal(&mut out, u64::MAX)?;
+    assert!(rt; is(&out, "018446744073709551615"));
     Ok(())
 }
 
+/// Texts, the number that each begins with, and what follows the number.
+const FRONTS: &str = "0:7|0|:7
+1262304000 x|1262304000| x
+9999999999999999999|9999999999999999999|
+18446744073709551615/|18446744073709551615|/
+18446744073709551616|none|
+100000000000000000000 |none|
+00000000000000000000001|none|
+007|none|
+:7|none|
+|none|
+";
+
+fn is_front(_: Global, case: &str) -> Result<bool, Fail> {
+    let (text, answer) = halves(case)?;
+    let (front, wanted) = halves(answer)?;
+    Ok(match leading_decimal(text.as_bytes()) {
+        Some((found, rest)) => Some(found) == number(front)? && is(rest, wanted),
+        None => number(front)?.is_none(),
+    })
+}
+
 #[test]
-fn leading_decimals(rt: HostRuntime) {
-    for (text, number, rest) in [
-        (b"0:7".as_slice(), 0, b":7".as_slice()),
-        (b"1262304000 x", 1_262_304_000, b" x"),
-        (b"9999999999999999999", 9_999_999_999_999_999_999, b""),
-        (b"18446744073709551615/", u64::MAX, b"/"),
-    ] {
-        assert!(rt; leading_decimal(text) == Some((number, rest)), "{number}");
-    }
-    for text in [
-        b"18446744073709551616".as_slice(),
-        b"100000000000000000000 ",
-        b"00000000000000000000001",
-        b"007",
-        b":7",
-        b"",
-    ] {
-        assert!(rt; leading_decimal(text).is_none());
+fn leading_decimals(rt: HostRuntime) -> Result<(), Fail> {
+    hold(&rt, FRONTS, is_front)
+}
+
+/// Whether a text was parted into these.
+fn are(parts: Option<(&[u8], &[u8])>, first: &[u8], rest: &[u8]) -> bool {
+    match parts {
+        Some(parts) => are_same(parts.0, first) && are_same(parts.1, rest),
+        None => false,
     }
 }
 
 #[test]
 fn parts(rt: HostRuntime) {
     parts_are_read_back();
-    assert!(rt; next_field(b"a 1  x") == Some((b"a".as_slice(), b"1  x".as_slice())));
-    assert!(rt; next_field(b" x") == Some((b"".as_slice(), b"x".as_slice())));
+    assert!(rt; are(next_field(b"a 1  x"), b"a", b"1  x"));
+    assert!(rt; are(next_field(b" x"), b"", b"x"));
     assert!(rt; next_field(b"a\n").is_none());
-    assert!(rt; next_line(b"a\r\n\nb") == Some((b"a\r".as_slice(), b"\nb".as_slice())));
+    assert!(rt; are(next_line(b"a\r\n\nb"), b"a\r", b"\nb"));
     assert!(rt; next_line(b"a").is_none());
-    assert!(rt; split_once(b"a:b", b':') == Some((b"a".as_slice(), b"b".as_slice())));
+    assert!(rt; are(split_once(b"a:b", b':'), b"a", b"b"));
 }

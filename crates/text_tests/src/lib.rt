@@ -14,6 +14,8 @@ mod moments;
 #[cfg(test)]
 mod pages;
 #[cfg(test)]
+mod tables;
+#[cfg(test)]
 mod timemaps;
 #[cfg(test)]
 mod urls;

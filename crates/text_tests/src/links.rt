@@ -1,84 +1,74 @@
 //! Link-format (RFC 6690, section 2), read and written (`link_format`).
+use crate::tables::{are_same, expanded, halves, hold, is, number};
 use link_format::{
-    LinkFault, LinkReader, is_name, is_target, is_value, read_links, write_param, write_target,
+    LinkReader, is_name, is_target, is_value, read_links, write_param, write_target,
 };
+use std::alloc::Global;
 use std::borrow::CowSlice;
 use std::test::Fail;
 
-fn fault_of(rt: &HostRuntime, text: &[u8]) -> Option<LinkFault> {
-    read_links(rt.alloc(), text).err()
-}
+/// Texts, and how many links each has, or why it is refused. Each place was counted by hand: that of the first byte
+/// with which no link-format can begin, or the text's end where only more bytes are missing.
+const TEXTS: &str = "|0 links
+,,|0 links
+,,<a>;;,|1 links
+<a>,<b>|2 links
+x|not link-format, at byte 0
+ \t x|not link-format, at byte 3
+<http://a|not link-format, at byte 9
+<a> <b>|not link-format, at byte 4
+<a>,;|not link-format, at byte 4
+<a\tb>|not link-format, at byte 2
+<0123456789abcdef\x7F>|not link-format, at byte 17
+<a>, <b|not link-format, at byte 7
+<a>;=x|not link-format, at byte 4
+<a>;x y|not link-format, at byte 6
+<a>;x=|not link-format, at byte 6
+<a>;x= ,<b>|not link-format, at byte 7
+<a>;x=b, c|not link-format, at byte 9
+<a>;x=b;;\x0C|not link-format, at byte 9
+<a>;x=\"b\"c|not link-format, at byte 9
+<a>;x=\"b\x00\"|not link-format, at byte 8
+<a>;x=\"0123456789abcdef\x7F\"|not link-format, at byte 23
+<a>;x=\"\\\x7F\"|not link-format, at byte 8
+<a>;x=\"\\\"|not link-format, at byte 9
+<a>;rel=\"memento\";datetime=\"d|not link-format, at byte 29
+<a>;rel=memento;datetime=\"\x7F|not link-format, at byte 26
+";
 
-fn count_of(rt: &HostRuntime, text: &[u8]) -> Option<usize> {
-    read_links(rt.alloc(), text).ok().map(|links| links.len())
-}
+/// The limits of a text, each kept and passed. What follows the most links is reported with its place.
+const LIMITS: &str = "<a>{;x=y*32} |1 links
+<a>{;x=y*33} |a link with more than 32 parameters
+<{a*8192}>|1 links
+<{a*8193}>|a target of more than 8,192 bytes
+<>{,<>*199999}|200000 links
+<>{,<>*200000}|more than 200,000 links
+<>{,<>*200000}x|not link-format, at byte 600002
+{,*1000000}|0 links
+";
 
-/// Whether a value is there, and says this.
-fn is_value_of(value: Option<Vec<u8>>, wanted: &[u8]) -> bool {
-    match value {
-        Some(value) => value.as_slice() == wanted,
-        None => false,
+/// How many links a text has, or why it is refused.
+fn told(alloc: Global, text: &[u8]) -> Result<String, Fail> {
+    match read_links(alloc, text) {
+        Ok(links) => Ok(format!(in alloc; "{} links", links.len())?),
+        Err(fault) => Ok(format!(in alloc; "{fault}")?),
     }
 }
 
-/// `front`, then `piece` `times` times.
-fn repeated(rt: &HostRuntime, front: &[u8], piece: &[u8], times: usize) -> Result<Vec<u8>, Fail> {
-    let mut text = Vec::from_slice(rt.alloc(), front)?;
-    for _ in 0..times {
-        text.extend_from_slice(piece)?;
-    }
-    Ok(text)
-}
-
-/// Each place was counted by hand: that of the first byte with which no link-format can begin, or the text's end where
-/// only more bytes are missing.
-const PLACES: [(&[u8], usize); 21] = [
-    (b"x", 0),
-    (b" \t x", 3),
-    (b"<http://a", 9),
-    (b"<a> <b>", 4),
-    (b"<a>,;", 4),
-    (b"<a\tb>", 2),
-    (b"<0123456789abcdef\x7F>", 17),
-    (b"<a>, <b", 7),
-    (b"<a>;=x", 4),
-    (b"<a>;x y", 6),
-    (b"<a>;x=", 6),
-    (b"<a>;x= ,<b>", 7),
-    (b"<a>;x=b, c", 9),
-    (b"<a>;x=b;;\x0C", 9),
-    (b"<a>;x=\"b\"c", 9),
-    (b"<a>;x=\"b\x00\"", 8),
-    (b"<a>;x=\"0123456789abcdef\x7F\"", 23),
-    (b"<a>;x=\"\\\x7F\"", 8),
-    (b"<a>;x=\"\\\"", 9),
-    (b"<a>;rel=\"memento\";datetime=\"d", 29),
-    (b"<a>;rel=memento;datetime=\"\x7F", 26),
-];
-
-#[test]
-fn says_where_reading_stopped(rt: HostRuntime) -> Result<(), Fail> {
-    for (text, at) in PLACES {
-        assert!(rt;
-            fault_of(&rt, text) == Some(LinkFault::NotLinkFormat { at }),
-            "{at}"
-        );
-    }
-    let text = format!(in rt.alloc(); "{}", LinkFault::NotLinkFormat { at: 9 })?;
-    assert!(rt; text.as_str() == "not link-format, at byte 9");
-    Ok(())
+fn is_told(alloc: Global, case: &str) -> Result<bool, Fail> {
+    let (text, wanted) = halves(case)?;
+    let told = told(alloc, &expanded(alloc, text)?)?;
+    Ok(is(told.as_bytes(), wanted))
 }
 
 #[test]
-fn counts_links(rt: HostRuntime) {
-    for (text, count) in [
-        (b"".as_slice(), 0),
-        (b",,", 0),
-        (b",,<a>;;,", 1),
-        (b"<a>,<b>", 2),
-    ] {
-        assert!(rt; count_of(&rt, text) == Some(count), "{count}");
-    }
+fn reads_texts_or_says_why_not(rt: HostRuntime) -> Result<(), Fail> {
+    hold(&rt, TEXTS, is_told)
+}
+
+#[test]
+fn keeps_the_limits(rt: HostRuntime) -> Result<(), Fail> {
+    hold(&rt, LIMITS, is_told)
 }
 
 /// attr-char and `*` (RFC 6690, section 2, and RFC 5987, section 3.2.1).
@@ -110,7 +100,7 @@ fn is_between(byte: u8) -> bool {
 }
 
 fn is_read(rt: &HostRuntime, text: &[u8]) -> bool {
-    fault_of(rt, text).is_none()
+    read_links(rt.alloc(), text).is_ok()
 }
 
 #[test]
@@ -130,238 +120,172 @@ fn knows_the_bytes(rt: HostRuntime) {
     }
 }
 
-/// Two links, of which the second has three parameters.
-const TWO_LINKS: &[u8] = b",,<a>;;, <b\xC3\xA9> ; REL = x;rel=y; bare";
+/// Texts, how many links each has, the place of a link, its target, how many parameters it has, and the last one's
+/// name.
+const OUTLINES: &str = ",,<a>;;, <b\u{E9}> ; REL = x;rel=y; bare|2|0|a|0|
+,,<a>;;, <b\u{E9}> ; REL = x;rel=y; bare|2|1|b\u{E9}|3|bare
+";
 
-const ACCENTED: &[u8] = b"b\xC3\xA9";
+fn is_outline(alloc: Global, case: &str) -> Result<bool, Fail> {
+    let (text, rest) = halves(case)?;
+    let (links, rest) = halves(rest)?;
+    let (place, rest) = halves(rest)?;
+    let (target, rest) = halves(rest)?;
+    let (params, last) = halves(rest)?;
+    let (count, place) = (number(links)?, number(place)?);
+    let links = read_links(alloc, text.as_bytes())?;
+    let place = usize::try_from(place.unwrap_or(0))?;
+    if count != Some(links.len() as u64) || place >= links.len() {
+        return Ok(false);
+    }
+    let count = links.params(place);
+    Ok(
+        number(params)? == Some(count as u64)
+            && is(links.target(place), target)
+            && is(links.link(place).target(), target)
+            && (count == 0 || is(links.name(place, count - 1), last)),
+    )
+}
+
+/// Texts, the place of a link and the name of a parameter, how its value is got, and the value. A value without escapes
+/// is lent from the text, and takes no memory; a parameter without a value has an empty one.
+const VALUES: &str = ",,<a>;;, <b> ; REL = x;rel=y; bare|1|rel|lent|x
+,,<a>;;, <b> ; REL = x;rel=y; bare|1|Bare|lent|
+,,<a>;;, <b> ; REL = x;rel=y; bare|1|type|none|
+<a>;x=\"b c\";y=\"b\\ \\\"c\"|0|x|lent|b c
+<a>;x=\"b c\";y=\"b\\ \\\"c\"|0|Y|copied|b \"c
+<a>;x=\"b c\";y=\"b\\ \\\"c\"|0|y|copied|b \"c
+<x>; t=\"a\\\"b\\\\c\"|0|t|copied|a\"b\\c
+";
+
+/// Whether a value is got in this way, and is this.
+fn is_got(value: Option<CowSlice<'_, u8>>, how: &str, wanted: &str) -> bool {
+    match value {
+        Some(CowSlice::Borrowed(value)) => is(b"lent", how) && is(value, wanted),
+        Some(CowSlice::Owned(value)) => is(b"copied", how) && is(&value, wanted),
+        None => is(b"none", how),
+    }
+}
+
+/// Whether there is a value if this says how it is got, and it is this one.
+fn is_owned(value: Option<Vec<u8>>, how: &str, wanted: &str) -> bool {
+    match value {
+        Some(value) => !is(b"none", how) && is(&value, wanted),
+        None => is(b"none", how),
+    }
+}
+
+fn is_value_got(alloc: Global, case: &str) -> Result<bool, Fail> {
+    let (text, rest) = halves(case)?;
+    let (place, rest) = halves(rest)?;
+    let (name, rest) = halves(rest)?;
+    let (how, wanted) = halves(rest)?;
+    let links = read_links(alloc, text.as_bytes())?;
+    let place = usize::try_from(number(place)?.unwrap_or(0))?;
+    if place >= links.len() {
+        return Ok(false);
+    }
+    let link = links.link(place);
+    Ok(
+        is_got(link.value_ref(name.as_bytes())?, how, wanted)
+            && is_owned(link.value(name.as_bytes())?, how, wanted)
+            && is_owned(links.value(place, name.as_bytes())?, how, wanted),
+    )
+}
 
 #[test]
 fn reads_the_parts_of_a_link(rt: HostRuntime) -> Result<(), Fail> {
-    let links = read_links(rt.alloc(), TWO_LINKS)?;
-    assert!(rt; links.len() == 2);
-    assert!(rt; links.params(0) == 0 && links.params(1) == 3);
-    assert!(rt; links.target(1) == ACCENTED && links.name(1, 2) == b"bare".as_slice());
-    assert!(rt; is_value_of(links.value(1, b"rel")?, b"x"));
-    assert!(rt; links.link(1).target() == ACCENTED);
-    Ok(())
+    hold(&rt, OUTLINES, is_outline)?;
+    hold(&rt, VALUES, is_value_got)
 }
 
-/// A parameter without a value has an empty one, whatever the case of its name, and one that isn't there has none.
-#[test]
-fn reads_bare_parameters(rt: HostRuntime) -> Result<(), Fail> {
-    let links = read_links(rt.alloc(), TWO_LINKS)?;
-    assert!(rt; links.len() == 2);
-    let link = links.link(1);
-    let is_bare = match link.value_ref(b"Bare")? {
-        Some(value) => value.len() == 0,
-        None => false,
-    };
-    assert!(rt; is_bare && link.value(b"type")?.is_none());
-    Ok(())
+/// Texts, and the targets that a reader reads in them one after the other, and what it says then, twice. A link that
+/// passes a limit is where reading ends; the fault is the first of the whole text.
+const READINGS: &str = "<a>;b, ,<c>,|ac; the end; the end
+<a>,<b|a; not link-format, at byte 6; not link-format, at byte 6
+<a>,<b>{;x*33}|a; a link with more than 32 parameters; a link with more than 32 parameters
+<a>,<b>{;x*33},<|a; not link-format, at byte 75; not link-format, at byte 75
+<a>{,<a>*199999}|{a*200000}; the end; the end
+<a>{,<a>*200000}|{a*200000}; more than 200,000 links; more than 200,000 links
+";
+
+/// What the next link of a text is: its target, or why there is none.
+fn next(alloc: Global, links: &mut LinkReader<'_>, told: &mut Vec<u8>) -> Result<bool, Fail> {
+    match links.read() {
+        Ok(Some(link)) => {
+            told.extend_from_slice(link.target())?;
+            Ok(true)
+        }
+        Ok(None) => {
+            told.extend_from_slice(b"; the end")?;
+            Ok(false)
+        }
+        Err(fault) => {
+            told.extend_from_slice(format!(in alloc; "; {fault}")?.as_bytes())?;
+            Ok(false)
+        }
+    }
 }
 
-fn next_target<'a>(links: &mut LinkReader<'a>) -> Result<Option<&'a [u8]>, LinkFault> {
-    Ok(links.read()?.map(|link| link.target()))
+fn is_reading(alloc: Global, case: &str) -> Result<bool, Fail> {
+    let (text, wanted) = halves(case)?;
+    let text = expanded(alloc, text)?;
+    let mut links = LinkReader::new(alloc, &text);
+    let mut told = Vec::new(alloc);
+    for _ in 0..=text.len() {
+        if !next(alloc, &mut links, &mut told)? {
+            break;
+        }
+    }
+    let _ = next(alloc, &mut links, &mut told)?;
+    Ok(are_same(&told, &expanded(alloc, wanted)?))
 }
 
 #[test]
 fn reads_one_link_after_another(rt: HostRuntime) -> Result<(), Fail> {
-    let mut links = LinkReader::new(rt.alloc(), b"<a>;b, ,<c>,");
-    for target in [Some(b"a".as_slice()), Some(b"c"), None, None] {
-        assert!(rt; next_target(&mut links)? == target);
+    hold(&rt, READINGS, is_reading)
+}
+
+/// The parameters of a link, how many there are, and how the first values of `rel` and `datetime` are got, each with
+/// the value; however they are written: most links of TimeMaps have those of the first text.
+const ROLES: &str = "; rel=\"memento\"; datetime=\"d\"|2|lent|memento|lent|d
+; rel=\"memento\"; datetime=\"d\"; rel=x; datetime=e; t=u,|5|lent|memento|lent|d
+; rel=\"memento\"; datetime=\"\\d\";x|3|lent|memento|copied|d
+;rel=memento ;\tdatetime=\"d\"|2|lent|memento|lent|d
+;rel=mementos;datetime=\"d\"|2|lent|mementos|lent|d
+;REL=memento ;; Datetime = d|2|lent|memento|lent|d
+; rel=\"memento\"; until=\"d\"|2|lent|memento|none|
+; datetime=\"d\"|1|none||lent|d
+";
+
+fn is_role(alloc: Global, case: &str) -> Result<bool, Fail> {
+    let (params, rest) = halves(case)?;
+    let (count, rest) = halves(rest)?;
+    let (how_rel, rest) = halves(rest)?;
+    let (rel, rest) = halves(rest)?;
+    let (how_datetime, datetime) = halves(rest)?;
+    let mut text = Vec::from_slice(alloc, b"<a>")?;
+    text.extend_from_slice(params.as_bytes())?;
+    let links = read_links(alloc, &text)?;
+    if links.len() != 1 || number(count)? != Some(links.params(0) as u64) {
+        return Ok(false);
     }
-    Ok(())
-}
-
-/// A fault is told again and again.
-#[test]
-fn reads_no_further_than_a_fault(rt: HostRuntime) -> Result<(), Fail> {
-    let mut links = LinkReader::new(rt.alloc(), b"<a>,<b");
-    assert!(rt; next_target(&mut links)? == Some(b"a".as_slice()));
-    let unfinished = Some(LinkFault::NotLinkFormat { at: 6 });
-    for _ in 0..2 {
-        assert!(rt; links.read().err() == unfinished);
-    }
-    Ok(())
-}
-
-/// The fault that a reader of the text tells, and how many links it reads before.
-fn last_fault(rt: &HostRuntime, text: &[u8]) -> (usize, Option<LinkFault>) {
-    let mut links = LinkReader::new(rt.alloc(), text);
-    for count in 0..=200_000 {
-        match links.read() {
-            Ok(Some(_)) => {}
-            Ok(None) => return (count, None),
-            Err(fault) => return (count, Some(fault)),
-        }
-    }
-    (200_001, None)
-}
-
-/// A link that passes a limit is where reading ends; the fault is the first of the whole text.
-#[test]
-fn a_reader_tells_the_first_fault(rt: HostRuntime) -> Result<(), Fail> {
-    let mut text = repeated(&rt, b"<a>,<b>", b";x", 33)?;
-    assert!(rt; last_fault(&rt, &text) == (1, Some(LinkFault::TooManyParams)));
-    text.extend_from_slice(b",<")?;
-    let unfinished = LinkFault::NotLinkFormat { at: text.len() };
-    assert!(rt; last_fault(&rt, &text) == (1, Some(unfinished)));
-    Ok(())
-}
-
-#[test]
-fn a_reader_tells_of_too_many_links(rt: HostRuntime) -> Result<(), Fail> {
-    for (times, fault) in [(199_999, None), (200_000, Some(LinkFault::TooManyLinks))] {
-        let text = repeated(&rt, b"<a>", b",<a>", times)?;
-        assert!(rt; last_fault(&rt, &text) == (200_000, fault));
-    }
-    Ok(())
-}
-
-/// A limit of a text: `front`, `piece` so often, and `end`; what reading one piece more says.
-#[derive(Clone, Copy)]
-struct Limit {
-    front: &'static [u8],
-    piece: &'static [u8],
-    times: usize,
-    end: &'static [u8],
-    fault: LinkFault,
-}
-
-const LIMITS: [Limit; 3] = [
-    Limit {
-        front: b"<a>",
-        piece: b";x=y",
-        times: 32,
-        end: b" ",
-        fault: LinkFault::TooManyParams,
-    },
-    Limit {
-        front: b"<",
-        piece: b"a",
-        times: 8_192,
-        end: b">",
-        fault: LinkFault::TargetTooLong,
-    },
-    Limit {
-        front: b"<>",
-        piece: b",<>",
-        times: 199_999,
-        end: b"",
-        fault: LinkFault::TooManyLinks,
-    },
-];
-
-/// What reading a text of so many pieces says.
-fn fault_at(rt: &HostRuntime, limit: Limit, times: usize) -> Result<Option<LinkFault>, Fail> {
-    let mut text = repeated(rt, limit.front, limit.piece, times)?;
-    text.extend_from_slice(limit.end)?;
-    Ok(fault_of(rt, &text))
-}
-
-#[test]
-fn keeps_the_limits(rt: HostRuntime) -> Result<(), Fail> {
-    for limit in LIMITS {
-        assert!(rt; fault_at(&rt, limit, limit.times)?.is_none());
-        assert!(rt; fault_at(&rt, limit, limit.times.saturating_add(1))? == Some(limit.fault));
-    }
-    Ok(())
-}
-
-/// What follows the most links is reported with its place.
-#[test]
-fn reads_behind_the_most_links(rt: HostRuntime) -> Result<(), Fail> {
-    let mut links = repeated(&rt, b"<>", b",<>", 199_999)?;
-    assert!(rt; count_of(&rt, &links) == Some(200_000));
-    links.extend_from_slice(b",<>x")?;
-    assert!(rt; fault_of(&rt, &links) == Some(LinkFault::NotLinkFormat { at: 600_002 }));
-    Ok(())
-}
-
-#[test]
-fn commas_are_no_links(rt: HostRuntime) -> Result<(), Fail> {
-    let commas = repeated(&rt, b"", b",", 1_000_000)?;
-    assert!(rt; count_of(&rt, &commas) == Some(0));
-    Ok(())
-}
-
-/// The parameters of a link, how many there are, and the first values of `rel` and `datetime`; however they are
-/// written: most links of TimeMaps have those of the first text.
-const ROLES: [(&[u8], usize, &[u8], &[u8]); 8] = [
-    (b"; rel=\"memento\"; datetime=\"d\"", 2, b"memento", b"d"),
-    (
-        b"; rel=\"memento\"; datetime=\"d\"; rel=x; datetime=e; t=u,",
-        5,
-        b"memento",
-        b"d",
-    ),
-    (
-        b"; rel=\"memento\"; datetime=\"\\d\";x",
-        3,
-        b"memento",
-        b"d",
-    ),
-    (b";rel=memento ;\tdatetime=\"d\"", 2, b"memento", b"d"),
-    (b";rel=mementos;datetime=\"d\"", 2, b"mementos", b"d"),
-    (b";REL=memento ;; Datetime = d", 2, b"memento", b"d"),
-    (b"; rel=\"memento\"; until=\"d\"", 2, b"memento", b""),
-    (b"; datetime=\"d\"", 1, b"", b"d"),
-];
-
-/// Whether the value says this; one that is empty here isn't there.
-fn says(value: &Option<CowSlice<'_, u8>>, wanted: &[u8]) -> bool {
-    match value {
-        Some(value) => {
-            let value: &[u8] = value;
-            value == wanted && !wanted.is_empty()
-        }
-        None => wanted.is_empty(),
-    }
+    let found = links.link(0).rel_and_datetime()?;
+    Ok(is_got(found.0, how_rel, rel) && is_got(found.1, how_datetime, datetime))
 }
 
 #[test]
 fn reads_rel_and_datetime(rt: HostRuntime) -> Result<(), Fail> {
-    for (params, count, rel, datetime) in ROLES {
-        let mut text = Vec::from_slice(rt.alloc(), b"<a>")?;
-        text.extend_from_slice(params)?;
-        let links = read_links(rt.alloc(), &text)?;
-        assert!(rt; links.len() == 1);
-        assert!(rt; links.params(0) == count);
-        let found = links.link(0).rel_and_datetime()?;
-        assert!(rt; says(&found.0, rel) && says(&found.1, datetime));
-    }
-    Ok(())
+    hold(&rt, ROLES, is_role)
 }
 
-/// A value without escapes is lent from the text, and takes no memory.
+/// What is read back of it, `VALUES` says.
 #[test]
-fn copies_only_what_is_escaped(rt: HostRuntime) -> Result<(), Fail> {
-    let links = read_links(rt.alloc(), b"<a>;x=\"b c\";y=\"b\\ \\\"c\"")?;
-    assert!(rt; links.len() == 1);
-    let link = links.link(0);
-    let lent = match link.value_ref(b"x")? {
-        Some(CowSlice::Borrowed(value)) => value == b"b c".as_slice(),
-        _ => false,
-    };
-    assert!(rt; lent);
-    let unescaped = match link.value_ref(b"Y")? {
-        Some(CowSlice::Owned(value)) => value.as_slice() == b"b \"c".as_slice(),
-        _ => false,
-    };
-    assert!(rt; unescaped);
-    assert!(rt; is_value_of(link.value(b"y")?, b"b \"c"));
-    Ok(())
-}
-
-#[test]
-fn reads_back_what_it_writes(rt: HostRuntime) -> Result<(), Fail> {
+fn writes_links(rt: HostRuntime) -> Result<(), Fail> {
     assert!(rt; is_target(b"x") && is_name(b"t") && is_value(b"a\"b\\c"));
     let mut text = Vec::new(rt.alloc());
     write_target(&mut text, b"x")?;
     write_param(&mut text, b"t", b"a\"b\\c")?;
-    assert!(rt; text.as_slice() == b"<x>; t=\"a\\\"b\\\\c\"".as_slice());
-    let links = read_links(rt.alloc(), &text)?;
-    assert!(rt; links.len() == 1);
-    assert!(rt; is_value_of(links.value(0, b"t")?, b"a\"b\\c"));
+    assert!(rt; is(&text, "<x>; t=\"a\\\"b\\\\c\""));
     Ok(())
 }

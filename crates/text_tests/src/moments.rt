@@ -1,137 +1,165 @@
 //! Seconds and dates, clean texts, names of archives, and lists of mementos (`memento_time`).
 use crate::makers::{FIRST_DAY, THIRD_DAY, archive, clean, memento, mementos, moment, original};
+use crate::tables::{expanded, first_case, halves, hold, is, number};
 use memento_time::{
     ArchiveName, Clean, CleanFault, DateReader, DateWriter, Items, Memento, MementosBuilder,
     Moment, Octets, Original, in_order, is_clean,
 };
-use std::alloc::{AllocError, Global};
+use std::alloc::Global;
 use std::sync::Arc;
 use std::test::Fail;
 
-/// Seconds and their IMF-fixdates, as `date -u -d @SECONDS` tells them: days in a row, back and forth, leap days.
-const DATES: [(u64, &str); 11] = [
-    (784_111_777, "Sun, 06 Nov 1994 08:49:37 GMT"),
-    (784_080_000, "Sun, 06 Nov 1994 00:00:00 GMT"),
-    (784_166_399, "Sun, 06 Nov 1994 23:59:59 GMT"),
-    (784_166_400, "Mon, 07 Nov 1994 00:00:00 GMT"),
-    (784_111_777, "Sun, 06 Nov 1994 08:49:37 GMT"),
-    (946_684_800, "Sat, 01 Jan 2000 00:00:00 GMT"),
-    (946_771_200, "Sun, 02 Jan 2000 00:00:00 GMT"),
-    (951_782_400, "Tue, 29 Feb 2000 00:00:00 GMT"),
-    (4_107_542_399, "Sun, 28 Feb 2100 23:59:59 GMT"),
-    (253_402_300_799, "Fri, 31 Dec 9999 23:59:59 GMT"),
-    (0, "Thu, 01 Jan 1970 00:00:00 GMT"),
-];
+/// IMF-fixdates and their seconds, as `date -u -d @SECONDS` tells them: days in a row, back and forth, leap days.
+const DATES: &str = "Sun, 06 Nov 1994 08:49:37 GMT|784111777
+Sun, 06 Nov 1994 00:00:00 GMT|784080000
+Sun, 06 Nov 1994 23:59:59 GMT|784166399
+Mon, 07 Nov 1994 00:00:00 GMT|784166400
+Sun, 06 Nov 1994 08:49:37 GMT|784111777
+Sat, 01 Jan 2000 00:00:00 GMT|946684800
+Sun, 02 Jan 2000 00:00:00 GMT|946771200
+Tue, 29 Feb 2000 00:00:00 GMT|951782400
+Sun, 28 Feb 2100 23:59:59 GMT|4107542399
+Fri, 31 Dec 9999 23:59:59 GMT|253402300799
+Thu, 01 Jan 1970 00:00:00 GMT|0
+";
 
-fn is_date_of(moment: Moment, text: &[u8]) -> bool {
-    moment.to_imf().as_slice() == text
-        && Moment::read_imf(text) == Some(moment)
-        && Moment::read_asked(text) == Some(moment)
+/// The second of a moment.
+fn second_of(moment: Option<Moment>) -> Option<u64> {
+    Some(moment?.secs())
+}
+
+fn is_date(_: Global, case: &str) -> Result<bool, Fail> {
+    let (text, second) = halves(case)?;
+    let second = number(second)?;
+    let moment = moment(second.ok_or("no second")?)?;
+    Ok(
+        is(moment.to_imf().as_slice(), text)
+            && second_of(Moment::read_imf(text.as_bytes())) == second
+            && second_of(Moment::read_asked(text.as_bytes())) == second,
+    )
 }
 
 #[test]
 fn dates(rt: HostRuntime) -> Result<(), Fail> {
-    for (second, text) in DATES {
-        assert!(rt; is_date_of(moment(second)?, text.as_bytes()), "{text}");
-    }
+    hold(&rt, DATES, is_date)?;
     assert!(rt; Moment::from_secs(253_402_300_800).is_none());
     Ok(())
 }
 
+/// One reader and one writer go from date to date.
 #[test]
 fn rows_of_dates(rt: HostRuntime) -> Result<(), Fail> {
     let mut reader = DateReader::new();
     let mut writer = DateWriter::new();
-    for (second, text) in DATES {
-        let moment = moment(second)?;
-        assert!(rt;
-            writer.write(moment).as_slice() == text.as_bytes(),
-            "{text}"
-        );
-        assert!(rt; reader.read(text.as_bytes()) == Some(moment), "{text}");
+    let mut rest = DATES;
+    for _ in 0..DATES.len() {
+        let Some((case, more)) = first_case(rest) else {
+            break;
+        };
+        let (text, second) = halves(case)?;
+        let second = number(second)?;
+        assert!(rt; second_of(reader.read(text.as_bytes())) == second, "{case}");
+        let moment = moment(second.unwrap_or(0))?;
+        assert!(rt; is(writer.write(moment).as_slice(), text), "{case}");
+        rest = more;
     }
+    assert!(rt; rest.is_empty());
     Ok(())
 }
 
-/// A reader that has read a date reads others of the same day as they stand.
+/// Dates, and their seconds: a reader that has read a date reads others of the same day as they stand.
+const ONE_DAY: &str = "Thu, 01 Jan 1970 00:00:00 GMT|0
+Thu, 01 Jan 1970 24:00:00 GMT|none
+Thu, 01 Jan 1970 00:00:00 UTC|none
+Fri, 01 Jan 1970 00:00:01 GMT|1
+|none
+";
+
 #[test]
-fn dates_of_one_day(rt: HostRuntime) {
+fn dates_of_one_day(rt: HostRuntime) -> Result<(), Fail> {
     let mut reader = DateReader::new();
-    let cases = [
-        ("Thu, 01 Jan 1970 00:00:00 GMT", Moment::from_secs(0)),
-        ("Thu, 01 Jan 1970 24:00:00 GMT", None),
-        ("Thu, 01 Jan 1970 00:00:00 UTC", None),
-        ("Fri, 01 Jan 1970 00:00:01 GMT", Moment::from_secs(1)),
-        ("", None),
-    ];
-    for (text, moment) in cases {
-        assert!(rt; reader.read(text.as_bytes()) == moment, "{text}");
+    let mut rest = ONE_DAY;
+    for _ in 0..ONE_DAY.len() {
+        let Some((case, more)) = first_case(rest) else {
+            break;
+        };
+        let (text, second) = halves(case)?;
+        assert!(rt;
+            second_of(reader.read(text.as_bytes())) == number(second)?,
+            "{case}"
+        );
+        rest = more;
     }
+    assert!(rt; rest.is_empty());
+    Ok(())
+}
+
+/// Dates, and the second that each asks for.
+const ASKED: &str = "Mon, 01 Jan 2000 00:00:00 GMT|946684800
+ \tMon, 01 Jan 2000 00:00:00 GMT\t |946684800
+Sat, 01 Jan 2000 00:00:00 GMT\r|none
+Fri, 01 Jan 1960 00:00:00 GMT|0
+Thu, 99 Feb 1960 99:99:99 GMT|0
+Tue, 31 Feb 2000 00:00:00 GMT|none
+Saturday, 01-Jan-00 00:00:00 GMT|none
+Sat Jan  1 00:00:00 2000|none
+sat, 01 Jan 2000 00:00:00 GMT|none
+|none
+";
+
+fn is_asked(_: Global, case: &str) -> Result<bool, Fail> {
+    let (text, second) = halves(case)?;
+    Ok(second_of(Moment::read_asked(text.as_bytes())) == number(second)?)
 }
 
 #[test]
-fn asked(rt: HostRuntime) {
-    let cases = [
-        ("Mon, 01 Jan 2000 00:00:00 GMT", Some(FIRST_DAY)),
-        (" \tMon, 01 Jan 2000 00:00:00 GMT\t ", Some(FIRST_DAY)),
-        ("Sat, 01 Jan 2000 00:00:00 GMT\r", None),
-        ("\nSat, 01 Jan 2000 00:00:00 GMT", None),
-        ("Fri, 01 Jan 1960 00:00:00 GMT", Some(0)),
-        ("Thu, 99 Feb 1960 99:99:99 GMT", Some(0)),
-        ("Tue, 31 Feb 2000 00:00:00 GMT", None),
-        ("Saturday, 01-Jan-00 00:00:00 GMT", None),
-        ("Sat Jan  1 00:00:00 2000", None),
-        ("sat, 01 Jan 2000 00:00:00 GMT", None),
-        ("", None),
-    ];
-    for (text, second) in cases {
-        let moment = Moment::read_asked(text.as_bytes());
-        assert!(rt; moment.map(|moment| moment.secs()) == second, "{text}");
-    }
+fn asked(rt: HostRuntime) -> Result<(), Fail> {
+    hold(&rt, ASKED, is_asked)?;
+    assert!(rt; is_asked(rt.alloc(), "\nSat, 01 Jan 2000 00:00:00 GMT|none")?);
     assert!(rt; Moment::read_imf(b" Mon, 01 Jan 2000 00:00:00 GMT").is_none());
-}
-
-/// `count` times the letter x.
-fn letters(alloc: Global, count: usize) -> Result<Vec<u8>, AllocError> {
-    vec![in alloc; b'x'; count]
-}
-
-/// Whether so many letters are a clean text.
-fn are_clean(alloc: Global, count: usize) -> Result<bool, Fail> {
-    Ok(Clean::new(alloc, &letters(alloc, count)?).is_ok())
-}
-
-/// Whether so many letters are an original.
-fn are_original(alloc: Global, count: usize) -> Result<bool, Fail> {
-    Ok(Original::new(alloc, &letters(alloc, count)?).is_ok())
-}
-
-/// Whether so many letters are an archive's name.
-fn are_name(alloc: Global, count: usize) -> Result<bool, Fail> {
-    Ok(ArchiveName::new(&letters(alloc, count)?).is_some())
-}
-
-#[test]
-fn limits_of_texts(rt: HostRuntime) -> Result<(), Fail> {
-    assert!(rt; are_clean(rt.alloc(), 8192)? && !are_clean(rt.alloc(), 8193)?);
-    assert!(rt; are_original(rt.alloc(), 4096)? && !are_original(rt.alloc(), 4097)?);
     Ok(())
 }
 
-#[test]
-fn texts_that_are_not_clean(rt: HostRuntime) {
-    for text in [b"".as_slice(), b"a b"] {
-        assert!(rt; Clean::new(rt.alloc(), text).is_err() && !is_clean(text));
+/// Texts, and whether each is clean, an original, and the name of an archive.
+const TEXTS: &str = "{x*64}|clean original name
+{x*65}|clean original
+{x*4096}|clean original
+{x*4097}|clean
+{x*8192}|clean
+{x*8193}|
+|
+a b|
+ |
+A|clean original
+_|clean original
+/|clean original
+";
+
+/// What a text is.
+fn kinds_of(alloc: Global, text: &[u8]) -> &'static str {
+    let is_original = Original::new(alloc, text).is_ok();
+    let is_name = ArchiveName::new(text).is_some();
+    match (is_clean(text), is_original, is_name) {
+        (true, true, true) => "clean original name",
+        (true, true, false) => "clean original",
+        (true, false, false) => "clean",
+        (false, false, false) => "",
+        _ => "otherwise",
     }
 }
 
+fn are_kinds(alloc: Global, case: &str) -> Result<bool, Fail> {
+    let (text, kinds) = halves(case)?;
+    let text = expanded(alloc, text)?;
+    Ok(
+        is(kinds_of(alloc, &text).as_bytes(), kinds)
+            && Clean::new(alloc, &text).is_ok() == is_clean(&text),
+    )
+}
+
 #[test]
-fn limits_of_names(rt: HostRuntime) -> Result<(), Fail> {
-    assert!(rt; are_name(rt.alloc(), 64)? && !are_name(rt.alloc(), 65)?);
-    for name in [b"".as_slice(), b"A", b"_", b"/", b" "] {
-        assert!(rt; ArchiveName::new(name).is_none());
-    }
-    Ok(())
+fn kinds_of_texts(rt: HostRuntime) -> Result<(), Fail> {
+    hold(&rt, TEXTS, are_kinds)
 }
 
 fn is_copied(text: &Clean) -> Result<bool, Fail> {
@@ -163,40 +191,39 @@ fn copies(rt: HostRuntime) -> Result<(), Fail> {
 #[test]
 fn bytes(rt: HostRuntime) -> Result<(), Fail> {
     let alloc = rt.alloc();
-    assert!(rt; clean(alloc, b"a")?.as_bytes() == b"a".as_slice() && is_clean(b"a"));
-    assert!(rt; Octets::from_slice(alloc, b"ab")?.into_vec().as_slice() == b"ab".as_slice());
+    assert!(rt; is(clean(alloc, b"a")?.as_bytes(), "a"));
+    assert!(rt; is(&Octets::from_slice(alloc, b"ab")?.into_vec(), "ab"));
     Ok(())
 }
 
 #[test]
 fn names(rt: HostRuntime) -> Result<(), Fail> {
     let (short, long) = (archive(b"a-1.z")?, archive(b"a-1.zs")?);
-    assert!(rt; short < long);
-    assert!(rt; short.as_bytes() == b"a-1.z".as_slice());
+    assert!(rt; short < long && is(short.as_bytes(), "a-1.z"));
     let items = Items::of(vec![in rt.alloc(); short, long]?);
-    assert!(rt; items.as_slice().len() == 2);
     assert!(rt; items.clone()? == items);
-    assert!(rt; items.into_vec().len() == 2);
+    assert!(rt; items.as_slice().len() == 2 && items.into_vec().len() == 2);
     Ok(())
 }
 
 /// Whether this is what the text says, with its fragment and without; nothing is left of a fragment alone.
-fn says(text: &Clean, whole: &str, front: &[u8]) -> Result<bool, Fail> {
+fn says(text: &Clean, whole: &str, front: &str) -> Result<bool, Fail> {
     let without = match text.without_fragment()? {
-        Some(without) => without.as_bytes() == front,
+        Some(without) => is(without.as_bytes(), front),
         None => front.is_empty(),
     };
-    Ok(without && text.before_fragment() == front && text.as_str() == whole)
+    Ok(without && is(text.before_fragment(), front) && is(text.as_str().as_bytes(), whole))
 }
 
+/// The parts of a buffer.
 #[test]
 fn parts(rt: HostRuntime) -> Result<(), Fail> {
     let alloc = rt.alloc();
     let buffer = Arc::new(alloc, Vec::from_slice(alloc, b"ab x:/#top")?)?;
-    assert!(rt; says(&Clean::part(&buffer, 3, 7)?, "x:/#top", b"x:/")?);
-    assert!(rt; says(&Clean::part(&buffer, 6, 4)?, "#top", b"")?);
+    assert!(rt; says(&Clean::part(&buffer, 3, 7)?, "x:/#top", "x:/")?);
+    assert!(rt; says(&Clean::part(&buffer, 6, 4)?, "#top", "")?);
     assert!(rt; Clean::part(&buffer, 0, 4).err() == Some(CleanFault::NotClean));
-    assert!(rt; Original::part(&buffer, 0, 2)?.as_bytes() == b"ab".as_slice());
+    assert!(rt; is(Original::part(&buffer, 0, 2)?.as_bytes(), "ab"));
     Ok(())
 }
 
@@ -205,10 +232,9 @@ fn parts(rt: HostRuntime) -> Result<(), Fail> {
 fn packed_texts(rt: HostRuntime) -> Result<(), Fail> {
     let alloc = rt.alloc();
     let buffer = Arc::new(alloc, Vec::from_slice(alloc, b"ab x:/#top")?)?;
-    let part = Clean::part(&buffer, 3, 7)?;
-    let packed = part.packed(alloc)?;
-    assert!(rt; packed == part);
-    assert!(rt; packed.packed(alloc)? == part);
+    let packed = Clean::part(&buffer, 3, 7)?.packed(alloc)?;
+    assert!(rt; says(&packed, "x:/#top", "x:/")?);
+    assert!(rt; says(&packed.packed(alloc)?, "x:/#top", "x:/")?);
     Ok(())
 }
 

@@ -41,7 +41,9 @@ struct Told {
 impl Answers for Told {
     ghost use Rattle.std.specs.Prelude.{⊤};
 
-    ghost replies = { λ _ _. ⊤ };
+    ghost shows = { λ _ _ _. ⊤ };
+
+    ghost follows = { λ _ _. ⊤ };
 
     ghost may_close = { ⊤ };
 
@@ -52,6 +54,10 @@ impl Answers for Told {
             body: Octets::of(Vec::new(self.alloc)),
         })
     }
+
+    ghost stays = { λ _. tt };
+
+    ghost goes_on = { λ _ _ _ _ _. tt };
 }
 
 /// The clock's second.

@@ -79,7 +79,9 @@ impl<G: Answers, R: Clock + AllocGlobal + Drop> WishingGate<G, R> {
 }
 
 impl<G: Answers, R: Clock + AllocGlobal + Drop> Answers for WishingGate<G, R> {
-    ghost replies = { G.replies };
+    ghost shows = { λ it. G.shows it.gate };
+
+    ghost follows = { λ it next. G.follows it.gate next.gate };
 
     ghost may_close = { G.may_close };
 
@@ -106,4 +108,8 @@ impl<G: Answers, R: Clock + AllocGlobal + Drop> Answers for WishingGate<G, R> {
         }
         Ok(Some(reply))
     }
+
+    ghost stays = { λ it. G.stays it.gate };
+
+    ghost goes_on = { λ it next last. G.goes_on it.gate next.gate last.gate };
 }

@@ -15,3 +15,10 @@ ghosts-serve_opened-P-WalkRules g a = record {
   answers = MayAnswer (arc_value a.settings.now);
   faults = λ _ _. ⊤;
 }
+
+-- the base and the forms of these settings
+abbrev pub ghosts-serve_opened-P-NamesBase : goal.ghosts-serve_opened-P-NamesBase
+ghosts-serve_opened-P-NamesBase g a = record { base = (arc_value a.settings.now).base }
+
+abbrev pub ghosts-serve_opened-P-NamesForms : goal.ghosts-serve_opened-P-NamesForms
+ghosts-serve_opened-P-NamesForms g a = record { forms = (arc_value a.settings.now).forms }

@@ -1,12 +1,13 @@
-use Rattle.std.proofs.Common.{inr, List, [], ap, refl, sym, append-nil}
+use Rattle.std.proofs.Common.{inr, ℕ, List, [], ap, refl, sym, append-nil}
 use Rattle.memento_index.specs.declared.merge.Merge.{Merge}
 use Rattle.published_index.specs.Views.{MergerView}
+use Rattle.round_values.specs.Ahead.{last_taken}
 use Rattle.round_values.specs.Keeping.{Starts}
 use Rattle.aggregator_service.proofs.serving.take_snapshot_in.Goals as goal
 
 -- without a snapshot nothing is added
-nothing_is_added : (m : MergerView) → Starts 0 m m
-nothing_is_added m = (
+nothing_is_added : (last : ℕ) (m : MergerView) → Starts last m m
+nothing_is_added last m = (
   [],
   inr (record {
     first = [];
@@ -17,4 +18,4 @@ nothing_is_added m = (
 )
 
 pub returns-in_default : goal.returns-in_default
-returns-in_default g c = (0, nothing_is_added c.args.merger.now)
+returns-in_default g c = (0, nothing_is_added (last_taken c.args.settings.now.timing.ahead 0) c.args.merger.now)

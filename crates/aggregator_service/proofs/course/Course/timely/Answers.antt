@@ -1,5 +1,0 @@
-use Rattle.service_ledger.proofs.CallLemmas.{part_timely}
-use Rattle.aggregator_service.proofs.course.Course.timely.Goals as goal
-
-pub returns : goal.returns
-returns g c = part_timely c.last_taken-last.result.0 c.args.delta c.in-Ok.taken.state c.in-Ok.ensures.state c.requires

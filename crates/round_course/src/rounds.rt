@@ -1,0 +1,102 @@
+//! A round's beginning, its end, and the jobs of its turns.
+ghost use Rattle.std.specs.Prelude.{◌≡◌, true};
+ghost use Rattle.round_values.specs.Counts.{round_after};
+
+use crate::course::Course;
+use harvest_schedule::{Turn, Verdict};
+use harvest_workers::{Assignment, WalkRules};
+use harvester::SocketRuntime;
+use part_gates::NamesBase;
+use round_standing::tells_more;
+use round_values::{Round, second_now};
+use service_ledger::Begins;
+use std::io::Write;
+use std::rt::Files;
+
+impl<R, P, L> Course<'_, R, P, L>
+where
+    R: SocketRuntime + Files,
+    P: WalkRules + Begins + NamesBase,
+    L: Write + Copy,
+{
+    /// Begins the round with this number: reads what is listed and what is withdrawn, and tells the book of wishes.
+    pub fn begin_round(&mut self, number: u64) {
+        let settings = self.settings();
+        self.read_list(number);
+        self.read_rule();
+        let alloc = self.alloc();
+        self.standing.begin(alloc, settings, number);
+        self.standing.begun = second_now(self.rt);
+        self.book_listed();
+        self.book_room();
+        self.show_progress();
+    }
+
+    /// The jobs of the round are begun: the log is told how far they are from now on.
+    pub fn begin_progress(&mut self) {
+        let begun = self.now();
+        self.standing.dues.progress.done(begun);
+    }
+
+    /// Whether no job of the round is out or left.
+    pub fn is_harvested(&self) -> bool
+        ensures { result ≡ true → self.now.standing.out ≡ 0 }
+    {
+        let now = self.now().0;
+        self.standing.out == 0 && self.standing.schedule.is_over(now)
+    }
+
+    /// The jobs of the round are over. Jobs that weren't handed out are logged.
+    pub fn end_harvest(&mut self) {
+        self.log_left();
+        self.standing.end();
+    }
+
+    /// Logs what went wrong in the round with this number.
+    pub fn log_round(&mut self, number: u64) {
+        let settings = self.settings();
+        let (alloc, log) = (self.alloc(), self.console.log);
+        let tells = tells_more(settings);
+        self.standing
+            .notes
+            .tell(alloc, number, settings, tells, log);
+        self.log_turned_away(number);
+        self.log_dropped(number);
+    }
+
+    /// Publishes what the round brought, and ends it. Returns what it came to.
+    pub fn end_round(&mut self, number: u64) -> Round
+        ensures counts { result ≡ round_after result.published self.old.standing.round }
+        ensures pending { self.new.standing.round.pending ≡ result.pending }
+    {
+        self.log_left_out(number);
+        let round = self.publish();
+        self.show_round();
+        // Where memory was refused, what was appended still waits for a publish.
+        self.standing.round = Round {
+            pending: round.pending,
+            ..Round::NONE
+        };
+        round
+    }
+
+    /// Passes over the job of a turn, if it needn't be walked. Returns whether it is passed over.
+    pub fn passes_over(&mut self, turn: Turn) -> bool {
+        let is_passed = self.is_known(turn) || self.is_withdrawn(turn);
+        is_passed && self.standing.pass_turn(turn)
+    }
+
+    /// Notes that the job of a turn couldn't be made: memory was refused, or the URL is too long.
+    pub fn note_unwalked(&mut self, turn: Turn) {
+        let now = self.now().0;
+        let _ = self.standing.schedule.done(turn, Verdict::Unknown, now);
+        self.standing.round.add_job();
+        self.standing.notes.add_unwalked();
+    }
+
+    /// Walks a job in this thread.
+    pub fn walk_here(&mut self, turn: Turn, assignment: Assignment<P>) {
+        let report = self.terms.walk(self.rt, assignment);
+        self.accept_round_walk(turn, report.open());
+    }
+}
