@@ -1,8 +1,9 @@
 //! What goes, and when.
 ghost use Rattle.std.specs.Prelude.{◌≡◌, ◌⊎◌, ◌&&◌, ◌+◌, ◌-◌, ◌/◌, ◌^◌, ◌≤◌, [], IfOk, IfSome, IsErrOf, None, OnErr, OnOk};
-ghost use Rattle.std.specs.Prelude.{false, is_some, min, true};
+ghost use Rattle.std.specs.Prelude.{ℕ, false, is_some, min, true};
 ghost use Rattle.std.specs.FinMap as map;
 ghost use Rattle.retention.specs.Restriction.{restrict};
+ghost use Rattle.round_values.specs.Dues.{IsDue};
 ghost use Rattle.forgetting.specs.Renewing.{AreGone, ForgetsSome, HasNone, IsBegun, known, rule_of};
 
 use crate::bounds::most_of;
@@ -200,6 +201,7 @@ impl Forgetting {
         ensures none { IfOk result (λ it. it ≡ None → merger.new ≡ merger.old) }
         ensures err { OnErr result (merger.new ≡ merger.old) }
         ensures missing { IfOk result (λ it. IfSome it (λ _. self.new.missing ≡ 0)) }
+        ensures due { IfOk result (λ it. IfSome it (λ _. (now : ℕ) × IsDue self.old.due now)) }
     {
         if !self.due.is_due(ways.now()) || !self.may_be_due(ways.settings, &*merger) {
             return Ok(None);

@@ -98,6 +98,7 @@ impl<P: WalkRules> WalkReport<P> {
         requires comes { ∥ Comes P.answers P.faults opened.job opened.begun opened.result opened.asked ∥₁ }
         ensures errand { result.errand ≡ opened.errand }
         ensures job { result.job ≡ opened.job }
+        ensures outcome { result.result ≡ opened.result }
     {
         let Opened {
             errand,
@@ -120,6 +121,7 @@ impl<P: WalkRules> WalkReport<P> {
     pub fn open(self) -> Opened
         ensures errand { result.errand ≡ self.errand }
         ensures job { result.job ≡ self.job }
+        ensures outcome { result.result ≡ self.result }
         ensures own { ∥ P.jobs result.errand result.job ∥₁ }
         ensures comes { ∥ Comes P.answers P.faults result.job result.begun result.result result.asked ∥₁ }
     {

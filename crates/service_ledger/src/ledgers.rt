@@ -1,11 +1,12 @@
 //! The merger of a service, and the calls that it gets.
-ghost use Rattle.std.specs.Prelude.{◌≡◌, ◌&&◌, [], IfOk, IfSome, None, OnErr, OnOk, false, is_some, true};
+ghost use Rattle.std.specs.Prelude.{◌≡◌, ◌&&◌, ℕ, [], IfOk, IfSome, None, OnErr, OnOk, false, is_some, true};
 ghost use Rattle.std.specs.FinMap as map;
 ghost use Rattle.memento_index.specs.declared.merge.Merge.TheVariants.{Harvest as OfHarvest};
 ghost use Rattle.replica_exchange.specs.CursorRule.{fits, taken_from};
 ghost use Rattle.published_index.specs.Cursors.{IsTaken, with_delta, with_merge, with_publish};
 ghost use Rattle.published_index.specs.declared.mergers.TakenAs.TheVariants.{News};
 ghost use Rattle.round_values.specs.Counts.{round_after};
+ghost use Rattle.round_values.specs.Dues.{IsDue};
 ghost use Rattle.round_values.specs.Pulls.{Pulls, PullsNothing, PullsSome, with_pull, with_taken};
 ghost use Rattle.forgetting.specs.Renewing.{AreGone, ForgetsSome};
 ghost use Rattle.forgetting.specs.Sifting.{TakesAs};
@@ -226,6 +227,7 @@ impl<P: WalkRules + Begins> Ledger<P> {
         requires { self.old.merger.pending ≡ [] }
         ensures some { IfOk result (λ it. IfSome it (λ _.
             ForgetsSome forgetting.old.withdrawn forgetting.old.listed self.old.merger self.new.merger)) }
+        ensures due { IfOk result (λ it. IfSome it (λ _. (now : ℕ) × IsDue forgetting.old.due now)) }
         ensures none { IfOk result (λ it. it ≡ None → self.new.merger ≡ self.old.merger) }
         ensures err { OnErr result (self.new.merger ≡ self.old.merger) }
     {

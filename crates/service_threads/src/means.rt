@@ -64,6 +64,7 @@ impl<P: WalkRules + NamesBase + Send + Sync + 'static> Means<P> {
     pub fn start<R>(&mut self, rt: &R, terms: &Terms<P>)
     where
         R: SocketRuntime + Threads + Sync + Send + Clone + Drop + 'static,
+        ensures shared { self.new.shared ≡ self.old.shared }
     {
         let settings = terms.settings();
         let patience = Patience::of_seconds(settings.patience);
