@@ -9,7 +9,7 @@ import email.utils
 import threading
 import time
 
-from playing import BASE, GOOD, MEMENTO, Played, Service, comes_true, holds, originals, reply, same, told
+from playing import BASE, GOOD, MEMENTO, Played, Service, comes_true, holds, link, originals, reply, same, told
 
 BROKEN = reply(status=500)
 PAUSE = 8    # seconds between two rounds, where an archive sleeps for one
@@ -295,6 +295,18 @@ def try_paces():
         holds(f"which are {many.most} at once", many.most <= 3)
 
 
+def try_pages():
+    """The pages of one list are as far apart as their own archive asks for, and not as the archives before it do."""
+    with contextlib.ExitStack() as stack:
+        paged = Timed(lambda number: reply(f"{link(MEMENTO)},</{number}>;rel=timemap") if number < 3 else GOOD)
+        archives = [("quick.example", Played(stack, Timed(lambda _: GOOD)).address), ("slow.example", Played(stack, paged).address, {"every": 500})]
+        service = Service(stack, archives=archives, originals=originals(1))
+        same("both are walked", service.line(), told(1, 2, 2))
+        # The first request may have come some time after it was sent, but hardly so late.
+        took = paged.times[-1] - paged.times[0]
+        holds(f"four pages take 1.5 s: {took:.3f}", len(paged.times) == 4 and took >= 0.75)
+
+
 def try_two_names():
     """An archive that is listed under two names is two to its limits: each of its names has its own."""
     with contextlib.ExitStack() as stack:
@@ -322,7 +334,7 @@ def try_ages():
 
 def main():
     for attempt in (try_dormant, try_waking, try_absent, try_absent_beside_busy, try_absent_at_first, try_refusing,
-                    try_nothing_to_ask, try_paces,
+                    try_nothing_to_ask, try_paces, try_pages,
                     try_two_names, try_busy, try_plain_503, try_one_goes_first, try_earlier_answers, try_odd_patience, try_ages):
         attempt()
     print("archives are asked as often as they allow, and no job is lost")

@@ -1,11 +1,12 @@
 #!/usr/bin/env python3
 """Refuses requests for memory of a running service in turn, one of 47 from its start until it has forgotten: something that is withdrawn,
-and of the unlisted originals the oldest.
+and of the unlisted originals the oldest. While it takes in its snapshot, more of them are refused.
 
     tests/memory/forgotten.py REFUSE.SO
 
 The service must end before its first round, with `no memory`, `no gate` or `device fault`, or forget both in the end. Meanwhile
 each reply about a kept original is the redirect to its memento or, before anything is shown, 404: what was refused left all as it was.
+No reply ever leads to what is withdrawn.
 
 The program is crates/aggregator/out/aggregator, or what $PROGRAM names. The last line tells how many requests were refused.
 """
@@ -26,6 +27,7 @@ ARCHIVE = "arc.example"
 WITHDRAWN, OLD, YOUNG, LISTED = (f"http://{name}.example/" for name in ("withdrawn", "old", "young", "listed"))
 BAD_MACHINE = 3
 STRIDE = 47    # there are some thousand requests
+EARLY, EARLY_STRIDE = 400, 5    # so many until the snapshot is taken in
 TOLD = ("no memory", "no gate", "device fault")
 
 
@@ -34,11 +36,13 @@ def memento(original):
 
 
 def snapshot_text():
-    """Four originals, which were looked at in different seconds."""
-    entries = "".join(f"entry {ARCHIVE} {second} 1 {original}\nat {second} 1\n946684800 {memento(original)}\n"
-                      for original, second in sorted([(WITHDRAWN, 40), (OLD, 10), (YOUNG, 30), (LISTED, 5)]))
-    state = f"memento-state 2\nentries 4\n{entries}end\n"
-    return f"memento-snapshot 1\nsection {len(state)}\n{state}sections 1\n"
+    """Four originals, which were looked at in different seconds, in two sections: what is withdrawn stands in the first."""
+    states = []
+    for section in ([(OLD, 10), (WITHDRAWN, 40)], [(LISTED, 5), (YOUNG, 30)]):
+        entries = "".join(f"entry {ARCHIVE} {second} 1 {original}\nat {second} 1\n946684800 {memento(original)}\n" for original, second in section)
+        states.append(f"memento-state 2\nentries {len(section)}\n{entries}end\n")
+    sections = "".join(f"section {len(state)}\n{state}" for state in states)
+    return f"memento-snapshot 1\n{sections}sections {len(states)}\n"
 
 
 def settings_text(folder, number):
@@ -79,6 +83,8 @@ def see_all(ports):
                 if came not in (None, 404, 503, memento(original)) or came == 404 and kept.get((port, original)):
                     return f"{original} is {came}"
                 kept[port, original] = kept.get((port, original)) or came == memento(original)
+            if says(port, WITHDRAWN) == memento(WITHDRAWN):
+                return "what is withdrawn is shown"
             if kept[port, YOUNG] and says(port, WITHDRAWN) == 404 and says(port, OLD) == 404:
                 return None
         time.sleep(0.05)
@@ -118,7 +124,7 @@ def main():
         if fault:
             sys.exit(f"forgetting: nothing is refused: {fault}")
         pool = stack.enter_context(concurrent.futures.ThreadPoolExecutor(os.cpu_count()))
-        numbers = range(1, most + 1, STRIDE)
+        numbers = sorted({*range(1, EARLY, EARLY_STRIDE), *range(1, most + 1, STRIDE)})
         for number, (_, fault) in zip(numbers, pool.map(lambda number: play(folder, library, number), numbers)):
             if fault:
                 sys.exit(f"forgetting: request {number} refused: {fault}")

@@ -1,12 +1,8 @@
 //! The thread of the rounds at work for wishes. The schedule has them and the jobs of a round take turns.
-ghost use Rattle.std.specs.Prelude.{◌≡◌};
-
 use crate::making::Rounds;
-use harvest_schedule::Permit;
 use harvest_workers::WalkRules;
 use harvester::SocketRuntime;
 use part_gates::NamesBase;
-use round_values::WishJob;
 use service_ledger::Begins;
 use std::io::Write;
 use std::rt::Files;
@@ -49,35 +45,9 @@ where
         let Some(job) = self.course.standing.desk.next() else {
             return false;
         };
-        let now = self.course.now();
-        let course = &mut self.course;
-        let schedule = &mut course.standing.schedule;
-        let Some(permit) = schedule.begin_walk(job.archive, now.0, free == 1) else {
-            course.standing.desk.refuse(job.archive, now);
-            return true;
-        };
-        course.standing.desk.ask(&job);
-        self.walk_wish(permit, &job)
-    }
-
-    /// Gives a job of a wish to a worker. Without a worker it is walked at once. Returns whether there may be more.
-    fn walk_wish(&mut self, permit: Permit, job: &WishJob) -> bool
-        requires { permit.archive ≡ job.now.archive }
-    {
-        let Some(assignment) = self.course.assignment_of_wish(permit, job) else {
-            self.course.note_unwalked_wish(job);
-            return true;
-        };
-        match self.pool.give(self.course.rt, assignment) {
-            Ok(()) => {
-                let course = &mut self.course;
-                course.standing.desk.add_out();
-                true
-            }
-            Err(assignment) => {
-                self.course.walk_wish_here(job.archive, assignment);
-                false
-            }
+        match self.course.begin_wish_job(&job, free == 1) {
+            Some(assignment) => self.give(assignment),
+            None => true,
         }
     }
 }

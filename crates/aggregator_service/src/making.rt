@@ -1,13 +1,10 @@
 //! The thread of the rounds at work: it makes rounds, and hands out their jobs.
-ghost use Rattle.std.specs.Prelude.{◌≡◌};
-
 use crate::taking::Heard;
-use harvest_schedule::{Permit, Turn};
-use harvest_workers::WalkRules;
+use harvest_workers::{Assignment, WalkRules};
 use harvester::SocketRuntime;
 use part_gates::NamesBase;
 use round_course::{Course, TICK};
-use round_values::{Round, second_now};
+use round_values::Round;
 use service_ledger::Begins;
 use service_settings::Settings;
 use service_threads::{Pool, Pullers};
@@ -98,11 +95,9 @@ where
             if self.course.passes_over(turn) {
                 continue;
             }
-            let course = &mut self.course;
-            let Some(permit) = course.standing.schedule.hand_out(turn, now) else {
-                continue;
-            };
-            self.hand(permit, turn);
+            if let Some(assignment) = self.course.begin_job(turn, now) {
+                let _ = self.give(assignment);
+            }
             if self.course.standing.out == 0 || self.course.standing.desk.has_wishes() {
                 // It was walked in this thread, or a wish may go next.
                 return Handed::More;
@@ -111,21 +106,15 @@ where
         Handed::More
     }
 
-    /// Gives the job of this turn to a worker. Without a worker it is walked at once.
-    fn hand(&mut self, permit: Permit, turn: Turn)
-        requires { permit.archive ≡ turn.archive }
-    {
-        let second = second_now(self.course.rt);
-        let Some(assignment) = self.course.assignment_of(permit, turn, second) else {
-            self.course.note_unwalked(turn);
-            return;
-        };
+    /// Gives a job to a worker. Without a worker it is walked at once. Returns whether a worker has it.
+    pub(crate) fn give(&mut self, assignment: Assignment<P>) -> bool {
+        self.course.add_out(assignment.errand());
         match self.pool.give(self.course.rt, assignment) {
-            Ok(()) => {
-                let course = &mut self.course;
-                course.standing.add_out();
+            Ok(()) => true,
+            Err(assignment) => {
+                self.course.walk_here(assignment);
+                false
             }
-            Err(assignment) => self.course.walk_here(turn, assignment),
         }
     }
 

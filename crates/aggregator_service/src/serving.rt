@@ -1,10 +1,12 @@
 //! Serves: gates in threads of their own, and rounds in the caller's thread.
-ghost use Rattle.std.specs.Prelude.{◌≡◌, ◌&&◌, ℕ, All, IfOk, OnOk, is_some, true};
+ghost use Rattle.std.specs.Prelude.{◌≡◌, ◌&&◌, ℕ, All, IfOk, List, OnOk, is_some, length, true};
 ghost use Rattle.std.specs.Io.KnownBytes.{Appends};
 ghost use Rattle.std.specs.Arc.{arc_value};
 ghost use Rattle.service_threads.specs.Jobs.{Covers};
 ghost use Rattle.round_values.specs.Keeping.{Starts};
 ghost use Rattle.round_values.specs.Lines.{round_line};
+ghost use Rattle.round_values.specs.declared.rounds.Round.{Round as Counts};
+ghost use Rattle.aggregator_service.specs.Lines.{round_lines};
 ghost use Rattle.round_values.specs.Ahead as ahead;
 ghost use Rattle.forgetting.specs.Renewing.{AreGone};
 ghost use Rattle.round_course.specs.Asking as asking;
@@ -206,36 +208,12 @@ where
     let mut means = Means::new(rt.alloc(), terms.settings(), keys)?;
     let mut standing = Standing::new(rt.alloc(), terms.settings(), keeping, incarnation)?;
     begin_rule(rt, &terms, &means.shared, &mut standing, ledger, log)?;
-    let watch = Stopwatch::start(rt);
     let listeners = listen(rt, &terms, gates, &means.shared, &standing, ledger, log)?;
     let said = say_ports(&listeners, terms.settings(), out);
     let made = match said {
         Ok(()) => {
             means.start(rt, &terms);
-            let console = Console {
-                rt,
-                log,
-                telling: &means.shared.telling,
-            };
-            let course = Course {
-                rt,
-                terms: &terms,
-                shared: &means.shared,
-                watch,
-                seed: incarnation_now(rt),
-                console,
-                standing,
-                ledger,
-            };
-            let mut rounds = Rounds {
-                course,
-                pool: &means.pool,
-                pullers: &means.pullers,
-            };
-            let made = make_all(&mut rounds, out);
-            // From now on nothing changes.
-            rounds.course.keep();
-            made
+            make_rounds(rt, &terms, &means, standing, ledger, out, log)
         }
         Err(fault) => Err(fault),
     };
@@ -247,6 +225,52 @@ where
     let ended = listeners.wait(rt);
     made?;
     ended
+}
+
+/// Makes the rounds with the threads that are started, and then writes a last snapshot.
+fn make_rounds<R, W, L, P>(
+    rt: &R,
+    terms: &Terms<P>,
+    means: &Means<P>,
+    standing: Standing,
+    ledger: &mut Ledger<P>,
+    out: &mut W,
+    log: Log<L>,
+) -> Result<(), ServeFault>
+where
+    R: SocketRuntime + Files,
+    W: Write,
+    L: Write + Copy,
+    P: WalkRules + Begins + NamesBase,
+    requires base { (arc_value terms.now.settings).base ≡ P.base }
+    requires keys { asking.forgets (arc_value terms.now.settings) ≡ true → is_some means.now.shared.keys ≡ true }
+    ensures { OnOk result ((made : List Counts) × (length made ≡ (arc_value terms.now.settings).rounds)
+        × Appends (W.contents out.old) (W.contents out.new) (round_lines 1 made)) }
+{
+    let console = Console {
+        rt,
+        log,
+        telling: &means.shared.telling,
+    };
+    let course = Course {
+        rt,
+        terms,
+        shared: &means.shared,
+        watch: Stopwatch::start(rt),
+        seed: incarnation_now(rt),
+        console,
+        standing,
+        ledger,
+    };
+    let mut rounds = Rounds {
+        course,
+        pool: &means.pool,
+        pullers: &means.pullers,
+    };
+    let made = make_all(&mut rounds, out);
+    // From now on nothing changes.
+    rounds.course.keep();
+    made
 }
 
 /// Opens the gates' listeners, and tells what they share what is known by then. The rule of a service that forgets is
@@ -308,12 +332,17 @@ where
     W: Write,
     L: Write + Copy,
     P: WalkRules + Begins + NamesBase,
+    ensures { OnOk result ((made : List Counts)
+        × (length made ≡ (arc_value rounds.old.course.terms.now.settings).rounds)
+        × Appends (W.contents out.old) (W.contents out.new) (round_lines 1 made)) }
 {
+    let count = rounds.course.settings().rounds;
     rounds.greet();
-    for number in 1..=rounds.course.settings().rounds {
-        if number > 1 {
+    for made in 0..count {
+        if made > 0 {
             rounds.wait_between();
         }
+        let number = made + 1;
         let round = rounds.make(number);
         say_round(number, round, out)?;
     }

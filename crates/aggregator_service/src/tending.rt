@@ -38,7 +38,7 @@ where
             self.course.ask_peers(self.pullers);
         }
         self.course.publish_round();
-        self.course.tend_forgetting();
+        let _ = self.course.tend_forgetting();
         self.course.tend_ready();
     }
 }

@@ -1,1 +1,4 @@
 pub mod Asking
+pub mod Fates
+pub mod Permits
+pub mod Publishes

@@ -1,9 +1,11 @@
 //! What the rounds know and where they stand, apart from the threads that walk and pull for them.
-ghost use Rattle.std.specs.Prelude.{◌≡◌, ◌≤◌, IfSome, Some, slice_get};
+ghost use Rattle.std.specs.Prelude.{◌≡◌, ◌≤◌, ℕ, IfSome, Some, is_some, slice_get, true};
 ghost use Rattle.std.specs.Arc.{arc_value};
 ghost use Rattle.harvest_workers.specs.Errands.{archive_of};
 ghost use Rattle.harvest_workers.specs.declared.errands.Errand.TheVariants.{Round as OfRound};
+ghost use Rattle.round_values.specs.Ahead as ahead;
 ghost use Rattle.round_values.specs.Revisions.{revision_of as revision_by_rule};
+ghost use Rattle.round_course.specs.Asking as spec;
 ghost use Rattle.round_standing.specs.Listing.{list_of};
 
 use harvest_schedule::{Permit, Turn};
@@ -41,6 +43,8 @@ pub struct Course<'a, R, P: WalkRules + Begins + NamesBase, L: Copy> {
     pub ledger: &'a mut Ledger<P>,
     /// Gates name the base of the settings.
     pub ghost named: { (arc_value terms.now.settings).base ≡ P.base },
+    /// Where something is forgotten, there are keys for the sets by which it is told what.
+    pub ghost keyed: { spec.forgets (arc_value terms.now.settings) ≡ true → is_some shared.now.keys ≡ true },
 }
 
 /// For how many milliseconds to wait: until this moment, and no longer than a tick.
@@ -76,7 +80,9 @@ where
     }
 
     /// The last second whose harvests are taken now.
-    pub(crate) fn last_taken(&self) -> Second {
+    pub(crate) fn last_taken(&self) -> Second
+        ensures { (now : ℕ) × (result.0 ≡ ahead.last_taken (arc_value self.now.terms.now.settings).timing.ahead now) }
+    {
         last_taken(self.settings().timing.ahead, second_now(self.rt))
     }
 
@@ -133,7 +139,12 @@ where
     }
 
     /// The job of a turn of the round, whose archive may be asked, to be handed out in this second.
-    pub fn assignment_of(&self, permit: Permit, turn: Turn, now: Second) -> Option<Assignment<P>>
+    pub(crate) fn assignment_of(
+        &self,
+        permit: Permit,
+        turn: Turn,
+        now: Second,
+    ) -> Option<Assignment<P>>
         requires allowed { permit.archive ≡ turn.archive }
         ensures errand { IfSome result (λ it. it.errand ≡ OfRound turn) }
         ensures original { IfSome result (λ it. slice_get (list_of self.now.standing.originals.all

@@ -1,8 +1,12 @@
 //! What is withdrawn, and what is known beyond what is wanted, is forgotten while rounds are made.
-ghost use Rattle.std.specs.Prelude.{◌≡◌, [], IfOk, false, true};
+ghost use Rattle.std.specs.Prelude.{◌≡◌, ◌||◌, ℕ, [], IfOk, false, is_some, not, true};
 ghost use Rattle.std.specs.Arc.{arc_value};
 ghost use Rattle.round_course.specs.Asking as spec;
 ghost use Rattle.round_course.specs.Asking.{held_for};
+ghost use Rattle.round_course.specs.Publishes.{has_forgotten};
+ghost use Rattle.forgetting.specs.Renewing.{ForgetsSome};
+ghost use Rattle.forgetting.specs.Sifting.{Sifts};
+ghost use Rattle.round_values.specs.Dues.{IsDue};
 ghost use Rattle.service_ledger.specs.Leads.{IsPart};
 
 use crate::course::Course;
@@ -44,7 +48,9 @@ where
     }
 
     /// The keys of the sets by which it is told what is forgotten, if these settings have it.
-    fn rule_keys(&self) -> Option<RandomState> {
+    fn rule_keys(&self) -> Option<RandomState>
+        ensures { is_some result ≡ spec.forgets (arc_value self.now.terms.now.settings) }
+    {
         if forgets(self.settings()) {
             self.shared.keys
         } else {
@@ -97,23 +103,35 @@ where
     }
 
     /// Forgets what is known beyond what is wanted, where that is due, nothing is pending, and all that is listed is
-    /// known.
-    pub fn tend_forgetting(&mut self) {
+    /// known. Returns whether something is forgotten.
+    pub fn tend_forgetting(&mut self) -> bool
+        ensures some { result ≡ true → ForgetsSome self.old.standing.forgetting.withdrawn
+            self.old.standing.forgetting.listed self.old.ledger.now.merger self.new.ledger.now.merger }
+        ensures due { result ≡ true → (now : ℕ) × IsDue self.old.standing.forgetting.due now }
+        ensures pending { result ≡ true → self.old.ledger.now.merger.pending ≡ [] }
+        ensures listed { result ≡ true → (is_some self.old.standing.originals.all
+            || not (is_some (arc_value self.old.terms.now.settings).wishing.originals_file)) ≡ true }
+        ensures none { result ≡ false → self.new.ledger.now.merger ≡ self.old.ledger.now.merger }
+    {
         let is_known = self.standing.originals.is_whole(self.settings());
         if self.may_have_pending() || !is_known {
-            return;
+            return false;
         }
-        if let Some(ways) = self.ways() {
-            let begun = self.now();
-            let ended = self
-                .ledger
-                .forget_oldest(&mut self.standing.forgetting, &ways);
-            let _ = self.note_forgotten(ended, begun);
-        }
+        let Some(ways) = self.ways() else {
+            return false;
+        };
+        let begun = self.now();
+        let ended = self
+            .ledger
+            .forget_oldest(&mut self.standing.forgetting, &ways);
+        self.note_forgotten(ended, begun)
     }
 
     /// Notes how a forgetting ended that began at this moment. Returns whether something is forgotten.
-    fn note_forgotten(&mut self, ended: Result<Option<Forgot>, NoMemory>, begun: Millis) -> bool {
+    fn note_forgotten(&mut self, ended: Result<Option<Forgot>, NoMemory>, begun: Millis) -> bool
+        ensures result { result ≡ has_forgotten ended }
+        ensures ledger { self.new.ledger.now.merger ≡ self.old.ledger.now.merger }
+    {
         match ended {
             Ok(Some(forgot)) => {
                 let floor = self.standing.forgetting.floor();
@@ -144,10 +162,15 @@ where
         }
     }
 
-    /// What is kept of what the answer of the peer with this number brought.
+    /// What is kept of what the answer of the peer with this number brought: what the rule of the rounds keeps, where
+    /// something is forgotten, and else all.
     pub(crate) fn sift(&self, peer: u64, delta: Delta) -> Result<Delta, PeerFault>
         requires { ∥ IsPart delta ∥₁ }
-        ensures { IfOk result (λ sifted. ∥ IsPart sifted ∥₁) }
+        ensures part { IfOk result (λ sifted. ∥ IsPart sifted ∥₁) }
+        ensures rule { spec.forgets (arc_value self.now.terms.now.settings) ≡ true
+            → IfOk result (λ sifted. Sifts self.now.standing.forgetting.withdrawn self.now.standing.forgetting.listed
+            delta.state sifted.state) }
+        ensures all { spec.forgets (arc_value self.now.terms.now.settings) ≡ false → IfOk result (λ it. it ≡ delta) }
     {
         let Some(keys) = self.rule_keys() else {
             return Ok(delta);
@@ -181,8 +204,11 @@ where
     }
 
     /// Whether there is room for a wish's harvest. One for which there is none is counted.
-    pub(crate) fn has_room(&mut self, harvest: &Harvest) -> bool {
-        if self.rule_keys().is_none() {
+    pub(crate) fn has_room(&mut self, harvest: &Harvest) -> bool
+        ensures room { result ≡ false → spec.forgets (arc_value self.old.terms.now.settings) ≡ true }
+        ensures ledger { self.new.ledger.now.merger ≡ self.old.ledger.now.merger }
+    {
+        if !forgets(self.settings()) {
             return true;
         }
         let (settings, now) = (self.settings(), self.now());

@@ -1,16 +1,21 @@
 //! Wishes are granted, and what their walks brought is taken in.
-ghost use Rattle.std.specs.Prelude.{◌≡◌, ◌∷◌, ◌++◌, [], Bool, IfSome, List, OnErr, OnOk};
+ghost use Rattle.std.specs.Prelude.{◌≡◌, ◌∷◌, ◌++◌, ◌≤◌, ℕ, [], Bool, IfOk, IfSome, IsSomeAnd, List, OnErr, OnOk};
+ghost use Rattle.std.specs.Arc.{arc_value};
 ghost use Rattle.wish_list.specs.Jobs.{begun_for};
 ghost use Rattle.harvest_workers.specs.declared.errands.Errand.TheVariants.{Wish as OfWish};
 ghost use Rattle.harvester.specs.Unkept.{Comes};
+ghost use Rattle.round_values.specs.Revisions.{revision_of as revision_by_rule};
 ghost use Rattle.service_ledger.specs.Leads.{IsWalked};
+ghost use Rattle.round_course.specs.Fates.{Becomes, IsTakenIn};
+ghost use Rattle.round_course.specs.Permits.{GaveWalk};
 
 use crate::course::Course;
+use crate::fates::Fate;
 use forgetting::Forgetting;
 use harvest_lattice::Harvest;
 use harvest_schedule::{Permit, Verdict};
 use harvest_workers::{Assignment, Errand, Opened, WalkRules};
-use harvester::SocketRuntime;
+use harvester::{SocketRuntime, WalkFault};
 use memento_time::{NoMemory, Original};
 use original_list::spellings_of;
 use part_gates::NamesBase;
@@ -142,11 +147,40 @@ where
         }
     }
 
+    /// Hands out a job of a wish, by leave of the schedule to ask its archive now, by a hand that may be the last free
+    /// one. `None` if the schedule gives no leave, which the desk is told, or if the job can't be made: memory was
+    /// refused, or the URL is too long.
+    pub fn begin_wish_job(&mut self, job: &WishJob, is_last: bool) -> Option<Assignment<P>>
+        ensures allowed { IfSome result (λ _. (now : ℕ)
+            × GaveWalk job.now.archive now self.old.standing.schedule self.new.standing.schedule) }
+        ensures errand { IfSome result (λ it. it.errand ≡ OfWish job.now.archive) }
+        ensures original { IfSome result (λ it. it.job.original ≡ job.now.original) }
+        ensures revision { IfSome result (λ it. (second : ℕ) × (it.job.revision
+            ≡ revision_by_rule (arc_value self.old.terms.now.settings)
+            (record { round = self.old.standing.begun.0; second = second }))) }
+    {
+        let now = self.now();
+        let schedule = &mut self.standing.schedule;
+        let Some(permit) = schedule.begin_walk(job.archive, now.0, is_last) else {
+            self.standing.desk.refuse(job.archive, now);
+            return None;
+        };
+        self.standing.desk.ask(job);
+        let Some(assignment) = self.assignment_of_wish(permit, job) else {
+            self.note_unwalked_wish(job);
+            return None;
+        };
+        Some(assignment)
+    }
+
     /// The job of a wish, whose archive may be asked, to be handed out now.
-    pub fn assignment_of_wish(&self, permit: Permit, job: &WishJob) -> Option<Assignment<P>>
+    fn assignment_of_wish(&self, permit: Permit, job: &WishJob) -> Option<Assignment<P>>
         requires { permit.archive ≡ job.now.archive }
         ensures errand { IfSome result (λ it. it.errand ≡ OfWish job.now.archive) }
         ensures original { IfSome result (λ it. it.job.original ≡ job.now.original) }
+        ensures revision { IfSome result (λ it. (second : ℕ) × (it.job.revision
+            ≡ revision_by_rule (arc_value self.now.terms.now.settings)
+            (record { round = self.now.standing.begun.0; second = second }))) }
     {
         let errand = Errand::Wish {
             archive: job.archive,
@@ -154,8 +188,8 @@ where
         self.assignment(permit, errand, &job.original, second_now(self.rt))
     }
 
-    /// Notes that a job of a wish couldn't be made: memory was refused, or the URL is too long.
-    pub fn note_unwalked_wish(&mut self, job: &WishJob) {
+    /// Notes that a job of a wish couldn't be made.
+    fn note_unwalked_wish(&mut self, job: &WishJob) {
         let now = self.now().0;
         let standing = &mut self.standing;
         let _ = standing
@@ -166,16 +200,12 @@ where
             .answer(&job.original, job.archive, WishAnswer::NoHarvest);
     }
 
-    /// Walks a job of a wish in this thread.
-    pub fn walk_wish_here(&mut self, archive: usize, assignment: Assignment<P>) {
-        let report = self.terms.walk(self.rt, assignment);
-        self.accept_wish_walk(archive, report.open());
-    }
-
     /// Takes in what came of a wish's walk. If the archive was busy, and is waited for, the job comes again.
     pub(crate) fn accept_wish_walk(&mut self, archive: usize, opened: Opened)
         requires own { ∥ P.jobs opened.errand opened.job ∥₁ }
         requires comes { ∥ Comes P.answers P.faults opened.job opened.begun opened.result opened.asked ∥₁ }
+        ensures { IsTakenIn opened.result (arc_value self.old.terms.now.settings) self.old.standing.forgetting.withdrawn
+            self.old.ledger.now.merger self.new.ledger.now.merger }
     {
         let is_busy = self.note_walk(&opened).is_some();
         let Opened {
@@ -187,13 +217,7 @@ where
         } = opened;
         let answer = answer_to(&walked);
         let now = self.now();
-        let is_taken = match walked {
-            Ok(harvest) => self.accept_wished(harvest, now),
-            Err(_) => {
-                self.standing.desk.count_failed();
-                true
-            }
-        };
+        let is_taken = self.take_wished(walked, now);
         if is_busy
             && matches!(answer, WishAnswer::NoHarvest)
             && self.standing.walks_again(archive, &job.original, now)
@@ -208,28 +232,48 @@ where
         self.standing.desk.answer(&job.original, archive, answer);
     }
 
-    /// Appends the harvest of a wish's walk, if it is kept. Returns whether it could be taken: there was memory for it,
-    /// and it isn't too far ahead of the clock.
-    fn accept_wished(&mut self, harvest: Harvest, now: Millis) -> bool
-        requires { ∥ IsWalked P.jobs P.answers P.faults harvest ∥₁ }
+    /// Takes in what a wish's walk brought. Returns whether that answers the wish, be it a failure: there was memory
+    /// and room for a harvest, and it wasn't barred.
+    fn take_wished(&mut self, walked: Result<Harvest, WalkFault>, now: Millis) -> bool
+        requires { IfOk walked (λ harvest. ∥ IsWalked P.jobs P.answers P.faults harvest ∥₁) }
+        ensures { IsTakenIn walked (arc_value self.old.terms.now.settings) self.old.standing.forgetting.withdrawn
+            self.old.ledger.now.merger self.new.ledger.now.merger }
     {
-        if !self.may_accept(&harvest) {
-            return false;
+        match walked {
+            Ok(harvest) => self.accept_wished(harvest, now).is_answer(),
+            Err(_) => {
+                self.standing.desk.count_failed();
+                true
+            }
+        }
+    }
+
+    /// Appends the harvest of a wish's walk, if it is kept. Returns what becomes of it.
+    fn accept_wished(&mut self, harvest: Harvest, now: Millis) -> Fate
+        requires { ∥ IsWalked P.jobs P.answers P.faults harvest ∥₁ }
+        ensures { Becomes result (arc_value self.old.terms.now.settings) self.old.standing.forgetting.withdrawn harvest
+            self.old.ledger.now.merger self.new.ledger.now.merger }
+    {
+        if let Some(fate) = self.barred(&harvest) {
+            return fate;
         }
         let is_shown = is_shown(self.settings(), self.ledger.merger(), harvest.original());
         if !is_kept(&harvest, is_shown) {
-            return true;
+            return Fate::Empty;
         }
         if !self.has_room(&harvest) {
-            return false;
+            return Fate::NoRoom;
         }
-        let is_taken = self.ledger.append_walked(harvest).is_ok();
-        if is_taken {
-            self.standing.desk.add_pending(now);
-        } else {
-            self.standing.notes.add_unkept();
+        match self.ledger.append_walked(harvest) {
+            Ok(()) => {
+                self.standing.desk.add_pending(now);
+                Fate::Appended
+            }
+            Err(_) => {
+                self.standing.notes.add_unkept();
+                Fate::NoMemory
+            }
         }
-        is_taken
     }
 
     /// Publishes what wishes brought, where that is due, ends wishes that are over, and logs them.
@@ -237,14 +281,22 @@ where
         if !self.shared.book.is_open() {
             return;
         }
-        let now = self.now();
-        if self.standing.desk.is_due(now) {
-            self.publish();
-        }
+        self.publish_wished();
         self.end_wishes();
         let now = self.now();
         if let Some(counts) = self.standing.desk.take_counts(now) {
             self.console.log_line(Line::Wishes(counts));
+        }
+    }
+
+    /// Publishes what wishes brought, where that is due.
+    fn publish_wished(&mut self)
+        ensures { (now : ℕ) × ((¬ IsSomeAnd self.old.standing.desk.due (λ due. due.0 ≤ now))
+            → self.new.ledger.now.merger ≡ self.old.ledger.now.merger) }
+    {
+        let now = self.now();
+        if self.standing.desk.is_due(now) {
+            self.publish();
         }
     }
 

@@ -6,7 +6,8 @@
 //!
 //! - `course` has all of it, and makes the jobs that are handed out;
 //! - `rounds` begins and ends a round, and `reading` reads the file of originals anew for it;
-//! - `taking` takes in what workers report, `pulling` what peers give, and `stepping` the parts of it;
+//! - `taking` takes in what workers report (`fates` says what becomes of it), `pulling` what peers give, and `stepping`
+//!   the parts of it;
 //! - `granting` grants wishes, takes in what their walks brought, and ends them;
 //! - `tending` does what is due meanwhile: it publishes, and writes snapshots;
 //! - `dropping` has forgotten what is withdrawn, and what is known beyond what is wanted.
@@ -14,6 +15,7 @@
 
 mod course;
 mod dropping;
+mod fates;
 mod granting;
 mod pulling;
 mod reading;

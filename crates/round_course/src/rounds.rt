@@ -1,10 +1,19 @@
 //! A round's beginning, its end, and the jobs of its turns.
-ghost use Rattle.std.specs.Prelude.{◌≡◌, true};
+ghost use Rattle.std.specs.Prelude.{◌≡◌, ℕ, IfSome, Result, Some, slice_get, true};
+ghost use Rattle.std.specs.Arc.{arc_value};
+ghost use Rattle.harvest_workers.specs.declared.errands.Errand.TheVariants.{Round as OfRound};
+ghost use Rattle.harvester.specs.declared.faults.WalkFault.{WalkFault};
+ghost use Rattle.harvest_lattice.specs.Knowledge.{Harvested};
 ghost use Rattle.round_values.specs.Counts.{round_after};
+ghost use Rattle.round_values.specs.Revisions.{revision_of as revision_by_rule};
+ghost use Rattle.round_standing.specs.Listing.{list_of};
+ghost use Rattle.round_course.specs.Fates.{IsTakenIn};
+ghost use Rattle.round_course.specs.Permits.{GaveTurn};
+ghost use Rattle.round_course.specs.Publishes.{Publishes};
 
 use crate::course::Course;
 use harvest_schedule::{Turn, Verdict};
-use harvest_workers::{Assignment, WalkRules};
+use harvest_workers::{Assignment, Errand, WalkRules};
 use harvester::SocketRuntime;
 use part_gates::NamesBase;
 use round_standing::tells_more;
@@ -68,6 +77,7 @@ where
     pub fn end_round(&mut self, number: u64) -> Round
         ensures counts { result ≡ round_after result.published self.old.standing.round }
         ensures pending { self.new.standing.round.pending ≡ result.pending }
+        ensures merger { Publishes result.published self.old.ledger.now.merger self.new.ledger.now.merger }
     {
         self.log_left_out(number);
         let round = self.publish();
@@ -86,17 +96,50 @@ where
         is_passed && self.standing.pass_turn(turn)
     }
 
-    /// Notes that the job of a turn couldn't be made: memory was refused, or the URL is too long.
-    pub fn note_unwalked(&mut self, turn: Turn) {
+    /// Hands out the job of a turn, by leave of the schedule to ask its archive at this millisecond. `None` if the
+    /// schedule gives no leave, or if the job can't be made: memory was refused, or the URL is too long.
+    pub fn begin_job(&mut self, turn: Turn, now: u64) -> Option<Assignment<P>>
+        ensures allowed { IfSome result (λ _. GaveTurn turn now self.old.standing.schedule self.new.standing.schedule) }
+        ensures errand { IfSome result (λ it. it.errand ≡ OfRound turn) }
+        ensures original { IfSome result (λ it. slice_get (list_of self.old.standing.originals.all
+            (arc_value self.old.terms.now.settings).originals) turn.original ≡ Some it.job.original) }
+        ensures revision { IfSome result (λ it. (second : ℕ) × (it.job.revision
+            ≡ revision_by_rule (arc_value self.old.terms.now.settings)
+            (record { round = self.old.standing.begun.0; second = second }))) }
+    {
+        let permit = self.standing.schedule.hand_out(turn, now)?;
+        let Some(assignment) = self.assignment_of(permit, turn, second_now(self.rt)) else {
+            self.note_unwalked(turn);
+            return None;
+        };
+        Some(assignment)
+    }
+
+    /// Notes that the job of a turn couldn't be made.
+    fn note_unwalked(&mut self, turn: Turn) {
         let now = self.now().0;
         let _ = self.standing.schedule.done(turn, Verdict::Unknown, now);
         self.standing.round.add_job();
         self.standing.notes.add_unwalked();
     }
 
-    /// Walks a job in this thread.
-    pub fn walk_here(&mut self, turn: Turn, assignment: Assignment<P>) {
+    /// Counts a walk for this errand as out.
+    pub fn add_out(&mut self, errand: Errand)
+        ensures ledger { self.new.ledger.now.merger ≡ self.old.ledger.now.merger }
+        ensures forgetting { self.new.standing.forgetting ≡ self.old.standing.forgetting }
+    {
+        match errand {
+            Errand::Round(_) => self.standing.add_out(),
+            Errand::Wish { archive: _ } => self.standing.desk.add_out(),
+        }
+    }
+
+    /// Walks a job in this thread that is counted as out, and takes in what came of it.
+    pub fn walk_here(&mut self, assignment: Assignment<P>)
+        ensures { (walked : Result Harvested WalkFault) × IsTakenIn walked (arc_value self.old.terms.now.settings)
+            self.old.standing.forgetting.withdrawn self.old.ledger.now.merger self.new.ledger.now.merger }
+    {
         let report = self.terms.walk(self.rt, assignment);
-        self.accept_round_walk(turn, report.open());
+        self.accept_report(report);
     }
 }

@@ -2,6 +2,7 @@
 ghost use Rattle.std.specs.Prelude.{◌≡◌, ℕ, IfOk, IfSome, option_map};
 ghost use Rattle.std.specs.Arc.{arc_value};
 ghost use Rattle.std.specs.Option.{option_map_or};
+ghost use Rattle.round_values.specs.Ahead.{last_taken, taken};
 ghost use Rattle.round_values.specs.Leads.{IsAskedFrom};
 ghost use Rattle.round_values.specs.Steps as steps;
 ghost use Rattle.round_standing.specs.Peers.{noted_of};
@@ -158,7 +159,11 @@ where
     /// What isn't ahead of the clock of a delta, and how many harvests are. These are counted.
     pub(crate) fn timely(&mut self, delta: Delta) -> Result<(Delta, u64), PeerFault>
         requires { ∥ IsPart delta ∥₁ }
-        ensures { IfOk result (λ it. ∥ IsPart it.0 ∥₁) }
+        ensures part { IfOk result (λ it. ∥ IsPart it.0 ∥₁) }
+        ensures timely { IfOk result (λ it. (now : ℕ) × (it.0 ≡ record delta {
+          state = taken
+              (last_taken (arc_value self.old.terms.now.settings).timing.ahead now) delta.state;
+        })) }
     {
         let last = self.last_taken();
         let Delta {

@@ -1,11 +1,14 @@
 //! What workers report is taken in.
-ghost use Rattle.std.specs.Prelude.{◌≡◌, ℕ};
+ghost use Rattle.std.specs.Prelude.{◌≡◌, ℕ, IfSome};
+ghost use Rattle.std.specs.Arc.{arc_value};
 ghost use Rattle.harvester.specs.Unkept.{Comes};
 ghost use Rattle.harvest_workers.specs.Verdicts.{verdict};
 ghost use Rattle.round_standing.specs.Verdicts.{IsTold};
 ghost use Rattle.service_ledger.specs.Leads.{IsWalked};
+ghost use Rattle.round_course.specs.Fates.{Becomes, IsTakenIn};
 
 use crate::course::Course;
+use crate::fates::Fate;
 use harvest_lattice::Harvest;
 use harvest_schedule::{Mood, Turn};
 use harvest_workers::{Errand, Opened, WalkReport, WalkRules, verdict_of};
@@ -34,8 +37,11 @@ where
     P: WalkRules + Begins + NamesBase,
     L: Write + Copy,
 {
-    /// Takes in what a worker reports.
-    pub fn accept_report(&mut self, report: WalkReport<P>) {
+    /// Takes in what a worker reports: a harvest as it becomes, and without one nothing is appended.
+    pub fn accept_report(&mut self, report: WalkReport<P>)
+        ensures { IsTakenIn report.result (arc_value self.old.terms.now.settings) self.old.standing.forgetting.withdrawn
+            self.old.ledger.now.merger self.new.ledger.now.merger }
+    {
         let opened = report.open();
         match opened.errand {
             Errand::Round(turn) => {
@@ -54,6 +60,9 @@ where
     pub(crate) fn note_walk(&mut self, opened: &Opened) -> Option<u64>
         ensures told { (now : ℕ) × IsTold opened.now.errand (verdict opened.now.errand now result opened.now.result) now
             self.old.standing.schedule self.new.standing.schedule }
+        ensures ledger { self.new.ledger.now.merger ≡ self.old.ledger.now.merger }
+        ensures forgetting { self.new.standing.forgetting ≡ self.old.standing.forgetting }
+        ensures terms { self.new.terms.now.settings ≡ self.old.terms.now.settings }
     {
         let archive = opened.errand.archive();
         let asked = heeded(self.settings(), opened.asked);
@@ -75,7 +84,9 @@ where
     /// Logs, once each in a round, that an archive is dormant, and that it answers again; and, once each time, that it
     /// asked to be left alone for long.
     fn log_mood(&mut self, archive: usize, before: Option<Mood>, now: Millis)
-        ensures { self.new.standing ≡ record self.old.standing { notes = self.new.standing.notes } }
+        ensures standing { self.new.standing ≡ record self.old.standing { notes = self.new.standing.notes } }
+        ensures ledger { self.new.ledger.now.merger ≡ self.old.ledger.now.merger }
+        ensures terms { self.new.terms.now.settings ≡ self.old.terms.now.settings }
     {
         let settings = self.settings();
         let round = self.standing.number;
@@ -87,14 +98,25 @@ where
         }
     }
 
-    /// Takes in what came of a job of the round.
-    pub(crate) fn accept_round_walk(&mut self, turn: Turn, opened: Opened)
-        requires own { ∥ P.jobs opened.errand opened.job ∥₁ }
-        requires comes { ∥ Comes P.answers P.faults opened.job opened.begun opened.result opened.asked ∥₁ }
+    /// Notes how a job of the round ended. One whose archive asks to be left alone comes again, so it isn't counted.
+    fn note_job(&mut self, opened: &Opened)
+        ensures ledger { self.new.ledger.now.merger ≡ self.old.ledger.now.merger }
+        ensures forgetting { self.new.standing.forgetting ≡ self.old.standing.forgetting }
+        ensures terms { self.new.terms.now.settings ≡ self.old.terms.now.settings }
     {
-        if self.note_walk(&opened).is_none() {
+        if self.note_walk(opened).is_none() {
             self.standing.round.add_job();
         }
+    }
+
+    /// Takes in what came of a job of the round.
+    fn accept_round_walk(&mut self, turn: Turn, opened: Opened)
+        requires own { ∥ P.jobs opened.errand opened.job ∥₁ }
+        requires comes { ∥ Comes P.answers P.faults opened.job opened.begun opened.result opened.asked ∥₁ }
+        ensures { IsTakenIn opened.result (arc_value self.old.terms.now.settings) self.old.standing.forgetting.withdrawn
+            self.old.ledger.now.merger self.new.ledger.now.merger }
+    {
+        self.note_job(&opened);
         let Opened {
             errand: _,
             job,
@@ -108,35 +130,54 @@ where
         }
     }
 
-    /// Appends the harvest of a walk.
-    fn accept_harvest(&mut self, turn: Turn, harvest: Harvest)
+    /// Appends the harvest of a walk, unless it is barred. Returns what becomes of it.
+    fn accept_harvest(&mut self, turn: Turn, harvest: Harvest) -> Fate
         requires { ∥ IsWalked P.jobs P.answers P.faults harvest ∥₁ }
+        ensures { Becomes result (arc_value self.old.terms.now.settings) self.old.standing.forgetting.withdrawn harvest
+            self.old.ledger.now.merger self.new.ledger.now.merger }
     {
-        if !self.may_accept(&harvest) {
-            return;
+        if let Some(fate) = self.barred(&harvest) {
+            return fate;
         }
         if is_emptied(self.ledger.merger(), &harvest) {
             self.standing.notes.add_emptied(turn.archive);
         }
         match self.ledger.append_walked(harvest) {
-            Ok(()) => self.standing.round.add_harvest(),
-            Err(_) => self.standing.notes.add_unkept(),
+            Ok(()) => {
+                self.standing.round.add_harvest();
+                Fate::Appended
+            }
+            Err(_) => {
+                self.standing.notes.add_unkept();
+                Fate::NoMemory
+            }
         }
     }
 
-    /// Whether a harvest may be taken: it isn't withdrawn, and isn't too far ahead of the clock, which was set back
-    /// since. One that is ahead is counted.
-    pub(crate) fn may_accept(&mut self, harvest: &Harvest) -> bool {
+    /// What becomes of a harvest that may not be taken: it is withdrawn, or too far ahead of the clock, which was set
+    /// back since. One that is ahead is counted.
+    pub(crate) fn barred(&mut self, harvest: &Harvest) -> Option<Fate>
+        ensures fate { IfSome result (λ fate. Becomes fate (arc_value self.old.terms.now.settings)
+            self.old.standing.forgetting.withdrawn harvest.now self.old.ledger.now.merger self.new.ledger.now.merger) }
+        ensures ledger { self.new.ledger.now.merger ≡ self.old.ledger.now.merger }
+        ensures terms { self.new.terms.now.settings ≡ self.old.terms.now.settings }
+    {
+        let standing = &self.standing;
+        if standing.is_withdrawn(harvest.archive(), harvest.original()) {
+            return Some(Fate::Withdrawn);
+        }
         let last = self.last_taken();
-        !self
-            .standing
-            .is_withdrawn(harvest.archive(), harvest.original())
-            && !self.standing.is_left_out(harvest, last)
+        if self.standing.is_left_out(harvest, last) {
+            Some(Fate::Ahead)
+        } else {
+            None
+        }
     }
 
     /// Logs how many harvests weren't taken since the last round, if there were some.
     pub(crate) fn log_left_out(&mut self, round: u64)
-        ensures { self.new.standing ≡ record self.old.standing { left_out = 0 } }
+        ensures standing { self.new.standing ≡ record self.old.standing { left_out = 0 } }
+        ensures ledger { self.new.ledger.now.merger ≡ self.old.ledger.now.merger }
     {
         let count = self.standing.take_left_out();
         self.console.log_wanting(round, count, Want::Clock);

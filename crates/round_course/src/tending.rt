@@ -1,6 +1,8 @@
 //! What is due while rounds are made: publishes, snapshots, and lines of the log.
-ghost use Rattle.std.specs.Prelude.{◌≡◌};
+ghost use Rattle.std.specs.Prelude.{◌≡◌, ℕ, Bool, false, true};
 ghost use Rattle.round_values.specs.Counts.{round_after};
+ghost use Rattle.round_values.specs.Dues.{IsDue};
+ghost use Rattle.round_course.specs.Publishes.{Publishes};
 
 use crate::course::Course;
 use harvest_workers::WalkRules;
@@ -36,7 +38,15 @@ where
     }
 
     /// Publishes what the round brought so far, where that is due.
-    pub fn publish_round(&mut self) {
+    pub fn publish_round(&mut self)
+        ensures none { self.old.standing.round.pending ≡ false
+            → self.new.ledger.now.merger ≡ self.old.ledger.now.merger }
+        ensures due { self.old.standing.round.pending ≡ true → (now : ℕ)
+            × (IsDue self.old.standing.dues.publish now → (published : Bool)
+            × Publishes published self.old.ledger.now.merger self.new.ledger.now.merger)
+            × ((¬ IsDue self.old.standing.dues.publish now)
+            → self.new.ledger.now.merger ≡ self.old.ledger.now.merger) }
+    {
         let now = self.now();
         if self.standing.round.pending && self.standing.dues.publish.is_due(now) {
             self.standing.dues.publish.done(now);
@@ -44,9 +54,11 @@ where
         }
     }
 
-    /// Publishes what is pending, and keeps it where that is due. Returns what the round has come to by then.
+    /// Publishes what is pending, has forgotten what is beyond what is wanted, and writes a snapshot, where that is
+    /// due. Returns what the round has come to by then.
     pub fn publish(&mut self) -> Round
-        ensures { result ≡ round_after result.published self.old.standing.round }
+        ensures counts { result ≡ round_after result.published self.old.standing.round }
+        ensures merger { Publishes result.published self.old.ledger.now.merger self.new.ledger.now.merger }
     {
         let is_appended = self.standing.has_pending();
         let (number, log) = (self.standing.number, self.console.log);
@@ -64,14 +76,16 @@ where
         self.standing.note_publish(end, now);
         self.book_room();
         self.console.show_behind(&self.standing.keeping);
-        self.tend_forgetting();
+        let _ = self.tend_forgetting();
         self.tend_snapshot();
         round
     }
 
     /// Notes whether something is shown, or nobody can be learnt from: then the gates are ready once no part is to
     /// come.
-    fn note_learnt(&mut self) {
+    fn note_learnt(&mut self)
+        ensures ledger { self.new.ledger.now.merger ≡ self.old.ledger.now.merger }
+    {
         let settings = self.settings();
         let jobs = self.standing.jobs(settings);
         let pulls = self.standing.round.pulls;
@@ -84,7 +98,9 @@ where
 
     /// The gates are ready once something was learnt, and no part of a peer's delta is to come: before its last part
     /// came, not all is known that the peer has. A part that doesn't come for one patience isn't waited for.
-    pub fn tend_ready(&mut self) {
+    pub fn tend_ready(&mut self)
+        ensures ledger { self.new.ledger.now.merger ≡ self.old.ledger.now.merger }
+    {
         let patience = self.settings().patience.saturating_mul(1_000);
         let now = self.now();
         if self.standing.has_learnt && !self.standing.peers.are_unfinished(now, patience) {
@@ -95,7 +111,9 @@ where
     }
 
     /// Writes a snapshot, where one is due.
-    pub fn tend_snapshot(&mut self) {
+    pub fn tend_snapshot(&mut self)
+        ensures ledger { self.new.ledger.now.merger ≡ self.old.ledger.now.merger }
+    {
         let now = self.now();
         if self.standing.keeping.is_due(now) {
             self.keep();
@@ -103,7 +121,9 @@ where
     }
 
     /// Writes a snapshot, if the settings ask for one and it would have more than the last one.
-    pub fn keep(&mut self) {
+    pub fn keep(&mut self)
+        ensures ledger { self.new.ledger.now.merger ≡ self.old.ledger.now.merger }
+    {
         let Some(path) = &self.settings().storing.snapshot else {
             return;
         };
@@ -125,14 +145,18 @@ where
     }
 
     /// Shows each second how much memory is held, and how many wishes came too late.
-    pub fn show_memory(&mut self) {
+    pub fn show_memory(&mut self)
+        ensures ledger { self.new.ledger.now.merger ≡ self.old.ledger.now.merger }
+    {
         let now = self.now();
         let shown = self.standing.measured;
         self.standing.measured = self.console.show_memory(shown, &self.shared.book, now);
     }
 
     /// Shows what a publish came to, and once a minute how much is known.
-    fn show_publish(&mut self, is_published: bool) {
+    fn show_publish(&mut self, is_published: bool)
+        ensures ledger { self.new.ledger.now.merger ≡ self.old.ledger.now.merger }
+    {
         let now = self.now();
         let counted = self.standing.counted;
         if self.console.show_publish(is_published, counted, now) {
@@ -141,7 +165,9 @@ where
     }
 
     /// Shows how much is published.
-    fn count_known(&mut self) {
+    fn count_known(&mut self)
+        ensures ledger { self.new.ledger.now.merger ≡ self.old.ledger.now.merger }
+    {
         let unlisted = self.standing.forgetting.mementos();
         self.console.show_known(self.ledger.merger(), unlisted);
         let now = self.now();
@@ -149,7 +175,9 @@ where
     }
 
     /// Shows that a round is over, and how much is known.
-    pub(crate) fn show_round(&mut self) {
+    pub(crate) fn show_round(&mut self)
+        ensures ledger { self.new.ledger.now.merger ≡ self.old.ledger.now.merger }
+    {
         self.show_progress();
         self.show_memory();
         if self.console.show_round() {
