@@ -28,10 +28,9 @@ pub one_more_written : (start old now : Option (List ℕ)) (count number : ℕ) 
 one_more_written start old now count number round next (made, is, before) line =
     let at : number ≡ 1 + length made = omega (arith, next, is) in
     let longer : length (made ++ round ∷ []) ≡ count + 1 = length-append made (round ∷ []) ∙ ap (λ (n : ℕ). n + 1) is in
-    let line_at = subst (λ (k : ℕ). Appends old now (round_line k round)) at line in
-    (
+    let line_at = subst (λ (k : ℕ). Appends old now (round_line k round)) at line in (
       made ++ round ∷ [],
       longer,
       subst (Appends start now) (sym (lines_more 1 made round))
-      (Appends-trans start old now (round_lines 1 made) (round_line (1 + length made) round) before line_at),
+          (Appends-trans start old now (round_lines 1 made) (round_line (1 + length made) round) before line_at),
     )

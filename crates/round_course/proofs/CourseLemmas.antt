@@ -15,6 +15,6 @@ taken_in r h s t w v m k n fate came settings withdrawn merger becomes =
     subst (λ (it : Result Harvested WalkFault). IsTakenIn it s w m n) (sym came) (
       fate,
       subst (λ (it : Settings). Becomes fate it w h m n) settings
-      (subst (λ (it : Option Withdrawal). Becomes fate t it h m n) withdrawn
-      (subst (λ (it : MergerView). Becomes fate t v h it n) merger becomes)),
+          (subst (λ (it : Option Withdrawal). Becomes fate t it h m n) withdrawn
+          (subst (λ (it : MergerView). Becomes fate t v h it n) merger becomes)),
     )
