@@ -9,7 +9,10 @@ use Rattle.aggregator_service.specs.Lines.{round_lines}
 -- with one round more there is one line more
 lines_more : (number : ℕ) (made : List Round) (round : Round)
     → round_lines number (made ++ round ∷ []) ≡ round_lines number made ++ round_line (number + length made) round
-lines_more number [] round = append-nil (round_line number round)
+unfolding round_lines
+lines_more number [] round =
+    let first : number ≡ number + length {A = Round} [] = omega (arith) in
+    append-nil (round_line number round) ∙ ap (λ (k : ℕ). round_line k round) first
 lines_more number (first ∷ made) round =
     let next : number + 1 + length made ≡ number + length (first ∷ made) = omega (arith) in
     ap (λ (rest : List ℕ). round_line number first ++ rest) (lines_more (number + 1) made round)
@@ -21,6 +24,7 @@ abbrev pub AreWritten : Option (List ℕ) → Option (List ℕ) → ℕ → Type
 AreWritten start now count = (made : List Round) × (length made ≡ count) × Appends start now (round_lines 1 made)
 
 pub none_written : (start : Option (List ℕ)) → AreWritten start start 0
+unfolding round_lines
 none_written start = ([], refl, Appends-nil start)
 
 pub one_more_written : (start old now : Option (List ℕ)) (count number : ℕ) (round : Round) → number ≡ count + 1

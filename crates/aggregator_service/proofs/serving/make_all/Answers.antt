@@ -1,3 +1,4 @@
+use Rattle.std.proofs.Common.{rules}
 use Rattle.aggregator_service.proofs.LinesLemmas.{none_written, one_more_written}
 use Rattle.aggregator_service.proofs.serving.make_all.Goals as goal
 
