@@ -188,6 +188,8 @@ def try_most(folder):
         same("what is known is shown as before", service.shows(asked[1]), memento(asked[1]))
         until("the oldest is forgotten", lambda: asked[0] not in unlisted(service, LISTED))
         same("the younger one isn't", service.shows(asked[1]), memento(asked[1]))
+        until("the log tells that one entry went and two are kept", lambda: re.findall(
+            r"forgotten: (\d+) entries, kept: (\d+),", (folder / "log").read_text())[:1] == [("1", "2")])
         until("a snapshot is written that has it", lambda: asked[1].encode() in (folder / "most").read_bytes()
               and asked[0].encode() not in (folder / "most").read_bytes())
         fourth = "http://fourth.example/"

@@ -12,7 +12,7 @@ import subprocess
 import tempfile
 
 from playing import (BASE, ENVIRONMENT, ORIGINAL, TOP, NoGate, Played, Service, comes_true, compiled, dead_ports, delta, free_ports, get, holds, link,
-                     reply, same, slow, told)
+                     originals, reply, same, slow, told)
 
 BAD_MACHINE = 3
 OTHER = "http://b.example/"
@@ -214,6 +214,18 @@ def try_busy():
               len(told_of) == 1 and told_of[0] and 870 <= int(told_of[0][1]) <= 900)
 
 
+def try_reasons():
+    """An archive that fails in three ways: each is told in its own words, and how often it was."""
+    with contextlib.ExitStack() as stack:
+        answers = [reply("x", "Content-Encoding: gzip")] + 2 * [reply("<")] + 3 * [reply(status=500)]
+        archive = Played(stack, lambda _: answers.pop())
+        service = serve(stack, True, archives=[("odd.example", archive.address)], originals=originals(len(answers)), workers=1, logged=True,
+                        keys={"log": True, "tolerance": 9})
+        lines = service.logs_until("no page of a TimeMap")
+        same("each reason is told with how often it was", [line.rpartition("odd.example: ")[2] for line in lines if " failed: " in line],
+             ["3 failed: another status than 200 and 404\n", "1 failed: a content coding\n", "2 failed: no page of a TimeMap\n"])
+
+
 def try_wishes():
     """Walks for wishes that fail between rounds."""
     with contextlib.ExitStack() as stack:
@@ -228,6 +240,7 @@ def try_wishes():
 def main():
     try_ready_at_last()
     try_busy()
+    try_reasons()
     try_wishes()
     for log in (True, False, None):
         for attempt in (try_rounds, try_gates, try_output, try_refusals):

@@ -16,7 +16,7 @@ import threading
 import time
 
 from playing import (BASE, ENVIRONMENT, GOOD, MEMENTO, ORIGINAL, PATIENCE, PROGRAM, TOP, Played, comes_true, dead_ports, holds, link, needs, reply,
-                     same, settings_text, silent, until)
+                     same, settings_text, silent, slow, until)
 
 MISSING = reply(status=404)
 JAN, FEB, MAR = [f"{day} Jan 2000 00:00:00 GMT" for day in ("Sat, 01", "Wed, 05", "Sun, 09")]
@@ -258,6 +258,13 @@ def paced(stack, folder):
     holds(f"with a rest before each but the first, {asked[-1] - begun:.2f} s in all", len(asked) == 4 and min(late) >= 0)
 
 
+def given_up(stack, folder):
+    """A walk that takes longer than the key `walk` says is given up."""
+    (late,) = played(stack, late=slow(3))
+    same("an archive is waited for", run("timegate", settings(folder, [late]), ORIGINAL), (0, f"{MEMENTO}\n", ""))
+    same("and no longer than a walk may take", run("timegate", settings(folder, [late], walk=1), ORIGINAL), (4, "\n", "late.example: no answer\n"))
+
+
 def closed_pipes(stack, folder):
     """Whoever reads only the begin of the answers ends the program, which says so in a line at most."""
     is_closed = threading.Event()
@@ -338,7 +345,7 @@ def words_of_its_own():
 def main():
     words_of_its_own()
     for trial in (one_original, outcomes, bad_words, a_list, no_further_than_needed, left_alone, asked_again, paced,
-                  closed_pipes, at_a_terminal):
+                  given_up, closed_pipes, at_a_terminal):
         with contextlib.ExitStack() as stack:
             trial(stack, pathlib.Path(stack.enter_context(tempfile.TemporaryDirectory())))
     print("questions without a service were answered on standard output, each with its status, and what failed was told beside it")

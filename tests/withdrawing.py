@@ -212,8 +212,23 @@ def try_stale(folder):
         until("and what was withdrawn is shown", lambda: service.shows(LISTED[1]))
 
 
+def try_parts(folder):
+    """A gate that answers with parts goes on doing so once something is withdrawn, and has no part with it."""
+    with contextlib.ExitStack() as stack:
+        archive, file = Archive(stack), Withdrawn(folder / "parts")
+        service = Service(stack, archives=[("arc", archive.address)], originals=LISTED, ports=(0,), rounds=MANY, pause=1,
+                          keys={"parts": 1, "again": 86_400, "withdrawn_file": str(file.path)})
+        until("what is listed is shown", lambda: all(service.shows(original) for original in LISTED))
+        holds("the first part has it", f" {LISTED[3]}\n" in service.get("/part")[2])
+        file.write(f"original {LISTED[3]}")
+        until("what is withdrawn isn't", lambda: service.shows(LISTED[3]) is None)
+        status, _, text = service.get("/part")
+        same("the first part is given still", status, 200)
+        same("without what is withdrawn", [f" {original}\n" in text for original in LISTED[2:]], [True, False])
+
+
 def main():
-    for attempt in (try_lines, try_before_a_start, try_one_replica, try_files, try_held, try_pending, try_stale):
+    for attempt in (try_lines, try_before_a_start, try_one_replica, try_files, try_held, try_pending, try_stale, try_parts):
         with tempfile.TemporaryDirectory() as folder:
             attempt(pathlib.Path(folder))
     print("what was withdrawn was gone, and what wasn't stayed")

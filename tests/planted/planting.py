@@ -1,8 +1,8 @@
 """What `run` and `both` share: lists of what is planted, copies of the repository in which rt runs, where the tests of a crate are
 (in crates of tests, or else in the crate itself), and which planted bugs were tried.
 
-`round_values`, `service_threads`, `round_standing`, `round_course` and `aggregator_service` have no tests in Rattle: `tests/rounds`,
-`tests/settings` and `tests/log` try them as they run."""
+`service_threads`, `round_standing`, `round_course` and `aggregator_service` have no tests in Rattle, and `round_values` has them of its
+wishes alone: `tests/rounds`, `tests/settings` and `tests/log` try them as they run."""
 import contextlib
 import fcntl
 import hashlib
@@ -26,7 +26,7 @@ TESTS = {
     "harvest_workers": ("harvest_workers",),
     "part_tests": ("delta_parts",),
     "snapshot_tests": ("snapshot_sections", "snapshots"),
-    "wish_tests": ("wish_list", "original_sets", "original_list", "wishing_gates"),
+    "wish_tests": ("wish_list", "original_sets", "original_list", "wishing_gates", "round_values"),
 }
 
 # Tests that take longer without a proof than `rt try` waits: they say nothing of a bug.

@@ -54,3 +54,27 @@ fn an_original_is_as_old_as_its_last_harvest_by_any_archive(rt: HostRuntime) -> 
     assert!(rt; rest.wanted.has(&Key::new(&a)?) && !rest.wanted.has(&Key::new(&b)?));
     Ok(())
 }
+
+/// All five were looked at in one second, so none is older than another: as many stay as there is room for.
+#[test]
+fn of_one_second_as_many_stay_as_there_is_room_for(rt: HostRuntime) -> Result<()> {
+    let alloc = rt.alloc();
+    let mut state = State::new(alloc);
+    for address in [
+        A,
+        B,
+        b"http://c.example/",
+        b"http://d.example/",
+        b"http://e.example/",
+    ] {
+        state.merge(&harvest(alloc, b"a1", address, 100, Vec::new(alloc))?)?;
+    }
+    for (room, floor) in [(3, 101), (5, 0)] {
+        let rest = remainder(alloc, &state, room, RandomState::new(&rt)?)?;
+        assert!(rt;
+            rest.state.len() as u64 == room && rest.floor == floor,
+            "{room}"
+        );
+    }
+    Ok(())
+}

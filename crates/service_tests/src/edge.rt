@@ -6,17 +6,18 @@ use harvester::{Answer, Fetch, FetchFault, WalkProgress};
 use hyper_edge::{Answers, GateService, HyperFetch, Readiness, ReadyGate, bind, serve_gate};
 use knowledge_tests::makers::get;
 use memento_time::{Clean, Items, Octets};
-use outgoing_requests::{Agent, CarefulFetch, FetchLimits, Patience};
+use outgoing_requests::{Agent, CarefulFetch, FetchLimits, Patience, PullFault, is_allowed};
 use published_index::GateFault;
 use std::alloc::{AllocGlobal, Global};
 use std::io::{self, BufRead, BufReader, Write};
-use std::net::{Net, TcpListener, TcpStream};
+use std::net::{IpAddr, Ipv6Addr, Net, TcpListener, TcpStream};
 use std::random::RandomSource;
 use std::sync::Wait;
 use std::thread::{self, Threads};
 use std::time::{Clock, Duration, Instant};
 use text_tests::makers::clean;
 use timegate::{Reply, Request};
+use url::Host;
 
 /// Has memory for no answer.
 #[derive(Drop)]
@@ -259,8 +260,8 @@ fn answer_late(rt: &(impl Clock + AllocGlobal), listener: &TcpListener) -> io::R
     Ok(())
 }
 
-/// Whether a page that comes late is fetched in a walk that began just now.
-fn is_fetched_late<R>(rt: &R, limits: FetchLimits) -> Result<bool>
+/// Whether a page that comes late is fetched in a walk that began just now, and in which so many pages were tried.
+fn is_fetched_late<R>(rt: &R, limits: FetchLimits, tried: usize) -> Result<bool>
 where
     R: Threads
         + Sync
@@ -274,7 +275,7 @@ where
     let url = url_at(rt.alloc(), listener.local_addr()?.port())?;
     let progress = WalkProgress {
         begun: Instant::now(rt).ok(),
-        tried: 1,
+        tried,
     };
     let fetch = limited(limits);
     let (answered, fetched) = thread::join(
@@ -289,12 +290,14 @@ where
 #[test]
 fn slow_bodies_are_given_up(rt: HostRuntime) -> Result<()> {
     let mut limits = FetchLimits::default();
-    assert!(rt; is_fetched_late(&rt, limits)?);
+    assert!(rt; is_fetched_late(&rt, limits, 1)?);
     limits.rate = Some(100);
-    assert!(rt; !is_fetched_late(&rt, limits)?);
+    assert!(rt; !is_fetched_late(&rt, limits, 1)?);
     limits.rate = None;
     limits.walk = Some(1);
-    assert!(rt; !is_fetched_late(&rt, limits)?);
+    for tried in [0, 1] {
+        assert!(rt; !is_fetched_late(&rt, limits, tried)?, "{tried}");
+    }
     Ok(())
 }
 
@@ -316,5 +319,32 @@ fn a_walk_pauses_and_ends(rt: HostRuntime) -> Result<()> {
     progress.begun = Some(paused);
     assert!(rt; limited(limits).fetch_in_walk(&rt, &url, progress).is_err());
     assert!(rt; Instant::now(&rt)?.duration_since(paused) < Duration::from_secs(60));
+    Ok(())
+}
+
+/// A delta of a peer that is too long isn't told as one that can't be read.
+#[test]
+fn what_a_fetch_lacks_a_pull_lacks(rt: HostRuntime) -> Result<()> {
+    for (fetched, pulled) in [
+        (FetchFault::Failed, PullFault::Failed),
+        (FetchFault::Broken, PullFault::Failed),
+        (FetchFault::TooLong, PullFault::TooLong),
+        (FetchFault::NoMemory, PullFault::NoMemory),
+    ] {
+        assert_eq!(rt; PullFault::from(fetched), pulled);
+    }
+    Ok(())
+}
+
+/// A listed host that is an IPv6 address leads there, be it internal or not, and nowhere else.
+#[test]
+fn an_address_leads_to_itself_alone(rt: HostRuntime) -> Result<()> {
+    for last in [1, 2] {
+        let own = Ipv6Addr::new(0, 0, 0, 0, 0, 0, 0, last);
+        let host: Host<&str> = Host::Ipv6(own);
+        assert!(rt; is_allowed(&host, IpAddr::V6(own)), "{last}");
+        let other = Ipv6Addr::new(0x2001, 0xdb8, 0, 0, 0, 0, 0, last);
+        assert!(rt; !is_allowed(&host, IpAddr::V6(other)), "{last}");
+    }
     Ok(())
 }

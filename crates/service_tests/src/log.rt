@@ -3,7 +3,7 @@ use anyhow::{Context, Result};
 use harvest_lattice::Harvest;
 use harvester::WalkFault;
 use memento_time::{ArchiveName, Original};
-use service_log::{Cause, Counts, Line, Matter, name_text, write_line};
+use service_log::{Cause, Counts, Line, Matter, WishCounts, name_text, write_line};
 
 const NAME: &[u8] = b"arc.example";
 
@@ -51,5 +51,23 @@ fn walks_are_counted_by_their_ends(rt: HostRuntime) -> Result<()> {
         parts: 1,
     };
     assert!(rt; counts == expected);
+    Ok(())
+}
+
+#[test]
+fn how_many_wishes_are_found_is_told_first(rt: HostRuntime) -> Result<()> {
+    for (failed, told) in [
+        (0, "log: wishes: 2 of 3 found\n"),
+        (4, "log: wishes: 2 of 3 found, 4 walks failed\n"),
+    ] {
+        let counts = WishCounts {
+            found: 2,
+            ended: 3,
+            failed,
+        };
+        let mut log = Vec::new(rt.alloc());
+        write_line(rt.alloc(), Line::Wishes(counts), &mut log)?;
+        assert!(rt; log.as_slice() == told.as_bytes(), "{told}");
+    }
     Ok(())
 }

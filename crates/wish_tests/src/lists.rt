@@ -1,7 +1,7 @@
 //! Tests of sets and lists of originals.
 use anyhow::{Context, Result};
 use memento_time::Original;
-use original_list::{Row, bad_entry, each_once, read_list, row_of, spellings_of};
+use original_list::{Row, bad_entry, each_once, read_list, read_withdrawn, row_of, spellings_of};
 use original_sets::{Key, OriginalSet};
 use std::alloc::Global;
 use std::hash::RandomState;
@@ -96,6 +96,48 @@ fn a_text_has_originals_and_bad_lines(rt: HostRuntime) -> Result<()> {
         )
     );
     assert!(rt; listed.bad.as_slice() == [3, 5].as_slice() && listed.bad_count == 2);
+    Ok(())
+}
+
+#[test]
+fn what_is_withdrawn_is_read_by_its_kind(rt: HostRuntime) -> Result<()> {
+    let alloc = rt.alloc();
+    let withdrawn = read_withdrawn(
+        alloc,
+        b"# asked for by mail
+archive arc.example
+prefix https://a.example/x
+original http://b.example/
+
+prefix http://a.example/
+prefix http://a.example
+prefix ftp://a.example/
+archive /",
+    )
+    .ok()
+    .context("not read")?;
+    assert!(rt; withdrawn.archives.len() == 1);
+    assert!(rt; are(&withdrawn.originals, &[b"http://b.example/"]));
+    let prefixes = [b"https://a.example/x".as_slice(), b"http://a.example/"];
+    assert!(rt; withdrawn.prefixes.len() == 2);
+    for (prefix, text) in withdrawn.prefixes.iter().zip(&prefixes) {
+        assert!(rt; prefix.as_bytes() == *text);
+    }
+    assert!(rt; withdrawn.bad.as_slice() == [7, 8, 9].as_slice() && withdrawn.bad_count == 3);
+    Ok(())
+}
+
+/// Of lines that name nothing the first 20 are told by their numbers, and all are counted.
+#[test]
+fn more_lines_that_name_nothing_are_counted_than_told(rt: HostRuntime) -> Result<()> {
+    let alloc = rt.alloc();
+    let mut text = Vec::new(alloc);
+    for _ in 0..23 {
+        text.extend_from_slice(b"\nx")?;
+    }
+    let withdrawn = read_withdrawn(alloc, &text).ok().context("not read")?;
+    assert!(rt; withdrawn.bad.len() == 20 && withdrawn.bad_count == 23);
+    assert!(rt; withdrawn.bad.first() == Some(&2) && withdrawn.bad.last() == Some(&21));
     Ok(())
 }
 
