@@ -1,7 +1,7 @@
 //! Tests of `service_settings`: what is read, what stands there by default, and which fault is told. More of what is
 //! read is tried by programs, in `tests/settings` and `tests/rounds`.
 use service_settings::{
-    Holding, Key, Settings, SettingsFault, bad_original, read_settings, shown, unknown_keys,
+    Holding, Key, Settings, SettingsFault, Timing, bad_original, read_settings, shown, unknown_keys,
 };
 use std::alloc::Global;
 use std::test::Fail;
@@ -90,10 +90,21 @@ fn what_is_told_is_plain(rt: HostRuntime) -> Result<(), Fail> {
     Ok(())
 }
 
+fn read_whole(alloc: Global, text: &str) -> Result<Settings, Fail> {
+    Ok(read_settings(alloc, text)?)
+}
+
 /// What is read of these lines and all that must stand beside them.
 fn read(alloc: Global, lines: &str) -> Result<Settings, Fail> {
     let text = format!(in alloc; "originals = [\"http://a.example/\"]\n{lines}{REST}")?;
-    Ok(read_settings(alloc, &text)?)
+    read_whole(alloc, &text)
+}
+
+/// What these lines say of times.
+fn timing_of(alloc: Global, lines: &str) -> Result<Timing, Fail> {
+    let settings = read(alloc, lines)?;
+    let timing = settings.timing;
+    Ok(timing)
 }
 
 #[test]
@@ -164,8 +175,7 @@ fn again_is_also_for_what_has_no_copies(rt: HostRuntime) -> Result<(), Fail> {
         ("again = 15\n", Some(15), Some(15)),
         ("again_none = 16\n", None, Some(16)),
     ] {
-        let settings = read(rt.alloc(), line)?;
-        let timing = settings.timing;
+        let timing = timing_of(rt.alloc(), line)?;
         assert_eq!(rt; (timing.again, timing.again_none), (again, again_none));
     }
     Ok(())
@@ -189,7 +199,8 @@ archives = [
     { name = "c.example", timemap = "http://127.0.0.1:8102/list/" },
 ]
 "#;
-    let settings = read_settings(rt.alloc(), text)?;
-    assert_eq!(rt; settings.asking.at_once, 2);
+    let settings = read_whole(rt.alloc(), text)?;
+    let asking = settings.asking;
+    assert_eq!(rt; asking.at_once, 2);
     Ok(())
 }
