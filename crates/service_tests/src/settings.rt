@@ -90,14 +90,17 @@ fn what_is_told_is_plain(rt: HostRuntime) -> Result<(), Fail> {
     Ok(())
 }
 
-fn read_whole(alloc: Global, text: &str) -> Result<Settings, Fail> {
-    Ok(read_settings(alloc, text)?)
-}
-
 /// What is read of these lines and all that must stand beside them.
 fn read(alloc: Global, lines: &str) -> Result<Settings, Fail> {
     let text = format!(in alloc; "originals = [\"http://a.example/\"]\n{lines}{REST}")?;
-    read_whole(alloc, &text)
+    Ok(read_settings(alloc, &text)?)
+}
+
+/// How many threads walk an archive at once, by these settings.
+fn at_once_of(alloc: Global, text: &str) -> Result<u64, Fail> {
+    let settings = read_settings(alloc, text)?;
+    let asking = settings.asking;
+    Ok(asking.at_once)
 }
 
 /// What these lines say of times.
@@ -199,8 +202,6 @@ archives = [
     { name = "c.example", timemap = "http://127.0.0.1:8102/list/" },
 ]
 "#;
-    let settings = read_whole(rt.alloc(), text)?;
-    let asking = settings.asking;
-    assert_eq!(rt; asking.at_once, 2);
+    assert_eq!(rt; at_once_of(rt.alloc(), text)?, 2);
     Ok(())
 }
