@@ -16,6 +16,8 @@ from playing import BASE, PATIENCE, Played, Service, comes_true, free_ports, get
 
 MANY = 1_000_000    # rounds, for a service that is to go on until it is killed
 WANTED = 5
+# After how many seconds each replica knows what the other forgot or learnt, which pull from each other each second.
+SETTLED = 4
 LISTED = originals(4, "listed.example")
 
 
@@ -112,6 +114,18 @@ def listens(service, gate):
     return False
 
 
+def ask_slowly(replicas, asked):
+    """Asks one replica and then the other for each of these originals, six a second at most. When it began to ask for each, and when
+    that was shown."""
+    times = {}
+    for number, original in enumerate(asked):
+        begun = time.monotonic()
+        wish(replicas[number % 2], original)
+        times[original] = begun, time.monotonic()
+        time.sleep(max(0.0, begun + 1 / 6 - time.monotonic()))
+    return times
+
+
 def try_two_replicas(folder):
     with contextlib.ExitStack() as stack:
         archive = Archive(stack)
@@ -119,15 +133,17 @@ def try_two_replicas(folder):
         texts = {original: replicas[0].get("/timemap/link/" + original)[2] for original in LISTED}
         readers = Readers([replica.ports[0] for replica in replicas], texts)
         asked = originals(50, "asked.example")
-        waits = [wish(replicas[number % 2], original) for number, original in enumerate(asked)]
-        holds(f"50 originals are shown one after the other, after {max(waits):.2f} s at most", max(waits) < 15)
+        times = ask_slowly(replicas, asked)
+        gone = {original for original, (_, shown) in times.items()
+                if sum(begun > shown + SETTLED for begun, _ in times.values()) > WANTED}
+        holds(f"50 originals are shown one after the other, and {len(gone)} of them are too old to be kept", len(gone) >= 10)
         # What one has forgotten and the other not comes once more, if it is young.
         until("both replicas know no more than is wanted for three seconds", lambda: is_steady(replicas))
         most, back = 0, set()
         for _ in range(20):
             for replica in replicas:
                 known = unlisted(replica, LISTED)
-                most, back = max(most, len(known)), back | known & set(asked[:30])
+                most, back = max(most, len(known)), back | known & gone
             time.sleep(0.5)
         holds(f"and in ten pulls it stays so: {most} at most", most <= WANTED)
         same("nothing that was forgotten came back", back, set())

@@ -1,10 +1,12 @@
 //! The thread of the rounds at work: it makes rounds, and hands out their jobs.
+ghost use Rattle.std.specs.Prelude.{◌≡◌};
+
 use crate::taking::Heard;
 use harvest_workers::{Assignment, WalkRules};
 use harvester::SocketRuntime;
 use part_gates::NamesBase;
-use round_course::{Course, TICK};
-use round_values::Round;
+use round_course::{Course, EndedRound, TICK};
+use round_pulls::pull_all;
 use service_ledger::Begins;
 use service_settings::Settings;
 use service_threads::{Pool, Pullers};
@@ -48,12 +50,14 @@ where
 {
     /// Makes the round with this number, and logs what went wrong. What is refused for lack of memory isn't
     /// appended and isn't counted.
-    pub(crate) fn make(&mut self, number: u64) -> Round {
+    pub(crate) fn make(&mut self, number: u64) -> EndedRound
+        ensures { result.number ≡ number }
+    {
         self.course.begin_round(number);
         self.harvest();
         self.course.log_round(number);
         if !self.pullers.are_some() {
-            self.course.pull_all();
+            pull_all(&mut self.course);
         } else if self.course.settings().timing.pull.is_none() {
             self.pull_beside();
         }

@@ -4,6 +4,7 @@ use harvest_workers::WalkRules;
 use harvester::SocketRuntime;
 use part_gates::NamesBase;
 use round_course::TICK;
+use round_pulls::{accept_pull, ask_peers};
 use round_values::Millis;
 use service_ledger::Begins;
 use service_log::{Greeting, Line};
@@ -28,7 +29,7 @@ where
             .course
             .now()
             .after(settings.patience.saturating_mul(1_000));
-        self.course.ask_peers(self.pullers);
+        ask_peers(&mut self.course, self.pullers);
         let gave = self.accept_greetings(end);
         let greeting = Greeting {
             gave,
@@ -51,7 +52,7 @@ where
             };
             let peer = answer.peer;
             let gave_before = self.course.standing.peers.has_news(peer);
-            self.accept_pulled(answer);
+            accept_pull(&mut self.course, self.pullers, answer);
             if !gave_before && self.course.standing.peers.has_news(peer) {
                 gave = gave.saturating_add(1);
             }
@@ -81,21 +82,13 @@ where
 
     /// Pulls each peer, and waits until each has answered. Wishes go on meanwhile.
     pub(crate) fn pull_beside(&mut self) {
-        self.course.ask_peers(self.pullers);
+        ask_peers(&mut self.course, self.pullers);
         for _ in self.course.rt.forever() {
             if !self.course.standing.peers.are_pulled() {
                 return;
             }
             let _ = self.serve_wishes(TICK);
             self.tend_peers();
-        }
-    }
-
-    /// Takes in what a peer gave, and asks it for the next part, if it gave one.
-    pub(crate) fn accept_pulled(&mut self, answer: PullAnswer) {
-        let peer = answer.peer;
-        if self.course.accept_pull(answer) && self.course.steps_on(peer) {
-            self.course.ask_peer(self.pullers, peer);
         }
     }
 }

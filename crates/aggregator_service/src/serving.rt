@@ -1,5 +1,5 @@
 //! Serves: gates in threads of their own, and rounds in the caller's thread.
-ghost use Rattle.std.specs.Prelude.{◌≡◌, ◌&&◌, ℕ, All, IfOk, List, OnOk, is_some, length, true};
+ghost use Rattle.std.specs.Prelude.{◌≡◌, ◌&&◌, ◌||◌, ℕ, All, IfOk, List, OnOk, is_some, length, true};
 ghost use Rattle.std.specs.Io.KnownBytes.{Appends};
 ghost use Rattle.std.specs.Arc.{arc_value};
 ghost use Rattle.service_threads.specs.Jobs.{Covers};
@@ -18,10 +18,10 @@ use harvest_workers::WalkRules;
 use harvester::SocketRuntime;
 use part_gates::{NamesBase, PartGate, part_gates};
 use published_index::{Gate, Merger, open};
-use round_course::Course;
+use round_course::{Course, EndedRound};
 use round_standing::{Console, Standing};
 use round_values::{
-    Keeping, Log, Millis, Round, Stopwatch, incarnation_now, last_taken, second_now, shuffle,
+    Keeping, Log, Millis, Stopwatch, incarnation_now, last_taken, second_now, shuffle,
 };
 use service_ledger::{Begins, Ledger};
 use service_log::Line;
@@ -111,7 +111,9 @@ fn secret_keys<R: RandomSource>(
     rt: &R,
     settings: &Settings,
 ) -> Result<Option<RandomState>, ServeFault>
-    ensures { IfOk result (λ keys. asking.forgets settings.now ≡ true → is_some keys ≡ true) }
+    ensures forgets { IfOk result (λ keys. asking.forgets settings.now ≡ true → is_some keys ≡ true) }
+    ensures sets { IfOk result (λ keys. is_some keys ≡ (is_some settings.now.wishing.wanted
+        || (is_some settings.now.wishing.originals_file || asking.forgets settings.now))) }
 {
     let has_sets = settings.wishing.wanted.is_some() || settings.wishing.originals_file.is_some();
     if !has_sets && !forgets(settings) {
@@ -342,16 +344,17 @@ where
         if made > 0 {
             rounds.wait_between();
         }
-        let number = made + 1;
-        let round = rounds.make(number);
-        say_round(number, round, out)?;
+        let ended = rounds.make(made + 1);
+        say_round(ended, out)?;
     }
     Ok(())
 }
 
-fn say_round<W: Write>(number: u64, round: Round, out: &mut W) -> Result<(), ServeFault>
-    ensures { OnOk result (Appends (W.contents out.old) (W.contents out.new) (round_line number round)) }
+/// Writes the line of a round that has ended.
+fn say_round<W: Write>(ended: EndedRound, out: &mut W) -> Result<(), ServeFault>
+    ensures { OnOk result (Appends (W.contents out.old) (W.contents out.new) (round_line ended.number ended.round)) }
 {
+    let (number, round) = (ended.number(), ended.round());
     writeln!(out, "round {number} {round}")?;
     out.flush()?;
     Ok(())

@@ -3,6 +3,7 @@ use crate::making::Rounds;
 use harvest_workers::WalkRules;
 use harvester::SocketRuntime;
 use part_gates::NamesBase;
+use round_pulls::{accept_pull, ask_peers};
 use service_ledger::Begins;
 use std::io::Write;
 use std::rt::Files;
@@ -29,13 +30,13 @@ where
             let Some(answer) = self.pullers.answered(self.course.rt) else {
                 break;
             };
-            self.accept_pulled(answer);
+            accept_pull(&mut self.course, self.pullers, answer);
         }
         let now = self.course.now();
         if self.course.standing.dues.pull.is_due(now) {
             let course = &mut self.course;
             course.standing.dues.pull.done(now);
-            self.course.ask_peers(self.pullers);
+            ask_peers(&mut self.course, self.pullers);
         }
         self.course.publish_round();
         let _ = self.course.tend_forgetting();

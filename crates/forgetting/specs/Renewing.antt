@@ -1,5 +1,5 @@
 -- What a merger is that begins anew, and what a forgetting is.
-use Rattle.std.specs.Prelude.{◌≡◌, ℕ, true, List, [], ◌∷◌, Option, Some, None, IfSome}
+use Rattle.std.specs.Prelude.{◌≡◌, ℕ, ◌+◌, ◌-◌, ◌^◌, ◌≤◌, min, Bool, true, false, List, [], ◌∷◌, Option, Some, None, IfSome, IsSomeAnd, unwrap_or}
 use Rattle.std.specs.FinMap as map
 use Rattle.harvest_lattice.specs.Lattice.{Entries, Key}
 use Rattle.harvest_lattice.specs.Knowledge.{lat, shown_of}
@@ -33,6 +33,16 @@ abbrev pub rule_of : Option Withdrawal → Option (List (List ℕ)) → List (Li
 rule_of None listed wanted k = true
 rule_of (Some w) None wanted k = true
 rule_of (Some w) (Some listed) wanted k = keeps w listed wanted k
+
+-- what an archive has of an original is withdrawn, as far as that is known
+abbrev pub is_withdrawn_by : Option Withdrawal → Key → Bool
+is_withdrawn_by None k = false
+is_withdrawn_by (Some w) k = is_withdrawn w k
+
+-- So many mementos more may be known of unlisted originals: at most as many as the settings say are then, as far as
+-- they are counted, and 64 bits count.
+abbrev pub HasRoom : Option ℕ → Option ℕ → ℕ → Type 0
+HasRoom most counted more = IsSomeAnd counted (λ counted. min (counted + more) (2 ^ 64 - 1) ≤ unwrap_or most (2 ^ 64 - 1))
 
 -- the same by the rule of a service, for some originals that are wanted
 pub record ForgetsSome (withdrawn : Option Withdrawal) (listed : Option (List (List ℕ))) (m n : MergerView) : Type 0 where

@@ -1,7 +1,7 @@
 //! What is kept from one forgetting to the next.
-ghost use Rattle.std.specs.Prelude.{◌≡◌, ◌⊎◌, ◌&&◌, IfSome, None, Some, false, is_some, true};
+ghost use Rattle.std.specs.Prelude.{◌≡◌, ◌⊎◌, ◌&&◌, IfOk, None, Some, false, is_some, true};
 ghost use Rattle.std.specs.FinMap as map;
-ghost use Rattle.retention.specs.Rules.{is_withdrawn};
+ghost use Rattle.forgetting.specs.Renewing.{is_withdrawn_by};
 
 use crate::files::{FileFault, read_file};
 use crate::withdrawing::{Read, read_text};
@@ -130,15 +130,13 @@ impl Forgetting {
         self.cursors.held(peer)
     }
 
-    /// Whether what an archive has of an original is withdrawn. Where memory is refused it may be, and counts as such.
-    pub fn has_withdrawn(&self, archive: ArchiveName, original: &Original) -> bool
-        ensures withdrawn { IfSome self.now.withdrawn
-            (λ w. is_withdrawn w (archive, original.now) ≡ true → result ≡ true) }
-        ensures none { self.now.withdrawn ≡ None → result ≡ false }
+    /// Whether what an archive has of an original is withdrawn, as far as that was read.
+    pub fn has_withdrawn(&self, archive: ArchiveName, original: &Original) -> Result<bool, NoMemory>
+        ensures { IfOk result (λ has. has ≡ is_withdrawn_by self.now.withdrawn (archive, original.now)) }
     {
         match &self.withdrawn {
-            Some(withdrawn) => withdrawn.has(archive, original).unwrap_or(true),
-            None => false,
+            Some(withdrawn) => withdrawn.has(archive, original),
+            None => Ok(false),
         }
     }
 

@@ -1,10 +1,13 @@
 //! What is taken of what peers give, and how much room a wish's harvest has.
-ghost use Rattle.std.specs.Prelude.{◌≡◌, ◌≤◌, ◌+◌, ◌-◌, ◌^◌, ◌↔◌, IfOk, IfSome, IsSomeAnd, IsTrue, None, OnErr, OnOk, Ok};
-ghost use Rattle.std.specs.Prelude.{min, option_map, true};
+ghost use Rattle.std.specs.Prelude.{◌≡◌, ◌⊎◌, ◌≤◌, ◌+◌, ◌-◌, ◌^◌, ◌↔◌, IfOk, IfSome, IsSomeAnd, IsTrue, None};
+ghost use Rattle.std.specs.Prelude.{OnErr, OnOk, Ok, Some, false, is_some, length, min, option_map, true, unwrap_or};
 ghost use Rattle.std.specs.FinMap as map;
+ghost use Rattle.memento_sets.specs.Sets as set;
+ghost use Rattle.original_sets.specs.Sets.{stands};
 ghost use Rattle.replica_exchange.specs.CursorRule.{fits, taken_from};
 ghost use Rattle.published_index.specs.declared.mergers.TakenAs.TheVariants.{News};
 ghost use Rattle.round_values.specs.Pulls.{PullsNothing, PullsSome};
+ghost use Rattle.forgetting.specs.Renewing.{HasRoom};
 ghost use Rattle.forgetting.specs.Sifting.{Sifts, TakesAs};
 
 use crate::bounds::most_of;
@@ -174,8 +177,10 @@ impl Forgetting {
         Ok(moved)
     }
 
-    /// Whether rounds look after an original.
-    fn is_listed(&self, original: &Original) -> bool {
+    /// Whether rounds look after an original. Where memory is refused, it isn't told that they do.
+    fn is_listed(&self, original: &Original) -> bool
+        ensures { result ≡ true → IsSomeAnd self.now.listed (λ listed. stands listed original.now ≡ true) }
+    {
         match (&self.listed, Key::new(original)) {
             (Some(listed), Ok(key)) => listed.has(&key),
             _ => false,
@@ -228,7 +233,19 @@ impl Forgetting {
         now: Millis,
     ) -> bool
         ensures unbounded { settings.now.forgetting.every ≡ None → result ≡ true }
+        ensures room { result ≡ true → is_some settings.now.forgetting.every ≡ true
+            → IsSomeAnd self.old.listed (λ listed. stands listed harvest.now.original ≡ true)
+            ⊎ IsSomeAnd self.new.mementos (λ mementos. mementos
+            ≤ unwrap_or settings.now.forgetting.most (2 ^ 64 - 1)) }
+        ensures full { result ≡ false → ¬ (HasRoom settings.now.forgetting.most self.new.mementos
+            (length (set.items harvest.now.mementos))) }
         ensures same { settings.now.forgetting.every ≡ None → self.new ≡ self.old }
+        ensures rest { self.new ≡ record self.old {
+          counted = self.new.counted;
+          mementos = self.new.mementos;
+          pending = self.new.pending;
+          missing = self.new.missing;
+        } }
     {
         if settings.forgetting.every.is_none() || self.is_listed(harvest.original()) {
             return true;
@@ -251,7 +268,7 @@ impl Forgetting {
 
     /// Whether so many more mementos fit, as far as they are counted.
     fn fits(&self, more: u64, most: u64) -> bool
-        ensures { IsTrue result ↔ IsSomeAnd self.now.mementos (λ mementos. min (mementos + more) (2 ^ 64 - 1) ≤ most) }
+        ensures { IsTrue result ↔ HasRoom (Some most) self.now.mementos more }
     {
         match self.mementos {
             Some(mementos) => mementos.saturating_add(more) <= most,

@@ -1,20 +1,52 @@
 -- What calls of a course came to.
-use Rattle.std.proofs.Common.{◌≡◌, Option, Result, Ok, sym, subst}
+use Rattle.std.proofs.Common.{◌≡◌, ℕ, Bool, true, List, Option, Some, Result, Ok, slice_get, sym, subst}
 use Rattle.harvest_lattice.specs.Knowledge.{Harvested}
 use Rattle.harvester.specs.declared.faults.WalkFault.{WalkFault}
+use Rattle.harvest_schedule.specs.declared.turns.Turn.{Turn}
+use Rattle.published_index.specs.Batches.{merges_of}
 use Rattle.published_index.specs.Views.{MergerView}
+use Rattle.replica_exchange.specs.Stamps.{state_after}
 use Rattle.retention.specs.Rules.{Withdrawal}
+use Rattle.forgetting.specs.Renewing.{is_withdrawn_by}
+use Rattle.forgetting.specs.declared.standing.Forgetting.{Forgetting}
+use Rattle.service_settings.specs.declared.archives.Archive.{Archive}
 use Rattle.service_settings.specs.declared.settings.Settings.{Settings}
 use Rattle.round_course.specs.declared.fates.Fate.{Fate}
-use Rattle.round_course.specs.Fates.{Becomes, IsTakenIn}
+use Rattle.round_course.specs.Asking.{is_young_in}
+use Rattle.round_course.specs.Fates.{Becomes, IsTakenIn, grounds_of}
+use Rattle.round_course.specs.Permits.{IsKnownAt, IsWithdrawnAt}
 
 -- the harvest of a walk became this, where all by which that is decided was as before
-pub taken_in : (r : Result Harvested WalkFault) (h : Harvested) (s t : Settings) (w v : Option Withdrawal) (m k n : MergerView) (fate : Fate)
-    → r ≡ Ok h → t ≡ s → v ≡ w → k ≡ m → Becomes fate t v h k n → IsTakenIn r s w m n
-taken_in r h s t w v m k n fate came settings withdrawn merger becomes =
-    subst (λ (it : Result Harvested WalkFault). IsTakenIn it s w m n) (sym came) (
+pub taken_in : (r : Result Harvested WalkFault) (h : Harvested) (s t : Settings) (a b f : Forgetting) (is_wished : Bool) (m k n : MergerView) (fate : Fate)
+    → r ≡ Ok h → t ≡ s → b ≡ a → k ≡ m → Becomes fate (grounds_of t b is_wished f) h k n → IsTakenIn r (grounds_of s a is_wished f) m n
+taken_in r h s t a b f is_wished m k n fate came settings forgetting merger becomes =
+    subst (λ (it : Result Harvested WalkFault). IsTakenIn it (grounds_of s a is_wished f) m n) (sym came) (
       fate,
-      subst (λ (it : Settings). Becomes fate it w h m n) settings
-          (subst (λ (it : Option Withdrawal). Becomes fate t it h m n) withdrawn
-          (subst (λ (it : MergerView). Becomes fate t v h it n) merger becomes)),
+      subst (λ (it : Settings). Becomes fate (grounds_of it a is_wished f) h m n) settings
+          (subst (λ (it : Forgetting). Becomes fate (grounds_of t it is_wished f) h m n) forgetting
+          (subst (λ (it : MergerView). Becomes fate (grounds_of t b is_wished f) h it n) merger becomes)),
     )
+
+-- what is published of the job of a turn is young enough, where all by which that is told is as before
+pub known_at : (s t : Settings) (m n : MergerView) (xs ys : List (List ℕ)) (turn : Turn) (archive : Archive) (original : List ℕ) (second : ℕ)
+    → s ≡ t → m ≡ n → xs ≡ ys → slice_get s.archives.items turn.archive ≡ Some archive → slice_get xs turn.original ≡ Some original
+    → is_young_in s.timing (state_after (merges_of m.published)) (archive.name, original) second ≡ true → IsKnownAt t n ys turn
+known_at s t m n xs ys turn archive original second settings merger list archive_at original_at young =
+    subst (λ (it : Settings). IsKnownAt it n ys turn) settings
+    (subst (λ (it : MergerView). IsKnownAt s it ys turn) merger
+    (subst (λ (it : List (List ℕ)). IsKnownAt s m it turn) list (record {
+      job = record { archive = archive; original = original; archive_at = archive_at; original_at = original_at };
+      second = second;
+      young = young;
+    })))
+
+-- what the job of a turn would bring is withdrawn, where all by which that is told is as before
+pub withdrawn_at : (s t : Settings) (w : Option Withdrawal) (xs ys : List (List ℕ)) (turn : Turn) (archive : Archive) (original : List ℕ)
+    → s ≡ t → xs ≡ ys → slice_get s.archives.items turn.archive ≡ Some archive → slice_get xs turn.original ≡ Some original
+    → is_withdrawn_by w (archive.name, original) ≡ true → IsWithdrawnAt t w ys turn
+withdrawn_at s t w xs ys turn archive original settings list archive_at original_at gone =
+    subst (λ (it : Settings). IsWithdrawnAt it w ys turn) settings
+    (subst (λ (it : List (List ℕ)). IsWithdrawnAt s w it turn) list (record {
+      job = record { archive = archive; original = original; archive_at = archive_at; original_at = original_at };
+      gone = gone;
+    }))

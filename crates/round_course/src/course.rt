@@ -1,20 +1,22 @@
 //! What the rounds know and where they stand, apart from the threads that walk and pull for them.
-ghost use Rattle.std.specs.Prelude.{◌≡◌, ◌≤◌, ℕ, IfSome, Some, is_some, slice_get, true};
+ghost use Rattle.std.specs.Prelude.{◌≡◌, ◌-◌, ◌≤◌, ℕ, IfSome, None, Some, is_some, max, min, slice_get, true};
 ghost use Rattle.std.specs.Arc.{arc_value};
 ghost use Rattle.harvest_workers.specs.Errands.{archive_of};
 ghost use Rattle.harvest_workers.specs.declared.errands.Errand.TheVariants.{Round as OfRound};
 ghost use Rattle.round_values.specs.Ahead as ahead;
 ghost use Rattle.round_values.specs.Revisions.{revision_of as revision_by_rule};
 ghost use Rattle.round_course.specs.Asking as spec;
+ghost use Rattle.round_course.specs.Permits.{IsKnownAt};
 ghost use Rattle.round_standing.specs.Listing.{list_of};
 
+use crate::known::{is_young, job_at};
 use harvest_schedule::{Permit, Turn};
 use harvest_workers::{Assignment, Errand, WalkRules};
 use harvester::SocketRuntime;
 use memento_time::Original;
 use part_gates::NamesBase;
 use round_standing::{Console, Standing};
-use round_values::{Millis, Second, Stopwatch, is_fresh, last_taken, revision_of, second_now};
+use round_values::{Millis, Second, Stopwatch, last_taken, revision_of, second_now};
 use service_ledger::{Begins, Ledger};
 use service_settings::Settings;
 use service_threads::{Shared, Terms, original_of};
@@ -49,7 +51,9 @@ pub struct Course<'a, R, P: WalkRules + Begins + NamesBase, L: Copy> {
 
 /// For how many milliseconds to wait: until this moment, and no longer than a tick.
 fn wait_until(time: Option<Millis>, now: Millis) -> u64
-    ensures { (1 ≤ result) × (result ≤ 250) }
+    ensures most { result ≤ 250 }
+    ensures none { time ≡ None → result ≡ 250 }
+    ensures some { IfSome time (λ time. result ≡ min (max (time.0 - now.0) 1) 250) }
 {
     match time {
         Some(time) => time.since(now).max(1).min(TICK),
@@ -80,7 +84,7 @@ where
     }
 
     /// The last second whose harvests are taken now.
-    pub(crate) fn last_taken(&self) -> Second
+    pub fn last_taken(&self) -> Second
         ensures { (now : ℕ) × (result.0 ≡ ahead.last_taken (arc_value self.now.terms.now.settings).timing.ahead now) }
     {
         last_taken(self.settings().timing.ahead, second_now(self.rt))
@@ -101,21 +105,21 @@ where
     }
 
     /// Whether what is known of the job of a turn is young enough.
-    pub(crate) fn is_known(&self, turn: Turn) -> bool {
+    pub(crate) fn is_known(&self, turn: Turn) -> bool
+        ensures { result ≡ true → IsKnownAt (arc_value self.now.terms.now.settings) self.now.ledger.now.merger
+            (list_of self.now.standing.originals.all (arc_value self.now.terms.now.settings).originals) turn }
+    {
         let settings = self.settings();
         if settings.timing.again_none.is_none() {
             return false;
         }
-        let (Some(archive), Some(original)) = (
-            settings.archives.get(turn.archive),
-            original_of(self.standing.list(settings), turn),
-        ) else {
+        let list = self.standing.list(settings);
+        let Some((archive, original)) = job_at(settings, list, turn) else {
             return false;
         };
-        match self.ledger.merger().published_entry(archive.name, original) {
-            Some(entry) => is_fresh(settings.timing, entry, second_now(self.rt)),
-            None => false,
-        }
+        let merger = self.ledger.merger();
+        let second = second_now(self.rt);
+        is_young(settings.timing, merger, archive.name, original, second)
     }
 
     /// The job of an errand's archive, which may be asked, for an original, to be handed out in this second: a round's

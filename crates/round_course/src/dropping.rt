@@ -3,13 +3,17 @@ ghost use Rattle.std.specs.Prelude.{◌≡◌, ◌||◌, ℕ, [], IfOk, false, i
 ghost use Rattle.std.specs.Arc.{arc_value};
 ghost use Rattle.round_course.specs.Asking as spec;
 ghost use Rattle.round_course.specs.Asking.{held_for};
+ghost use Rattle.round_course.specs.Fates.{HasNoRoom, grounds_of};
+ghost use Rattle.round_course.specs.Permits.{IsWithdrawnAt};
 ghost use Rattle.round_course.specs.Publishes.{has_forgotten};
+ghost use Rattle.round_standing.specs.Listing.{list_of};
 ghost use Rattle.forgetting.specs.Renewing.{ForgetsSome};
 ghost use Rattle.forgetting.specs.Sifting.{Sifts};
 ghost use Rattle.round_values.specs.Dues.{IsDue};
 ghost use Rattle.service_ledger.specs.Leads.{IsPart};
 
 use crate::course::Course;
+use crate::known::job_at;
 use forgetting::{Forgot, Ways};
 use harvest_lattice::Harvest;
 use harvest_schedule::Turn;
@@ -21,7 +25,7 @@ use replica_exchange::{Cursor, Delta, TakeFault};
 use round_values::Millis;
 use service_ledger::Begins;
 use service_log::{PeerFault, Want};
-use service_threads::{forgets, original_of};
+use service_threads::forgets;
 use std::hash::RandomState;
 use std::io::Write;
 use std::rt::Files;
@@ -151,7 +155,7 @@ where
     }
 
     /// The cursor that is held for a peer.
-    pub(crate) fn held(&self, peer: u64) -> Option<Cursor>
+    pub fn held(&self, peer: u64) -> Option<Cursor>
         ensures { result ≡ held_for (spec.forgets (arc_value self.now.terms.now.settings))
             self.now.standing.forgetting.cursors self.now.ledger.now.merger.cursors peer }
     {
@@ -164,7 +168,7 @@ where
 
     /// What is kept of what the answer of the peer with this number brought: what the rule of the rounds keeps, where
     /// something is forgotten, and else all.
-    pub(crate) fn sift(&self, peer: u64, delta: Delta) -> Result<Delta, PeerFault>
+    pub fn sift(&self, peer: u64, delta: Delta) -> Result<Delta, PeerFault>
         requires { ∥ IsPart delta ∥₁ }
         ensures part { IfOk result (λ sifted. ∥ IsPart sifted ∥₁) }
         ensures rule { spec.forgets (arc_value self.now.terms.now.settings) ≡ true
@@ -191,22 +195,32 @@ where
         }
     }
 
-    /// Whether what the job of a turn would bring is withdrawn.
-    pub(crate) fn is_withdrawn(&self, turn: Turn) -> bool {
+    /// Whether what the job of a turn would bring is withdrawn. Where memory is refused that isn't told: then the
+    /// walk's harvest is looked at once more.
+    pub(crate) fn is_withdrawn(&self, turn: Turn) -> bool
+        ensures { result ≡ true → IsWithdrawnAt (arc_value self.now.terms.now.settings)
+            self.now.standing.forgetting.withdrawn
+            (list_of self.now.standing.originals.all (arc_value self.now.terms.now.settings).originals) turn }
+    {
         let settings = self.settings();
-        let (Some(archive), Some(original)) = (
-            settings.archives.get(turn.archive),
-            original_of(self.standing.list(settings), turn),
-        ) else {
+        let list = self.standing.list(settings);
+        let Some((archive, original)) = job_at(settings, list, turn) else {
             return false;
         };
-        self.standing.is_withdrawn(archive.name, original)
+        let forgetting = &self.standing.forgetting;
+        match forgetting.has_withdrawn(archive.name, original) {
+            Ok(is_withdrawn) => is_withdrawn,
+            Err(_) => false,
+        }
     }
 
     /// Whether there is room for a wish's harvest. One for which there is none is counted.
     pub(crate) fn has_room(&mut self, harvest: &Harvest) -> bool
-        ensures room { result ≡ false → spec.forgets (arc_value self.old.terms.now.settings) ≡ true }
+        ensures room { result ≡ false → HasNoRoom (grounds_of (arc_value self.old.terms.now.settings)
+            self.old.standing.forgetting true self.new.standing.forgetting) harvest.now }
+        ensures withdrawn { self.new.standing.forgetting.withdrawn ≡ self.old.standing.forgetting.withdrawn }
         ensures ledger { self.new.ledger.now.merger ≡ self.old.ledger.now.merger }
+        ensures terms { self.new.terms.now.settings ≡ self.old.terms.now.settings }
     {
         if !forgets(self.settings()) {
             return true;
@@ -216,10 +230,11 @@ where
             .standing
             .forgetting
             .has_room(settings, self.ledger.merger(), harvest, now);
-        if !has_room {
-            self.standing.dropped = self.standing.dropped.saturating_add(1);
+        if has_room {
+            return true;
         }
-        has_room
+        self.standing.dropped = self.standing.dropped.saturating_add(1);
+        false
     }
 
     /// Logs how many harvests of wishes weren't kept for lack of room since the last round, if some weren't.

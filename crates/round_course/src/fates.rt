@@ -5,7 +5,7 @@
 pub(crate) enum Fate {
     /// It waits for the next publish.
     Appended,
-    /// It is withdrawn, or memory was refused to tell whether it is.
+    /// It is withdrawn.
     Withdrawn,
     /// It is ahead of the clock.
     Ahead,
@@ -13,7 +13,7 @@ pub(crate) enum Fate {
     Empty,
     /// A wish brought it, and unlisted originals have no room for its mementos.
     NoRoom,
-    /// Memory was refused to append it.
+    /// Memory was refused to append it, or to tell whether it is withdrawn.
     NoMemory,
 }
 

@@ -1,17 +1,18 @@
 //! Wishes are granted, and what their walks brought is taken in.
-ghost use Rattle.std.specs.Prelude.{◌≡◌, ◌∷◌, ◌++◌, ◌≤◌, ℕ, [], Bool, IfOk, IfSome, IsSomeAnd, List, OnErr, OnOk};
+ghost use Rattle.std.specs.Prelude.{◌≡◌, ◌∷◌, ◌++◌, ◌≤◌, ℕ, [], IfOk, IfSome, IsSomeAnd, OnErr, OnOk, true};
 ghost use Rattle.std.specs.Arc.{arc_value};
 ghost use Rattle.wish_list.specs.Jobs.{begun_for};
 ghost use Rattle.harvest_workers.specs.declared.errands.Errand.TheVariants.{Wish as OfWish};
 ghost use Rattle.harvester.specs.Unkept.{Comes};
 ghost use Rattle.round_values.specs.Revisions.{revision_of as revision_by_rule};
 ghost use Rattle.service_ledger.specs.Leads.{IsWalked};
-ghost use Rattle.round_course.specs.Fates.{Becomes, IsTakenIn};
+ghost use Rattle.round_course.specs.Asking.{spared_by};
+ghost use Rattle.round_course.specs.Fates.{Becomes, IsTakenIn, grounds_of};
 ghost use Rattle.round_course.specs.Permits.{GaveWalk};
 
 use crate::course::Course;
 use crate::fates::Fate;
-use forgetting::Forgetting;
+use crate::known::{is_shown, spared};
 use harvest_lattice::Harvest;
 use harvest_schedule::{Permit, Verdict};
 use harvest_workers::{Assignment, Errand, Opened, WalkRules};
@@ -19,58 +20,15 @@ use harvester::{SocketRuntime, WalkFault};
 use memento_time::{NoMemory, Original};
 use original_list::spellings_of;
 use part_gates::NamesBase;
-use published_index::Merger;
 use round_standing::book_room;
-use round_values::{
-    Millis, Second, WishJob, answer_to, has_mementos, is_fresh, is_kept, second_now, wish_timing,
-};
+use round_values::{Millis, Second, WishJob, answer_to, is_kept, second_now};
 use service_ledger::Begins;
 use service_log::{Line, Want};
-use service_settings::Settings;
 use service_status::WishCounts;
-use std::alloc::Global;
 use std::io::Write;
 use std::rt::Files;
 use wish_list::{Decision, Ended, MOST_WISHES, WishAnswer};
 use wishing_gates::wished_at;
-
-/// For each archive, whether its harvest of an original is too young to be asked for by a wish, or withdrawn.
-fn spared(
-    alloc: Global,
-    settings: &Settings,
-    forgetting: &Forgetting,
-    merger: &Merger,
-    original: &Original,
-    second: Second,
-) -> Result<Vec<bool>, NoMemory> {
-    let timing = wish_timing(settings.timing);
-    let mut spared = Vec::with_capacity(alloc, settings.archives.len())?;
-    for archive in &settings.archives {
-        let is_spared = match merger.published_entry(archive.name, original) {
-            Some(entry) => is_fresh(timing, entry, second),
-            None => false,
-        };
-        let is_withdrawn = forgetting.has_withdrawn(archive.name, original);
-        spared.push(is_spared || is_withdrawn)?;
-    }
-    Ok(spared)
-}
-
-/// Whether gates show something of an original.
-fn is_shown(settings: &Settings, merger: &Merger, original: &Original) -> bool {
-    let has_some = settings.archives.iter().any(|archive| {
-        match merger.published_entry(archive.name, original) {
-            Some(entry) => has_mementos(entry),
-            None => false,
-        }
-    });
-    // An archive that isn't in these settings may be known from a peer.
-    has_some
-        || match merger.published_state().shown(original) {
-            Ok(shown) => !shown.is_empty(),
-            Err(_) => true,
-        }
-}
 
 impl<R, P, L> Course<'_, R, P, L>
 where
@@ -97,8 +55,10 @@ where
 
     /// Takes on a granted wish.
     fn begin_wish(&mut self, original: &Original) -> Result<(), NoMemory>
-        ensures ok { OnOk result ((spared : List Bool) × (self.new.standing.desk.jobs.wishes.items
-            ≡ self.old.standing.desk.jobs.wishes.items ++ begun_for original.now spared ∷ [])) }
+        ensures ok { OnOk result ((second : ℕ) × (self.new.standing.desk.jobs.wishes.items
+            ≡ self.old.standing.desk.jobs.wishes.items ++ begun_for original.now
+            (spared_by (arc_value self.old.terms.now.settings) self.old.standing.forgetting.withdrawn
+            self.old.ledger.now.merger original.now second) ∷ [])) }
         ensures err { OnErr result (self.new.standing.desk.jobs.wishes.items ≡ self.old.standing.desk.jobs.wishes.items) }
     {
         let settings = self.settings();
@@ -116,12 +76,20 @@ where
         let is_spelling = self.standing.desk.take_spelling(original);
         if settings.wishing.alike
             && !is_spelling
-            && !self.standing.is_all_withdrawn(settings, original)
+            && !self.is_all_withdrawn(original)
             && !is_shown(settings, self.ledger.merger(), original)
         {
             self.wish_spellings(original, second);
         }
         Ok(())
+    }
+
+    /// Whether all that archives have of an original is withdrawn. Where memory is refused it may be, and counts as
+    /// such.
+    fn is_all_withdrawn(&self, original: &Original) -> bool {
+        let settings = self.settings();
+        let all = self.standing.is_all_withdrawn(settings, original);
+        all.unwrap_or(true)
     }
 
     /// Wishes for the other spellings of an original of which nothing is shown. What is wished for so leads to no
@@ -204,7 +172,8 @@ where
     pub(crate) fn accept_wish_walk(&mut self, archive: usize, opened: Opened)
         requires own { ∥ P.jobs opened.errand opened.job ∥₁ }
         requires comes { ∥ Comes P.answers P.faults opened.job opened.begun opened.result opened.asked ∥₁ }
-        ensures { IsTakenIn opened.result (arc_value self.old.terms.now.settings) self.old.standing.forgetting.withdrawn
+        ensures { IsTakenIn opened.result (grounds_of (arc_value self.old.terms.now.settings)
+            self.old.standing.forgetting true self.new.standing.forgetting)
             self.old.ledger.now.merger self.new.ledger.now.merger }
     {
         let is_busy = self.note_walk(&opened).is_some();
@@ -236,7 +205,8 @@ where
     /// and room for a harvest, and it wasn't barred.
     fn take_wished(&mut self, walked: Result<Harvest, WalkFault>, now: Millis) -> bool
         requires { IfOk walked (λ harvest. ∥ IsWalked P.jobs P.answers P.faults harvest ∥₁) }
-        ensures { IsTakenIn walked (arc_value self.old.terms.now.settings) self.old.standing.forgetting.withdrawn
+        ensures { IsTakenIn walked (grounds_of (arc_value self.old.terms.now.settings)
+            self.old.standing.forgetting true self.new.standing.forgetting)
             self.old.ledger.now.merger self.new.ledger.now.merger }
     {
         match walked {
@@ -251,8 +221,9 @@ where
     /// Appends the harvest of a wish's walk, if it is kept. Returns what becomes of it.
     fn accept_wished(&mut self, harvest: Harvest, now: Millis) -> Fate
         requires { ∥ IsWalked P.jobs P.answers P.faults harvest ∥₁ }
-        ensures { Becomes result (arc_value self.old.terms.now.settings) self.old.standing.forgetting.withdrawn harvest
-            self.old.ledger.now.merger self.new.ledger.now.merger }
+        ensures { Becomes result (grounds_of (arc_value self.old.terms.now.settings)
+            self.old.standing.forgetting true self.new.standing.forgetting)
+            harvest self.old.ledger.now.merger self.new.ledger.now.merger }
     {
         if let Some(fate) = self.barred(&harvest) {
             return fate;
@@ -315,7 +286,7 @@ where
         let (settings, original) = (self.settings(), &ended.original);
         let is_found = ended.outcome.is_found || is_shown(settings, self.ledger.merger(), original);
         let mut outcome = ended.outcome;
-        if self.standing.is_all_withdrawn(settings, original) {
+        if self.is_all_withdrawn(original) {
             // It may be lifted soon.
             outcome.is_whole = false;
         }

@@ -1,5 +1,5 @@
 //! A round's beginning, its end, and the jobs of its turns.
-ghost use Rattle.std.specs.Prelude.{◌≡◌, ℕ, IfSome, Result, Some, slice_get, true};
+ghost use Rattle.std.specs.Prelude.{◌≡◌, ℕ, IfSome, Result, Some, false, slice_get, true};
 ghost use Rattle.std.specs.Arc.{arc_value};
 ghost use Rattle.harvest_workers.specs.declared.errands.Errand.TheVariants.{Round as OfRound};
 ghost use Rattle.harvester.specs.declared.faults.WalkFault.{WalkFault};
@@ -7,8 +7,8 @@ ghost use Rattle.harvest_lattice.specs.Knowledge.{Harvested};
 ghost use Rattle.round_values.specs.Counts.{round_after};
 ghost use Rattle.round_values.specs.Revisions.{revision_of as revision_by_rule};
 ghost use Rattle.round_standing.specs.Listing.{list_of};
-ghost use Rattle.round_course.specs.Fates.{IsTakenIn};
-ghost use Rattle.round_course.specs.Permits.{GaveTurn};
+ghost use Rattle.round_course.specs.Fates.{IsTakenIn, grounds_of, is_wish};
+ghost use Rattle.round_course.specs.Permits.{GaveTurn, IsNeedless};
 ghost use Rattle.round_course.specs.Publishes.{Publishes};
 
 use crate::course::Course;
@@ -21,6 +21,29 @@ use round_values::{Round, second_now};
 use service_ledger::Begins;
 use std::io::Write;
 use std::rt::Files;
+
+/// What a round came to that has ended. Only `Course::end_round` says so.
+#[derive(Debug, Drop)]
+pub struct EndedRound {
+    number: u64,
+    round: Round,
+}
+
+impl EndedRound {
+    /// The number under which the round was ended.
+    pub fn number(&self) -> u64
+        ensures { result ≡ self.now.number }
+    {
+        self.number
+    }
+
+    /// What the round had come to.
+    pub fn round(&self) -> Round
+        ensures { result ≡ self.now.round }
+    {
+        self.round
+    }
+}
 
 impl<R, P, L> Course<'_, R, P, L>
 where
@@ -73,11 +96,12 @@ where
         self.log_dropped(number);
     }
 
-    /// Publishes what the round brought, and ends it. Returns what it came to.
-    pub fn end_round(&mut self, number: u64) -> Round
-        ensures counts { result ≡ round_after result.published self.old.standing.round }
-        ensures pending { self.new.standing.round.pending ≡ result.pending }
-        ensures merger { Publishes result.published self.old.ledger.now.merger self.new.ledger.now.merger }
+    /// Publishes what the round with this number brought, and ends it. Returns what it came to.
+    pub fn end_round(&mut self, number: u64) -> EndedRound
+        ensures number { result.number ≡ number }
+        ensures counts { result.round ≡ round_after result.round.published self.old.standing.round }
+        ensures pending { self.new.standing.round.pending ≡ result.round.pending }
+        ensures merger { Publishes result.round.published self.old.ledger.now.merger self.new.ledger.now.merger }
     {
         self.log_left_out(number);
         let round = self.publish();
@@ -87,11 +111,16 @@ where
             pending: round.pending,
             ..Round::NONE
         };
-        round
+        EndedRound { number, round }
     }
 
     /// Passes over the job of a turn, if it needn't be walked. Returns whether it is passed over.
-    pub fn passes_over(&mut self, turn: Turn) -> bool {
+    pub fn passes_over(&mut self, turn: Turn) -> bool
+        ensures needless { result ≡ true → IsNeedless (arc_value self.old.terms.now.settings)
+            self.old.standing.forgetting.withdrawn self.old.ledger.now.merger
+            (list_of self.old.standing.originals.all (arc_value self.old.terms.now.settings).originals) turn }
+        ensures same { result ≡ false → self.new.standing.passed ≡ self.old.standing.passed }
+    {
         let is_passed = self.is_known(turn) || self.is_withdrawn(turn);
         is_passed && self.standing.pass_turn(turn)
     }
@@ -136,8 +165,10 @@ where
 
     /// Walks a job in this thread that is counted as out, and takes in what came of it.
     pub fn walk_here(&mut self, assignment: Assignment<P>)
-        ensures { (walked : Result Harvested WalkFault) × IsTakenIn walked (arc_value self.old.terms.now.settings)
-            self.old.standing.forgetting.withdrawn self.old.ledger.now.merger self.new.ledger.now.merger }
+        ensures { (walked : Result Harvested WalkFault) × IsTakenIn walked
+            (grounds_of (arc_value self.old.terms.now.settings)
+            self.old.standing.forgetting (is_wish assignment.errand) self.new.standing.forgetting)
+            self.old.ledger.now.merger self.new.ledger.now.merger }
     {
         let report = self.terms.walk(self.rt, assignment);
         self.accept_report(report);

@@ -1,22 +1,22 @@
 //! What workers report is taken in.
-ghost use Rattle.std.specs.Prelude.{◌≡◌, ℕ, IfSome};
+ghost use Rattle.std.specs.Prelude.{◌≡◌, ℕ, Bool, IfSome, false};
 ghost use Rattle.std.specs.Arc.{arc_value};
 ghost use Rattle.harvester.specs.Unkept.{Comes};
 ghost use Rattle.harvest_workers.specs.Verdicts.{verdict};
 ghost use Rattle.round_standing.specs.Verdicts.{IsTold};
 ghost use Rattle.service_ledger.specs.Leads.{IsWalked};
-ghost use Rattle.round_course.specs.Fates.{Becomes, IsTakenIn};
+ghost use Rattle.round_course.specs.Fates.{Becomes, IsTakenIn, grounds_of, is_wish};
 
 use crate::course::Course;
 use crate::fates::Fate;
+use crate::known::is_emptied;
 use harvest_lattice::Harvest;
 use harvest_schedule::{Mood, Turn};
 use harvest_workers::{Errand, Opened, WalkReport, WalkRules, verdict_of};
 use harvester::SocketRuntime;
 use part_gates::NamesBase;
-use published_index::Merger;
 use round_standing::WalkShown;
-use round_values::{Millis, Second, has_mementos, walk_end};
+use round_values::{Millis, Second, walk_end};
 use service_ledger::Begins;
 use service_log::{Matter, Want};
 use service_settings::Settings;
@@ -39,7 +39,8 @@ where
 {
     /// Takes in what a worker reports: a harvest as it becomes, and without one nothing is appended.
     pub fn accept_report(&mut self, report: WalkReport<P>)
-        ensures { IsTakenIn report.result (arc_value self.old.terms.now.settings) self.old.standing.forgetting.withdrawn
+        ensures { IsTakenIn report.result (grounds_of (arc_value self.old.terms.now.settings)
+            self.old.standing.forgetting (is_wish report.errand) self.new.standing.forgetting)
             self.old.ledger.now.merger self.new.ledger.now.merger }
     {
         let opened = report.open();
@@ -113,7 +114,8 @@ where
     fn accept_round_walk(&mut self, turn: Turn, opened: Opened)
         requires own { ∥ P.jobs opened.errand opened.job ∥₁ }
         requires comes { ∥ Comes P.answers P.faults opened.job opened.begun opened.result opened.asked ∥₁ }
-        ensures { IsTakenIn opened.result (arc_value self.old.terms.now.settings) self.old.standing.forgetting.withdrawn
+        ensures { IsTakenIn opened.result (grounds_of (arc_value self.old.terms.now.settings)
+            self.old.standing.forgetting false self.new.standing.forgetting)
             self.old.ledger.now.merger self.new.ledger.now.merger }
     {
         self.note_job(&opened);
@@ -133,8 +135,9 @@ where
     /// Appends the harvest of a walk, unless it is barred. Returns what becomes of it.
     fn accept_harvest(&mut self, turn: Turn, harvest: Harvest) -> Fate
         requires { ∥ IsWalked P.jobs P.answers P.faults harvest ∥₁ }
-        ensures { Becomes result (arc_value self.old.terms.now.settings) self.old.standing.forgetting.withdrawn harvest
-            self.old.ledger.now.merger self.new.ledger.now.merger }
+        ensures { Becomes result (grounds_of (arc_value self.old.terms.now.settings)
+            self.old.standing.forgetting false self.new.standing.forgetting)
+            harvest self.old.ledger.now.merger self.new.ledger.now.merger }
     {
         if let Some(fate) = self.barred(&harvest) {
             return fate;
@@ -154,18 +157,38 @@ where
         }
     }
 
-    /// What becomes of a harvest that may not be taken: it is withdrawn, or too far ahead of the clock, which was set
-    /// back since. One that is ahead is counted.
+    /// What becomes of a harvest that may not be taken: it is withdrawn, or too far ahead of the clock. It is counted
+    /// if it is ahead, or if memory is refused to tell whether it is withdrawn.
     pub(crate) fn barred(&mut self, harvest: &Harvest) -> Option<Fate>
-        ensures fate { IfSome result (λ fate. Becomes fate (arc_value self.old.terms.now.settings)
-            self.old.standing.forgetting.withdrawn harvest.now self.old.ledger.now.merger self.new.ledger.now.merger) }
+        ensures fate { (is_wished : Bool) → IfSome result (λ fate. Becomes fate
+            (grounds_of (arc_value self.old.terms.now.settings)
+            self.old.standing.forgetting is_wished self.new.standing.forgetting)
+            harvest.now self.old.ledger.now.merger self.new.ledger.now.merger) }
         ensures ledger { self.new.ledger.now.merger ≡ self.old.ledger.now.merger }
+        ensures forgetting { self.new.standing.forgetting ≡ self.old.standing.forgetting }
         ensures terms { self.new.terms.now.settings ≡ self.old.terms.now.settings }
     {
-        let standing = &self.standing;
-        if standing.is_withdrawn(harvest.archive(), harvest.original()) {
-            return Some(Fate::Withdrawn);
+        let forgetting = &self.standing.forgetting;
+        match forgetting.has_withdrawn(harvest.archive(), harvest.original()) {
+            Ok(true) => Some(Fate::Withdrawn),
+            Ok(false) => self.barred_by_clock(harvest),
+            Err(_) => {
+                self.standing.notes.add_unkept();
+                Some(Fate::NoMemory)
+            }
         }
+    }
+
+    /// What becomes of a harvest that is too far ahead of the clock, which was set back since. It is counted.
+    fn barred_by_clock(&mut self, harvest: &Harvest) -> Option<Fate>
+        ensures fate { (is_wished : Bool) → IfSome result (λ fate. Becomes fate
+            (grounds_of (arc_value self.old.terms.now.settings)
+            self.old.standing.forgetting is_wished self.new.standing.forgetting)
+            harvest.now self.old.ledger.now.merger self.new.ledger.now.merger) }
+        ensures ledger { self.new.ledger.now.merger ≡ self.old.ledger.now.merger }
+        ensures forgetting { self.new.standing.forgetting ≡ self.old.standing.forgetting }
+        ensures terms { self.new.terms.now.settings ≡ self.old.terms.now.settings }
+    {
         let last = self.last_taken();
         if self.standing.is_left_out(harvest, last) {
             Some(Fate::Ahead)
@@ -194,16 +217,5 @@ where
                     .log_archive(settings, self.standing.number, place, matter);
             }
         }
-    }
-}
-
-/// Whether a whole harvest has no memento where there were some.
-fn is_emptied(merger: &Merger, harvest: &Harvest) -> bool {
-    if harvest.is_part() || !harvest.mementos().is_empty() {
-        return false;
-    }
-    match merger.published_entry(harvest.archive(), harvest.original()) {
-        Some(entry) => has_mementos(entry),
-        None => false,
     }
 }

@@ -1,8 +1,9 @@
 //! What is due while rounds are made: publishes, snapshots, and lines of the log.
-ghost use Rattle.std.specs.Prelude.{◌≡◌, ℕ, Bool, false, true};
+ghost use Rattle.std.specs.Prelude.{◌≡◌, ◌||◌, ℕ, Bool, false, is_some, true};
 ghost use Rattle.round_values.specs.Counts.{round_after};
 ghost use Rattle.round_values.specs.Dues.{IsDue};
-ghost use Rattle.round_course.specs.Publishes.{Publishes};
+ghost use Rattle.round_values.specs.Keeping.{after_publish};
+ghost use Rattle.round_course.specs.Publishes.{Publishes, published_as};
 
 use crate::course::Course;
 use harvest_workers::WalkRules;
@@ -42,15 +43,16 @@ where
         ensures none { self.old.standing.round.pending ≡ false
             → self.new.ledger.now.merger ≡ self.old.ledger.now.merger }
         ensures due { self.old.standing.round.pending ≡ true → (now : ℕ)
-            × (IsDue self.old.standing.dues.publish now → (published : Bool)
+            × (IsDue self.old.standing.dues.publish now → (self.new.standing.dues.publish.last.0 ≡ now)
+            × (published : Bool)
             × Publishes published self.old.ledger.now.merger self.new.ledger.now.merger)
             × ((¬ IsDue self.old.standing.dues.publish now)
             → self.new.ledger.now.merger ≡ self.old.ledger.now.merger) }
     {
         let now = self.now();
         if self.standing.round.pending && self.standing.dues.publish.is_due(now) {
-            self.standing.dues.publish.done(now);
             self.publish();
+            self.standing.dues.publish.done(now);
         }
     }
 
@@ -60,24 +62,35 @@ where
         ensures counts { result ≡ round_after result.published self.old.standing.round }
         ensures merger { Publishes result.published self.old.ledger.now.merger self.new.ledger.now.merger }
     {
+        let round = self.publish_known();
+        self.note_learnt();
+        self.show_publish(round.published);
+        self.book_room();
+        self.console.show_behind(&self.standing.keeping);
+        let _ = self.tend_forgetting();
+        self.tend_snapshot();
+        round
+    }
+
+    /// Publishes what is pending, and notes what that came to. Returns what the round has come to by then.
+    fn publish_known(&mut self) -> Round
+        ensures counts { result ≡ round_after result.published self.old.standing.round }
+        ensures round { self.new.standing.round ≡ result }
+        ensures keeping { self.new.standing.keeping ≡ after_publish self.old.standing.keeping
+            (self.old.standing.round.pending || is_some self.old.standing.desk.due) result.published }
+        ensures merger { self.new.ledger.now.merger ≡ published_as result.published self.old.ledger.now.merger }
+    {
         let is_appended = self.standing.has_pending();
         let (number, log) = (self.standing.number, self.console.log);
         self.ledger
             .publish(self.rt, &mut self.standing.round, number, log);
         let round = self.standing.round;
-        let is_published = round.published;
         let end = PublishEnd {
             is_appended,
-            is_published,
+            is_published: round.published,
         };
-        self.note_learnt();
-        self.show_publish(is_published);
         let now = self.now();
         self.standing.note_publish(end, now);
-        self.book_room();
-        self.console.show_behind(&self.standing.keeping);
-        let _ = self.tend_forgetting();
-        self.tend_snapshot();
         round
     }
 

@@ -5,7 +5,7 @@
 //! what happens. Who walks and pulls, and what is known, is left to the crates above.
 //!
 //! - `standing`: all that is kept from one round to the next;
-//! - `peers`: what is noted of each peer's pulls, in it;
+//! - `peers`: what is noted of each peer's pulls, in it; `paces`: the schedule that it begins with;
 //! - `listing`: the originals that rounds look after, and what is written of the file that lists them;
 //! - `bounds`: what the book of wishes is told of them, and of how many more may be wished for;
 //! - `console`: lines of the log, and the status.
@@ -14,6 +14,7 @@
 mod bounds;
 mod console;
 mod listing;
+mod paces;
 mod peers;
 mod standing;
 

@@ -1,6 +1,6 @@
 //! The originals that rounds look after: those of the settings, and those of a file. A text of the file is compared
 //! with the one that was read last, and another text is read anew.
-ghost use Rattle.std.specs.Prelude.{◌≡◌, ◌≢◌, ◌||◌, ◌++◌, ◌↔◌, ℕ, List, [], Contains, IfOk, IsTrue, OnErr, OnOk, Some};
+ghost use Rattle.std.specs.Prelude.{◌≡◌, ◌≢◌, ◌||◌, ◌++◌, ◌↔◌, ℕ, List, IfOk, IsTrue, OnErr, OnOk, Some};
 ghost use Rattle.std.specs.Prelude.{count_by, is_some, not, option_map, take};
 ghost use Rattle.std.specs.Io.KnownBytes.{Appends};
 ghost use Rattle.original_list.specs.Lists.{each_once};

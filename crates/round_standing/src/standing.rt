@@ -1,24 +1,31 @@
 //! Where the rounds stand.
-ghost use Rattle.std.specs.Prelude.{◌≡◌, ◌||◌, ◌+◌, ◌-◌, ◌*◌, ◌^◌, IfOk, IfSome, None, false, is_some, length, min, true};
-ghost use Rattle.retention.specs.Rules.{is_withdrawn};
+ghost use Rattle.std.specs.Prelude.{◌≡◌, ◌||◌, ◌+◌, ◌-◌, ◌*◌, ◌^◌, IfOk, None, false, is_some, length, min, true};
+ghost use Rattle.std.specs.List.{list_all};
+ghost use Rattle.forgetting.specs.Renewing.{is_withdrawn_by};
+ghost use Rattle.harvest_schedule.specs.Steps.{Answers, Passed};
+ghost use Rattle.harvest_schedule.specs.declared.schedules.Schedule.{Schedule as ScheduleOf};
+ghost use Rattle.harvest_workers.specs.Errands.{archive_of};
 ghost use Rattle.round_values.specs.Ahead.{is_ahead as is_ahead_of};
 ghost use Rattle.round_values.specs.Keeping.{after_publish};
 ghost use Rattle.round_standing.specs.Listing.{jobs_of, list_of};
-ghost use Rattle.round_standing.specs.Verdicts.{IsTold};
+ghost use Rattle.round_standing.specs.Paces.{Begins, IsAt, IsNew, LeavesAsked, Passes};
+ghost use Rattle.round_standing.specs.Verdicts.{IsTold, NotesPresent};
+ghost use Rattle.round_standing.specs.Verdicts as verdicts;
 
 use crate::listing::Originals;
+use crate::paces::schedule_of;
 use crate::peers::Peers;
 use forgetting::Forgetting;
 use harvest_lattice::Harvest;
-use harvest_schedule::{Limits, Mood, Pace, Schedule, Turn, Verdict};
+use harvest_schedule::{Mood, Schedule, Turn, Verdict};
 use harvest_workers::Errand;
-use memento_time::{ArchiveName, Original};
+use memento_time::{NoMemory, Original};
 use round_values::{
     Absences, Desk, Dues, Keeping, Millis, Notes, PublishEnd, Round, Second, is_ahead,
     is_left_alone, is_waited_for,
 };
 use service_log::{Dormancy, JobsLeft, Matter, Progress, Respite};
-use service_settings::{Archive, Settings};
+use service_settings::Settings;
 use std::alloc::{AllocError, Global};
 
 /// From how many seconds on the log is told that an archive asked to be left alone.
@@ -81,35 +88,15 @@ fn is_asleep(mood: Option<Mood>) -> bool {
     matches!(mood, Some(Mood::Dormant { .. } | Mood::Probed))
 }
 
-/// How often an archive may be asked. An archive with a time between two requests is walked one at a time.
-fn pace_of(settings: &Settings, archive: &Archive) -> Pace
-    ensures every { IfSome archive.now.every (λ every. result ≡ record { at_once = 1; every = every }) }
-    ensures at_any_time { archive.now.every ≡ None → result.every ≡ 0 }
-    ensures own { archive.now.every ≡ None → IfSome archive.now.at_once (λ most. result.at_once ≡ most) }
-    ensures of_all { archive.now.every ≡ None → archive.now.at_once ≡ None
-        → result.at_once ≡ settings.now.asking.at_once }
+/// Whether a walk that ended so shows that its archive is there, in a round: an archive that refuses what it is asked
+/// for is there as well.
+fn shows_presence(errand: Errand, verdict: Verdict) -> bool
+    ensures { result ≡ verdicts.shows_presence errand verdict }
 {
-    let at_once = archive.at_once.unwrap_or(settings.asking.at_once);
-    match archive.every {
-        Some(every) => Pace { at_once: 1, every },
-        None => Pace {
-            at_once: at_once as usize,
-            every: 0,
-        },
+    match errand {
+        Errand::Round(_) => matches!(verdict, Verdict::Answered | Verdict::There),
+        Errand::Wish { archive: _ } => false,
     }
-}
-
-/// The schedule of these settings, in which no round has begun. Its times are milliseconds.
-fn schedule_of(alloc: Global, settings: &Settings) -> Result<Schedule, AllocError> {
-    let mut paces = Vec::with_capacity(alloc, settings.archives.len())?;
-    for archive in &settings.archives {
-        paces.push(pace_of(settings, archive))?;
-    }
-    let limits = Limits {
-        tolerance: settings.asking.tolerance,
-        pause: settings.asking.dormant.saturating_mul(1_000),
-    };
-    Schedule::new(alloc, limits, &paces, 0)
 }
 
 /// How many jobs a round has that looks after so many originals.
@@ -135,6 +122,7 @@ impl Standing {
         keeping: Keeping,
         incarnation: u64,
     ) -> Result<Standing, AllocError>
+        ensures schedule { IfOk result (λ standing. IsNew settings.now standing.schedule) }
         ensures rule { IfOk result (λ standing. standing.forgetting.withdrawn ≡ None) }
         ensures keeping { IfOk result (λ it. it.keeping ≡ keeping) }
         ensures out { IfOk result (λ it. (it.out ≡ 0) × (it.passed ≡ 0)) }
@@ -187,7 +175,19 @@ impl Standing {
 
     /// Begins the round with this number. What was pulled since the last one counts in it. The jobs of archives that it
     /// doesn't ask are passed over, also of those that may not be asked now, so that it doesn't wait for them.
-    pub fn begin(&mut self, alloc: Global, settings: &Settings, number: u64) {
+    pub fn begin(&mut self, alloc: Global, settings: &Settings, number: u64)
+        ensures number { self.new.number ≡ number }
+        ensures passed { (begun : ScheduleOf) × Begins (length (list_of self.old.originals.all settings.now.originals))
+            self.old.schedule begun × Passes 0 begun self.new.passed self.new.schedule
+            × LeavesAsked self.new.absences begun self.new.schedule }
+        ensures rest { self.new ≡ record self.old {
+          schedule = self.new.schedule;
+          absences = self.new.absences;
+          number = self.new.number;
+          notes = self.new.notes;
+          passed = self.new.passed;
+        } }
+    {
         let originals = self.list(settings).len();
         // It is refused only while a job is out, and a round ends when none is, or when no worker is left to end it.
         let _ = self.schedule.begin(originals);
@@ -196,19 +196,47 @@ impl Standing {
         self.notes = Notes::new(alloc, settings);
         self.passed = 0;
         for archive in 0..settings.archives.len() {
-            if !self.absences.is_asked(archive) {
-                self.pass_over(archive, originals);
-            }
+            self.pass_unasked(archive, originals);
         }
     }
 
-    /// Passes over all jobs of an archive that the round doesn't ask.
-    fn pass_over(&mut self, archive: usize, originals: usize) {
-        for original in 0..originals {
-            if self.schedule.pass_over(Turn { archive, original }) {
-                self.passed = self.passed.saturating_add(1);
-            }
+    /// Passes over all jobs of an archive, unless the round asks it.
+    fn pass_unasked(&mut self, archive: usize, originals: usize)
+        ensures passed { Passes self.old.passed self.old.schedule self.new.passed self.new.schedule }
+        ensures asked { LeavesAsked self.old.absences self.old.schedule self.new.schedule }
+        ensures rest { self.new ≡ record self.old { schedule = self.new.schedule; passed = self.new.passed } }
+    {
+        if !self.absences.is_asked(archive) {
+            self.pass_all(archive, originals);
         }
+    }
+
+    /// Passes over all jobs of an archive.
+    fn pass_all(&mut self, archive: usize, originals: usize)
+        ensures passed { Passes self.old.passed self.old.schedule self.new.passed self.new.schedule }
+        ensures others { IsAt archive self.old.schedule self.new.schedule }
+        ensures rest { self.new ≡ record self.old { schedule = self.new.schedule; passed = self.new.passed } }
+    {
+        for original in 0..originals {
+            let _ = self.pass_job(Turn { archive, original });
+        }
+    }
+
+    /// Passes over the job of a turn, and counts it. Returns whether it was the next of its archive.
+    fn pass_job(&mut self, turn: Turn) -> bool
+        ensures schedule { Answers self.old.schedule.limits turn.archive (Passed turn.original) result
+            self.old.schedule.lanes.items self.new.schedule.lanes.items }
+        ensures count { result ≡ true → self.new.passed ≡ min (self.old.passed + 1) (2 ^ 64 - 1) }
+        ensures same { result ≡ false → self.new.passed ≡ self.old.passed }
+        ensures passed { Passes self.old.passed self.old.schedule self.new.passed self.new.schedule }
+        ensures others { IsAt turn.archive self.old.schedule self.new.schedule }
+        ensures rest { self.new ≡ record self.old { schedule = self.new.schedule; passed = self.new.passed } }
+    {
+        let is_passed = self.schedule.pass_over(turn);
+        if is_passed {
+            self.passed = self.passed.saturating_add(1);
+        }
+        is_passed
     }
 
     /// Ends a round: no archive has a job left, so that no wish waits for one before the next round begins.
@@ -259,17 +287,20 @@ impl Standing {
 
     /// Passes over the job of a turn, whose archive is asked. Returns whether it was the next of its archive.
     pub fn pass_turn(&mut self, turn: Turn) -> bool
+        ensures schedule { Answers self.old.schedule.limits turn.archive (Passed turn.original) result
+            self.old.schedule.lanes.items self.new.schedule.lanes.items }
         ensures passed { result ≡ true → self.new.passed ≡ min (self.old.passed + 1) (2 ^ 64 - 1) }
+        ensures present { result ≡ true → NotesPresent turn.archive self.old.absences self.new.absences }
         ensures same { result ≡ false → self.new.passed ≡ self.old.passed }
+        ensures absent { result ≡ false → self.new.absences ≡ self.old.absences }
         ensures rest { self.new ≡ record self.old {
           schedule = self.new.schedule;
           absences = self.new.absences;
           passed = self.new.passed;
         } }
     {
-        let is_passed = self.schedule.pass_over(turn);
+        let is_passed = self.pass_job(turn);
         if is_passed {
-            self.passed = self.passed.saturating_add(1);
             self.absences.note_present(turn.archive);
         }
         is_passed
@@ -278,19 +309,19 @@ impl Standing {
     /// Notes in the schedule what the walk of an errand told of its archive, which ended at this moment.
     pub fn note_verdict(&mut self, errand: Errand, verdict: Verdict, now: Millis)
         ensures told { IsTold errand verdict now.0 self.old.schedule self.new.schedule }
+        ensures present { verdicts.shows_presence errand verdict ≡ true
+            → NotesPresent (archive_of errand) self.old.absences self.new.absences }
+        ensures absent { verdicts.shows_presence errand verdict ≡ false → self.new.absences ≡ self.old.absences }
         ensures rest { self.new ≡ record self.old { schedule = self.new.schedule; absences = self.new.absences } }
     {
         // Both refuse only a walk that isn't out, and this one was.
         let _ = match errand {
-            Errand::Round(turn) => {
-                // An archive that refuses what it is asked for is there as well.
-                if matches!(verdict, Verdict::Answered | Verdict::There) {
-                    self.absences.note_present(turn.archive);
-                }
-                self.schedule.done(turn, verdict, now.0)
-            }
+            Errand::Round(turn) => self.schedule.done(turn, verdict, now.0),
             Errand::Wish { archive } => self.schedule.end_walk(archive, verdict, now.0),
         };
+        if shows_presence(errand, verdict) {
+            self.absences.note_present(errand.archive());
+        }
     }
 
     /// What the log is to be told, once each in a round: that an archive is dormant, or that it answers again.
@@ -397,22 +428,22 @@ impl Standing {
         self.keeping.note_publish(FORGOTTEN);
     }
 
-    /// Whether what an archive has of an original is withdrawn.
-    pub fn is_withdrawn(&self, archive: ArchiveName, original: &Original) -> bool
-        ensures withdrawn { IfSome self.now.forgetting.withdrawn
-            (λ w. is_withdrawn w (archive, original.now) ≡ true → result ≡ true) }
-        ensures none { self.now.forgetting.withdrawn ≡ None → result ≡ false }
-    {
-        self.forgetting.has_withdrawn(archive, original)
-    }
-
     /// Whether all that archives have of an original is withdrawn.
-    pub fn is_all_withdrawn(&self, settings: &Settings, original: &Original) -> bool {
-        let forgetting = &self.forgetting;
-        let archives = &settings.archives;
-        archives
-            .iter()
-            .all(|archive| forgetting.has_withdrawn(archive.name, original))
+    pub fn is_all_withdrawn(
+        &self,
+        settings: &Settings,
+        original: &Original,
+    ) -> Result<bool, NoMemory>
+        ensures { IfOk result (λ all. all ≡ list_all (λ archive.
+            is_withdrawn_by self.now.forgetting.withdrawn (archive.name, original.now))
+            settings.now.archives.items) }
+    {
+        for archive in &settings.archives {
+            if !self.forgetting.has_withdrawn(archive.name, original)? {
+                return Ok(false);
+            }
+        }
+        Ok(true)
     }
 
     /// Has wishes wait for an archive that named a time within a minute, and skips any other. Returns whether they

@@ -1,6 +1,7 @@
 //! Which archives were absent from a round, how long the service waits after it, and which archives it asks then.
-ghost use Rattle.std.specs.Prelude.{◌≡◌, ◌↔◌, Contains, IfOk, IfSome, IsSomeAnd, IsTrue, None, map, replicate, slice_get, slice_set};
+ghost use Rattle.std.specs.Prelude.{◌≡◌, ◌↔◌, Contains, IfOk, IsSomeAnd, IsTrue, map, replicate, slice_get};
 ghost use Rattle.round_values.specs.Absences.{Ends, Follows, IsAsked, noted, pause_ms, presence_at};
+ghost use Rattle.round_values.specs.Desks.{IsNoted};
 ghost use Rattle.round_values.specs.declared.absences.Presence.TheVariants.{Absent as IsAbsent, NotAsked as IsNotAsked};
 ghost use Rattle.round_values.specs.declared.absences.Scope.TheVariants.{All as AsksAll};
 
@@ -122,10 +123,7 @@ impl Absences {
     /// A job of this archive was answered, or needn't be walked.
     pub fn note_present(&mut self, archive: usize)
         ensures rest { self.new ≡ record self.old { archives = self.new.archives } }
-        ensures known { IfSome (slice_get self.old.archives.items archive)
-            (λ it. self.new.archives.items ≡ slice_set self.old.archives.items archive (noted it)) }
-        ensures unknown { slice_get self.old.archives.items archive ≡ None
-            → self.new.archives.items ≡ self.old.archives.items }
+        ensures archives { IsNoted archive noted self.old.archives.items self.new.archives.items }
     {
         if let Some(presence) = self.archives.get_mut(archive) {
             *presence = presence.noted();

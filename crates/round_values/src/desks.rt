@@ -465,7 +465,8 @@ impl Desk {
     pub fn take_counts(&mut self, now: Millis) -> Option<WishCounts>
         ensures taken { IfSome result (λ counts. counts ≡ self.old.counts) }
         ensures told { IfSome result (λ _. self.new ≡ record self.old { counts = self.new.counts; told = Some now }) }
-        ensures again { IfSome result (λ _. self.new.counts.ended ≡ 0) }
+        ensures again { IfSome result (λ _. (self.new.counts.ended ≡ 0) × (self.new.counts.found ≡ 0)
+            × (self.new.counts.failed ≡ 0)) }
         ensures early { IfSome self.old.told (λ told. now.0 < min (told.0 + 60000) (2 ^ 64 - 1) → result ≡ None) }
         ensures none { self.old.counts.ended ≡ 0 → result ≡ None }
         ensures same { IfNone result (self.new ≡ self.old) }

@@ -1,6 +1,6 @@
 //! What is due when, by the time that has passed.
-ghost use Rattle.std.specs.Prelude.{◌≡◌, ◌↔◌, IsTrue};
-ghost use Rattle.round_values.specs.Dues.{IsDue};
+ghost use Rattle.std.specs.Prelude.{◌≡◌, ◌↔◌, IsTrue, None, Some, if◌then◌else◌};
+ghost use Rattle.round_values.specs.Dues.{IsDue, in_millis};
 
 use crate::times::Millis;
 use service_settings::Settings;
@@ -40,7 +40,10 @@ pub struct Due {
 
 impl Due {
     /// What is due each time that so many seconds have passed, from this moment on.
-    pub fn of_seconds(seconds: Option<u64>, now: Millis) -> Due {
+    pub fn of_seconds(seconds: Option<u64>, now: Millis) -> Due
+        ensures every { result.every ≡ in_millis seconds }
+        ensures last { result.last ≡ now }
+    {
         Due {
             every: seconds.map(|seconds| seconds.saturating_mul(1_000)),
             last: now,
@@ -79,7 +82,12 @@ pub struct Dues {
 impl Dues {
     /// What is due by these settings, from this moment on. The log is told how far a round is only where that is
     /// wanted.
-    pub fn new(settings: &Settings, tells: bool, now: Millis) -> Dues {
+    pub fn new(settings: &Settings, tells: bool, now: Millis) -> Dues
+        ensures publish { result.publish ≡ record { every = in_millis settings.now.timing.publish; last = now } }
+        ensures pull { result.pull ≡ record { every = in_millis settings.now.timing.pull; last = now } }
+        ensures progress { result.progress
+            ≡ record { every = in_millis (if tells then Some 60 else None); last = now } }
+    {
         let progress = if tells { Some(PROGRESS) } else { None };
         Dues {
             publish: Due::of_seconds(settings.timing.publish, now),

@@ -1,7 +1,6 @@
 //! Which jobs needn't be walked, since what is known is young enough.
-ghost use Rattle.std.specs.Prelude.{◌≡◌, ◌↔◌, ◌<◌, IsSomeAnd, IsTrue, if◌then◌else◌};
-ghost use Rattle.harvest_lattice.specs.Lattice.{whole};
-ghost use Rattle.round_values.specs.Freshness.{IsYoung, has_mementos};
+ghost use Rattle.std.specs.Prelude.{◌≡◌};
+ghost use Rattle.round_values.specs.Freshness as spec;
 
 use crate::times::Second;
 use harvest_lattice::Entry;
@@ -9,7 +8,7 @@ use service_settings::Timing;
 
 /// Whether what was looked at in this second is less than so many seconds old, or as little ahead of the clock.
 pub(crate) fn is_young(seen: Second, now: Second, seconds: Option<u64>) -> bool
-    ensures { IsTrue result ↔ IsYoung seen.0 now.0 seconds }
+    ensures { result ≡ spec.is_young seen.0 now.0 seconds }
 {
     match seconds {
         Some(seconds) => now.since(seen) < seconds && seen.since(now) < seconds,
@@ -19,7 +18,7 @@ pub(crate) fn is_young(seen: Second, now: Second, seconds: Option<u64>) -> bool
 
 /// Whether an entry has a memento.
 pub fn has_mementos(entry: &Entry) -> bool
-    ensures { result ≡ has_mementos entry.now }
+    ensures { result ≡ spec.has_mementos entry.now }
 {
     for k in 0..entry.revisions() {
         if !entry.mementos(k).is_empty() {
@@ -31,8 +30,7 @@ pub fn has_mementos(entry: &Entry) -> bool
 
 /// Whether the whole harvest that is known is too young to be made anew in this second.
 pub fn is_fresh(timing: Timing, entry: &Entry, now: Second) -> bool
-    ensures { IsTrue result ↔ IsSomeAnd (whole entry.now) (λ seen. IsYoung seen now.0
-        (if has_mementos entry.now then timing.again else timing.again_none)) }
+    ensures { result ≡ spec.is_fresh timing entry.now now.0 }
 {
     let Some(seen) = entry.whole() else {
         return false;

@@ -1,7 +1,6 @@
 //! From where a peer is asked some of whose news weren't taken.
-ghost use Rattle.std.specs.Prelude.{◌≡◌, ◌≢◌, ◌↔◌, IfSome, IsTrue, Some};
+ghost use Rattle.std.specs.Prelude.{◌≡◌, ◌≢◌, IfSome};
 ghost use Rattle.replica_exchange.specs.CursorRule as rule;
-ghost use Rattle.round_values.specs.Freshness.{IsYoung};
 ghost use Rattle.round_values.specs.Leads as spec;
 
 use crate::freshness::is_young;
@@ -24,7 +23,7 @@ impl Lead {
     /// Whether the peer is asked from here yet: for an hour of the clock. Then it is asked from the held cursor, which
     /// brings again what wasn't taken. A clock that is set by an hour or more ends it at once.
     pub fn lasts(self, now: Second) -> bool
-        ensures { IsTrue result ↔ IsYoung self.begun.0 now.0 (Some spec.lead_lasts) }
+        ensures { result ≡ spec.lasts self now.0 }
     {
         is_young(self.begun, now, Some(LASTS))
     }
