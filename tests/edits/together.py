@@ -38,18 +38,20 @@ MEMORY = 5 << 30
 @dataclass(frozen=True)
 class Function:
     """A function that an edit changes."""
-    path: str     # as a check names it, below its crate
+    path: str     # as a check names it, below its crate; of a method the type and its name alone, since a check names the module
+                  # in which the type stands, which may be another than that of the method
     file: str     # where it stands
     lines: range  # from its head to its end
 
     def has(self, said):
         """Whether a check names this function, or a closure in it."""
         module, _, name = self.path.rpartition("::")
-        return said == self.path or said.startswith(f"{module}::fn::{name}::".removeprefix("::"))
+        closures = f"{module}::fn::{name}::".removeprefix("::"), f"::fn::{self.path}::"
+        return f"::{said}".endswith(f"::{self.path}") or said.startswith(closures[0]) or closures[1] in f"::{said}"
 
     def is_place(self, file, line):
         """Whether a line of its code or of its proof stands here."""
-        return file == self.file and int(line) in self.lines or file.startswith(f"proofs/{self.path.replace('::', '/')}/")
+        return file == self.file and int(line) in self.lines or file.startswith("proofs/") and f"/{self.path.replace('::', '/')}/" in file
 
 
 def last_words(path):
@@ -82,7 +84,7 @@ def function_at(text, at, file):
         impl = IMPL.match(next((line for line in reversed(lines[:head]) if line.startswith("impl")), ""))
         if impl is None:
             return None
-        path.append(re.match(r"[\w:]+", impl["type"])[0].rpartition("::")[2] + last_words(impl["of"] or ""))
+        path = [re.match(r"[\w:]+", impl["type"])[0].rpartition("::")[2] + last_words(impl["of"] or "")]
     return Function("::".join([*path, name]), file, range(head + 1, end + 2))
 
 
