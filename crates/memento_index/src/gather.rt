@@ -16,6 +16,7 @@ use crate::lists::{Lists, StepLists};
 use crate::replacement::Replacement;
 use crate::steps::steps_between;
 use harvest_lattice::{Changes, Row, State};
+use memento_sets::get_rising;
 use memento_time::{Items, NoMemory, Original};
 use std::alloc::Global;
 use std::collections::BTreeMap;
@@ -106,7 +107,7 @@ fn replaces_all(
     if all.contains_key(original) {
         return false;
     }
-    match lists.get(original) {
+    match get_rising(lists, original) {
         Some(list) => list.has_just(replacement.before()),
         None => replacement.before().is_empty(),
     }
