@@ -1,8 +1,8 @@
 """What `run` and `both` share: lists of what is planted, copies of the repository in which rt runs, where the tests of a crate are
 (in crates of tests, or else in the crate itself), and which planted bugs were tried.
 
-`service_threads`, `round_standing`, `round_course` and `aggregator_service` have no tests in Rattle, and `round_values` has them of its
-wishes alone: `tests/rounds`, `tests/settings` and `tests/log` try them as they run."""
+`service_threads`, `round_standing`, `round_course`, `round_walks`, `round_pulls` and `aggregator_service` have no tests in Rattle, and
+`round_values` has them of its wishes alone: `tests/rounds`, `tests/settings` and `tests/log` try them as they run."""
 import contextlib
 import fcntl
 import hashlib

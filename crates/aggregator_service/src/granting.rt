@@ -3,6 +3,7 @@ use crate::making::Rounds;
 use harvest_workers::WalkRules;
 use harvester::SocketRuntime;
 use part_gates::NamesBase;
+use round_walks::{begin_wish_job, grant_wishes};
 use service_ledger::Begins;
 use std::io::Write;
 use std::rt::Files;
@@ -18,7 +19,7 @@ where
         if !self.course.shared.book.is_open() {
             return;
         }
-        self.course.grant_wishes();
+        grant_wishes(&mut self.course);
         let course = &mut self.course;
         course.standing.desk.allow_all();
         let settings = self.course.settings();
@@ -45,7 +46,7 @@ where
         let Some(job) = self.course.standing.desk.next() else {
             return false;
         };
-        match self.course.begin_wish_job(&job, free == 1) {
+        match begin_wish_job(&mut self.course, &job, free == 1) {
             Some(assignment) => self.give(assignment),
             None => true,
         }

@@ -7,6 +7,7 @@ use harvester::SocketRuntime;
 use part_gates::NamesBase;
 use round_course::{Course, EndedRound, TICK};
 use round_pulls::pull_all;
+use round_walks::{tend_wishes, walk_here};
 use service_ledger::Begins;
 use service_settings::Settings;
 use service_threads::{Pool, Pullers};
@@ -116,7 +117,7 @@ where
         match self.pool.give(self.course.rt, assignment) {
             Ok(()) => true,
             Err(assignment) => {
-                self.course.walk_here(assignment);
+                walk_here(&mut self.course, assignment);
                 false
             }
         }
@@ -134,7 +135,7 @@ where
         if heard == Heard::Gone {
             let _ = thread::sleep(self.course.rt, Duration::from_millis(wait));
         }
-        self.course.tend_wishes();
+        tend_wishes(&mut self.course);
         self.course.tend_snapshot();
         self.course.show_memory();
         // Without a clock no time passes by the watch, and the pause would not end.

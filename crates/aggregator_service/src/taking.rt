@@ -3,6 +3,7 @@ use crate::making::Rounds;
 use harvest_workers::WalkRules;
 use harvester::SocketRuntime;
 use part_gates::NamesBase;
+use round_walks::accept_report;
 use service_ledger::Begins;
 use service_threads::News;
 use std::io::Write;
@@ -28,7 +29,7 @@ where
     pub(crate) fn accept_news(&mut self, wait: u64) -> Heard {
         match self.pool.news(self.course.rt, wait) {
             News::Report(report) => {
-                self.course.accept_report(report);
+                accept_report(&mut self.course, report);
                 Heard::Report
             }
             News::Nothing => Heard::Nothing,
@@ -43,7 +44,7 @@ where
             let Some(report) = self.pool.waiting(self.course.rt) else {
                 return;
             };
-            self.course.accept_report(report);
+            accept_report(&mut self.course, report);
         }
     }
 }

@@ -4,6 +4,7 @@ use harvest_workers::WalkRules;
 use harvester::SocketRuntime;
 use part_gates::NamesBase;
 use round_pulls::{accept_pull, ask_peers};
+use round_walks::tend_wishes;
 use service_ledger::Begins;
 use std::io::Write;
 use std::rt::Files;
@@ -17,7 +18,7 @@ where
     /// Does what is due: takes in what peers gave, pulls, publishes, and logs how far the round is.
     pub(crate) fn tend(&mut self) {
         self.tend_peers();
-        self.course.tend_wishes();
+        tend_wishes(&mut self.course);
         self.course.tend_snapshot();
         self.course.show_progress();
         self.course.show_memory();

@@ -1,31 +1,15 @@
 -- What calls of a course came to.
-use Rattle.std.proofs.Common.{◌≡◌, ℕ, Bool, true, List, Option, Some, Result, Ok, slice_get, sym, subst}
-use Rattle.harvest_lattice.specs.Knowledge.{Harvested}
-use Rattle.harvester.specs.declared.faults.WalkFault.{WalkFault}
+use Rattle.std.proofs.Common.{◌≡◌, ℕ, true, List, Option, Some, slice_get, subst}
 use Rattle.harvest_schedule.specs.declared.turns.Turn.{Turn}
 use Rattle.published_index.specs.Batches.{merges_of}
 use Rattle.published_index.specs.Views.{MergerView}
 use Rattle.replica_exchange.specs.Stamps.{state_after}
 use Rattle.retention.specs.Rules.{Withdrawal}
 use Rattle.forgetting.specs.Renewing.{is_withdrawn_by}
-use Rattle.forgetting.specs.declared.standing.Forgetting.{Forgetting}
 use Rattle.service_settings.specs.declared.archives.Archive.{Archive}
 use Rattle.service_settings.specs.declared.settings.Settings.{Settings}
-use Rattle.round_course.specs.declared.fates.Fate.{Fate}
 use Rattle.round_course.specs.Asking.{is_young_in}
-use Rattle.round_course.specs.Fates.{Becomes, IsTakenIn, grounds_of}
 use Rattle.round_course.specs.Permits.{IsKnownAt, IsWithdrawnAt}
-
--- the harvest of a walk became this, where all by which that is decided was as before
-pub taken_in : (r : Result Harvested WalkFault) (h : Harvested) (s t : Settings) (a b f : Forgetting) (is_wished : Bool) (m k n : MergerView) (fate : Fate)
-    → r ≡ Ok h → t ≡ s → b ≡ a → k ≡ m → Becomes fate (grounds_of t b is_wished f) h k n → IsTakenIn r (grounds_of s a is_wished f) m n
-taken_in r h s t a b f is_wished m k n fate came settings forgetting merger becomes =
-    subst (λ (it : Result Harvested WalkFault). IsTakenIn it (grounds_of s a is_wished f) m n) (sym came) (
-      fate,
-      subst (λ (it : Settings). Becomes fate (grounds_of it a is_wished f) h m n) settings
-          (subst (λ (it : Forgetting). Becomes fate (grounds_of t it is_wished f) h m n) forgetting
-          (subst (λ (it : MergerView). Becomes fate (grounds_of t b is_wished f) h it n) merger becomes)),
-    )
 
 -- what is published of the job of a turn is young enough, where all by which that is told is as before
 pub known_at : (s t : Settings) (m n : MergerView) (xs ys : List (List ℕ)) (turn : Turn) (archive : Archive) (original : List ℕ) (second : ℕ)

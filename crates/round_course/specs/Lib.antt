@@ -1,4 +1,3 @@
 pub mod Asking
-pub mod Fates
 pub mod Permits
 pub mod Publishes

@@ -124,7 +124,7 @@ where
 
     /// The job of an errand's archive, which may be asked, for an original, to be handed out in this second: a round's
     /// or a wish's. `None` if memory is refused, or if its URL is too long.
-    pub(crate) fn assignment(
+    pub fn assignment(
         &self,
         permit: Permit,
         errand: Errand,

@@ -3,7 +3,6 @@ ghost use Rattle.std.specs.Prelude.{◌≡◌, ◌||◌, ℕ, [], IfOk, false, i
 ghost use Rattle.std.specs.Arc.{arc_value};
 ghost use Rattle.round_course.specs.Asking as spec;
 ghost use Rattle.round_course.specs.Asking.{held_for};
-ghost use Rattle.round_course.specs.Fates.{HasNoRoom, grounds_of};
 ghost use Rattle.round_course.specs.Permits.{IsWithdrawnAt};
 ghost use Rattle.round_course.specs.Publishes.{has_forgotten};
 ghost use Rattle.round_standing.specs.Listing.{list_of};
@@ -15,7 +14,6 @@ ghost use Rattle.service_ledger.specs.Leads.{IsPart};
 use crate::course::Course;
 use crate::known::job_at;
 use forgetting::{Forgot, Ways};
-use harvest_lattice::Harvest;
 use harvest_schedule::Turn;
 use harvest_workers::WalkRules;
 use harvester::SocketRuntime;
@@ -24,7 +22,7 @@ use part_gates::NamesBase;
 use replica_exchange::{Cursor, Delta, TakeFault};
 use round_values::Millis;
 use service_ledger::Begins;
-use service_log::{PeerFault, Want};
+use service_log::PeerFault;
 use service_threads::forgets;
 use std::hash::RandomState;
 use std::io::Write;
@@ -212,34 +210,5 @@ where
             Ok(is_withdrawn) => is_withdrawn,
             Err(_) => false,
         }
-    }
-
-    /// Whether there is room for a wish's harvest. One for which there is none is counted.
-    pub(crate) fn has_room(&mut self, harvest: &Harvest) -> bool
-        ensures room { result ≡ false → HasNoRoom (grounds_of (arc_value self.old.terms.now.settings)
-            self.old.standing.forgetting true self.new.standing.forgetting) harvest.now }
-        ensures withdrawn { self.new.standing.forgetting.withdrawn ≡ self.old.standing.forgetting.withdrawn }
-        ensures ledger { self.new.ledger.now.merger ≡ self.old.ledger.now.merger }
-        ensures terms { self.new.terms.now.settings ≡ self.old.terms.now.settings }
-    {
-        if !forgets(self.settings()) {
-            return true;
-        }
-        let (settings, now) = (self.settings(), self.now());
-        let has_room = self
-            .standing
-            .forgetting
-            .has_room(settings, self.ledger.merger(), harvest, now);
-        if has_room {
-            return true;
-        }
-        self.standing.dropped = self.standing.dropped.saturating_add(1);
-        false
-    }
-
-    /// Logs how many harvests of wishes weren't kept for lack of room since the last round, if some weren't.
-    pub(crate) fn log_dropped(&mut self, round: u64) {
-        let count = self.standing.take_dropped();
-        self.console.log_wanting(round, count, Want::Mementos);
     }
 }

@@ -1,4 +1,6 @@
 //! The originals that rounds look after are read from their file, and told to the book of wishes.
+ghost use Rattle.std.specs.Prelude.{◌≡◌};
+
 use crate::course::Course;
 use forgetting::{FileFault, read_file};
 use harvest_workers::WalkRules;
@@ -45,7 +47,13 @@ where
 
     /// Tells the book which originals rounds look after, unless it was told of these. Where memory is refused, those of
     /// before stay.
-    pub(crate) fn book_listed(&mut self) {
+    pub(crate) fn book_listed(&mut self)
+        ensures standing { self.new.standing ≡ record self.old.standing {
+          originals
+              = record self.old.standing.originals { is_booked = self.new.standing.originals.is_booked };
+        } }
+        ensures terms { self.new.terms.now.settings ≡ self.old.terms.now.settings }
+    {
         let settings = self.settings();
         let Some(keys) = self.shared.keys else {
             return;

@@ -1,13 +1,12 @@
 //! A round's beginning, its end, and the jobs of its turns.
-ghost use Rattle.std.specs.Prelude.{◌≡◌, ℕ, IfSome, Result, Some, false, slice_get, true};
+ghost use Rattle.std.specs.Prelude.{◌≡◌, ℕ, IfSome, Some, false, length, slice_get, true};
 ghost use Rattle.std.specs.Arc.{arc_value};
 ghost use Rattle.harvest_workers.specs.declared.errands.Errand.TheVariants.{Round as OfRound};
-ghost use Rattle.harvester.specs.declared.faults.WalkFault.{WalkFault};
-ghost use Rattle.harvest_lattice.specs.Knowledge.{Harvested};
+ghost use Rattle.harvest_schedule.specs.declared.schedules.Schedule.{Schedule};
 ghost use Rattle.round_values.specs.Counts.{round_after};
 ghost use Rattle.round_values.specs.Revisions.{revision_of as revision_by_rule};
 ghost use Rattle.round_standing.specs.Listing.{list_of};
-ghost use Rattle.round_course.specs.Fates.{IsTakenIn, grounds_of, is_wish};
+ghost use Rattle.round_standing.specs.Paces as paces;
 ghost use Rattle.round_course.specs.Permits.{GaveTurn, IsNeedless};
 ghost use Rattle.round_course.specs.Publishes.{Publishes};
 
@@ -52,7 +51,13 @@ where
     L: Write + Copy,
 {
     /// Begins the round with this number: reads what is listed and what is withdrawn, and tells the book of wishes.
-    pub fn begin_round(&mut self, number: u64) {
+    pub fn begin_round(&mut self, number: u64)
+        ensures number { self.new.standing.number ≡ number }
+        ensures jobs { (before begun : Schedule) × paces.Begins (length (list_of self.new.standing.originals.all
+            (arc_value self.new.terms.now.settings).originals)) before begun
+            × paces.Passes 0 begun self.new.standing.passed self.new.standing.schedule
+            × paces.LeavesAsked self.new.standing.absences begun self.new.standing.schedule }
+    {
         let settings = self.settings();
         self.read_list(number);
         self.read_rule();
@@ -161,16 +166,5 @@ where
             Errand::Round(_) => self.standing.add_out(),
             Errand::Wish { archive: _ } => self.standing.desk.add_out(),
         }
-    }
-
-    /// Walks a job in this thread that is counted as out, and takes in what came of it.
-    pub fn walk_here(&mut self, assignment: Assignment<P>)
-        ensures { (walked : Result Harvested WalkFault) × IsTakenIn walked
-            (grounds_of (arc_value self.old.terms.now.settings)
-            self.old.standing.forgetting (is_wish assignment.errand) self.new.standing.forgetting)
-            self.old.ledger.now.merger self.new.ledger.now.merger }
-    {
-        let report = self.terms.walk(self.rt, assignment);
-        self.accept_report(report);
     }
 }

@@ -1,8 +1,9 @@
 //! Peers are pulled, and what they give is taken in.
-ghost use Rattle.std.specs.Prelude.{◌≡◌, ℕ, IfOk, OnOk, Some, true};
+ghost use Rattle.std.specs.Prelude.{◌≡◌, ℕ, IfOk, None, OnOk, Some, false, true};
 ghost use Rattle.std.specs.Arc.{arc_value};
 ghost use Rattle.std.specs.Option.{option_map_or};
 ghost use Rattle.replica_exchange.specs.CursorRule.{end_of, fits};
+ghost use Rattle.round_values.specs.Ahead as ahead;
 ghost use Rattle.round_values.specs.Leads.{IsAskedFrom};
 ghost use Rattle.round_values.specs.declared.leads.Lead.{Lead};
 ghost use Rattle.round_standing.specs.Peers.{IsNotedAt, noted_of};
@@ -10,6 +11,7 @@ ghost use Rattle.round_course.specs.Asking as spec;
 ghost use Rattle.round_course.specs.Asking.{held_for};
 ghost use Rattle.outgoing_requests.specs.Pulls.{IsPulled};
 ghost use Rattle.service_ledger.specs.Leads.{IsPart};
+ghost use Rattle.round_pulls.specs.Moves.{IsUntaken, StayHeld, is_stale};
 
 use crate::stepping::{accept_part, append_some, ask_peer, pull_request, steps_on, timely};
 use harvest_workers::WalkRules;
@@ -157,15 +159,21 @@ where
     }
 }
 
-/// Takes in what a peer gave, and asks it for the next part, if it gave one.
+/// Takes in what a peer gave, and asks it for the next part, if it gave one. The answer to what the peer no longer has
+/// to be asked for isn't taken.
 pub fn accept_pull<R, P, L>(course: &mut Course<'_, R, P, L>, pullers: &Pullers, answer: PullAnswer)
 where
     R: SocketRuntime + Files,
     P: WalkRules + Begins + NamesBase,
     L: Write + Copy,
+    ensures stale { is_stale course.old.standing.peers answer.peer ≡ true
+        → IsUntaken course.old.standing course.old.ledger.now.merger course.new.standing course.new.ledger.now.merger }
 {
     let peer = answer.peer;
-    if take_in(course, answer) && steps_on(course, peer) {
+    if !take_in(course, answer) {
+        return;
+    }
+    if steps_on(course, peer) {
         ask_peer(course, pullers, peer);
     }
 }
@@ -177,6 +185,9 @@ where
     R: SocketRuntime + Files,
     P: WalkRules + Begins + NamesBase,
     L: Write + Copy,
+    ensures answer { is_stale course.old.standing.peers answer.peer ≡ true → result ≡ false }
+    ensures stale { is_stale course.old.standing.peers answer.peer ≡ true
+        → IsUntaken course.old.standing course.old.ledger.now.merger course.new.standing course.new.ledger.now.merger }
 {
     let PullAnswer {
         peer,
@@ -184,8 +195,9 @@ where
         cursor,
         answer,
     } = answer;
+    let is_stale = course.standing.peers.is_stale(peer);
     course.standing.peers.set_pulled(peer, false);
-    if course.standing.peers.is_stale(peer) {
+    if is_stale {
         return false;
     }
     let taken = accept_answer(course, peer, cursor, answer);
@@ -299,6 +311,17 @@ where
     P: WalkRules + Begins + NamesBase,
     L: Write + Copy,
     requires { ∥ IsPart delta ∥₁ }
+    ensures before { left_out ≡ true
+        → StayHeld course.old.standing.forgetting course.old.ledger.now.merger
+        course.new.standing.forgetting course.new.ledger.now.merger }
+    ensures ahead { (now : ℕ) × ((¬ (ahead.left_out
+        (ahead.last_taken (arc_value course.old.terms.now.settings).timing.ahead now) delta.state ≡ 0))
+        → StayHeld course.old.standing.forgetting course.old.ledger.now.merger
+        course.new.standing.forgetting course.new.ledger.now.merger) }
+    ensures gap { fits (held_for (spec.forgets (arc_value course.old.terms.now.settings))
+        course.old.standing.forgetting.cursors course.old.ledger.now.merger.cursors peer) delta ≡ false
+        → StayHeld course.old.standing.forgetting course.old.ledger.now.merger
+        course.new.standing.forgetting course.new.ledger.now.merger }
 {
     let (delta, ahead) = timely(course, delta)?;
     if !left_out && ahead == 0 && follows(course.held(peer), &delta) {
@@ -325,6 +348,8 @@ where
     ensures lead { OnOk result ((lead : Lead) × (lead.cursor ≡ end_of delta)
         × IsNotedAt peer (λ notes. record notes { lead = Some lead })
         course.old.standing.peers.all.items course.new.standing.peers.all.items) }
+    ensures held { StayHeld course.old.standing.forgetting course.old.ledger.now.merger
+        course.new.standing.forgetting course.new.ledger.now.merger }
 {
     if !follows(asked, &delta) {
         return Err(PeerFault::Take(TakeFault::Gap { held: asked }));

@@ -1,8 +1,9 @@
 //! The parts of peers' deltas are asked for and taken in, one after the other.
-ghost use Rattle.std.specs.Prelude.{◌≡◌, ℕ, IfOk, IfSome, option_map};
+ghost use Rattle.std.specs.Prelude.{◌≡◌, ℕ, IfOk, IfSome, None, false, option_map, true};
 ghost use Rattle.std.specs.Arc.{arc_value};
 ghost use Rattle.std.specs.Option.{option_map_or};
-ghost use Rattle.round_values.specs.Ahead.{last_taken, taken};
+ghost use Rattle.delta_parts.specs.PartRule.{fits_part};
+ghost use Rattle.round_values.specs.Ahead as ahead;
 ghost use Rattle.round_values.specs.Leads.{IsAskedFrom};
 ghost use Rattle.round_values.specs.Steps as steps;
 ghost use Rattle.round_standing.specs.Peers.{noted_of};
@@ -10,6 +11,7 @@ ghost use Rattle.round_course.specs.Asking as spec;
 ghost use Rattle.round_course.specs.Asking.{held_for};
 ghost use Rattle.outgoing_requests.specs.Pulls.{IsPartBrought};
 ghost use Rattle.service_ledger.specs.Leads.{IsPart};
+ghost use Rattle.round_pulls.specs.Moves.{BeginsAnew, IsTimelyOf, StayHeld, walk_with};
 
 use crate::pulling::{accept_kept, cursor_of};
 use delta_parts::Part;
@@ -110,6 +112,12 @@ where
     P: WalkRules + Begins + NamesBase,
     L: Write + Copy,
     requires { ∥ IsPartBrought part ∥₁ }
+    ensures apart { fits_part asked (walk_with course.old.standing.peers peer) part ≡ false
+        → BeginsAnew peer course.old.standing course.old.ledger.now.merger
+        course.new.standing course.new.ledger.now.merger }
+    ensures still { steps.is_still (walk_with course.old.standing.peers peer) part ≡ true
+        → BeginsAnew peer course.old.standing course.old.ledger.now.merger
+        course.new.standing course.new.ledger.now.merger }
 {
     let stepped = match step(asked, course.standing.peers.walking(peer), part) {
         Ok(stepped) => stepped,
@@ -149,6 +157,8 @@ where
     P: WalkRules + Begins + NamesBase,
     L: Write + Copy,
     requires { ∥ IsPart delta ∥₁ }
+    ensures { StayHeld course.old.standing.forgetting course.old.ledger.now.merger
+        course.new.standing.forgetting course.new.ledger.now.merger }
 {
     let (delta, left_out) = timely(course, delta)?;
     let taken = append_some(course, delta)?;
@@ -198,10 +208,11 @@ where
     L: Write + Copy,
     requires { ∥ IsPart delta ∥₁ }
     ensures part { IfOk result (λ it. ∥ IsPart it.0 ∥₁) }
-    ensures timely { IfOk result (λ it. (now : ℕ) × (it.0 ≡ record delta {
-      state = taken
-          (last_taken (arc_value course.old.terms.now.settings).timing.ahead now) delta.state;
-    })) }
+    ensures timely { IfOk result (λ it. (now : ℕ) × IsTimelyOf
+        (ahead.last_taken (arc_value course.old.terms.now.settings).timing.ahead now) delta it) }
+    ensures ledger { course.new.ledger.now.merger ≡ course.old.ledger.now.merger }
+    ensures forgetting { course.new.standing.forgetting ≡ course.old.standing.forgetting }
+    ensures terms { course.new.terms.now.settings ≡ course.old.terms.now.settings }
 {
     let last = course.last_taken();
     let Delta {
@@ -234,7 +245,9 @@ where
     P: WalkRules + Begins + NamesBase,
     L: Write + Copy,
     requires { ∥ IsPart delta ∥₁ }
-    ensures { course.new.standing.peers ≡ course.old.standing.peers }
+    ensures peers { course.new.standing.peers ≡ course.old.standing.peers }
+    ensures held { StayHeld course.old.standing.forgetting course.old.ledger.now.merger
+        course.new.standing.forgetting course.new.ledger.now.merger }
 {
     if delta.state.le(course.ledger.merger().published_state()) {
         return Ok(TakenAs::Known);

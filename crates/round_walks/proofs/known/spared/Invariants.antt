@@ -1,8 +1,8 @@
 use Rattle.std.proofs.Common.{◌≡◌, map, take}
 use Rattle.published_index.specs.Batches.{merges_of}
 use Rattle.replica_exchange.specs.Stamps.{state_after}
-use Rattle.round_course.specs.Asking as spec
-use Rattle.round_course.proofs.known.spared.Given as goal
+use Rattle.round_walks.specs.Sparing as spec
+use Rattle.round_walks.proofs.known.spared.Given as goal
 
 -- what is told of those that were gone over
 abbrev pub invariant-loop-archive : goal.invariant-loop-archive

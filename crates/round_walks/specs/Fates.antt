@@ -13,8 +13,8 @@ use Rattle.forgetting.specs.Renewing.{HasRoom, is_withdrawn_by, known}
 use Rattle.forgetting.specs.declared.standing.Forgetting.{Forgetting}
 use Rattle.round_values.specs.Ahead.{is_ahead, last_taken}
 use Rattle.service_settings.specs.declared.settings.Settings.{Settings}
-use Rattle.round_course.specs.declared.fates.Fate.{Fate}
-use Rattle.round_course.specs.declared.fates.Fate.TheVariants.{Appended, Withdrawn, Ahead, Empty, NoRoom, NoMemory}
+use Rattle.round_walks.specs.declared.fates.Fate.{Fate}
+use Rattle.round_walks.specs.declared.fates.Fate.TheVariants.{Appended, Withdrawn, Ahead, Empty, NoRoom, NoMemory}
 
 -- whether a wish asked for it
 abbrev pub is_wish : Errand → Bool

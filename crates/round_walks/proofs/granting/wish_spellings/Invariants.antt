@@ -1,6 +1,6 @@
 use Rattle.std.proofs.Common.{◌≡◌}
-use Rattle.round_course.proofs.course.Course.wish_spellings.Given as goal
+use Rattle.round_walks.proofs.granting.wish_spellings.Given as goal
 
 -- wishes for spellings put nothing on the desk but the spellings
 abbrev pub invariant-loop-spelling : goal.invariant-loop-spelling
-invariant-loop-spelling g l = l.self.standing.desk.jobs ≡ l.initial.self.standing.desk.jobs
+invariant-loop-spelling g l = l.course.standing.desk.jobs ≡ l.initial.course.standing.desk.jobs

@@ -1,5 +1,0 @@
-use Rattle.std.proofs.Common.{rules}
-use Rattle.round_course.proofs.course.Course.publish_wished.Goals as goal
-
-pub returns-then-is_due : goal.returns-then-is_due
-returns-then-is_due g c = (c.now-now.result.0, λ never. absurd (never (search rules)))
