@@ -16,7 +16,7 @@ use crate::lists::{Lists, StepLists};
 use crate::replacement::Replacement;
 use crate::steps::steps_between;
 use harvest_lattice::{Changes, Row, State};
-use memento_sets::get_rising;
+use memento_sets::{contains_rising, get_rising};
 use memento_time::{Items, NoMemory, Original};
 use std::alloc::Global;
 use std::collections::BTreeMap;
@@ -104,7 +104,7 @@ fn replaces_all(
     ensures listed { IsTrue result
         → tally_of lists.now original.now ≡ each_once (shared_mementos replacement.now.before) }
 {
-    if all.contains_key(original) {
+    if contains_rising(all, original) {
         return false;
     }
     match get_rising(lists, original) {

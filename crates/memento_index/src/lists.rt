@@ -11,7 +11,7 @@ ghost use Rattle.memento_index.specs.Lists.{HaveRoom, CanCount};
 use crate::counted::Steps;
 use crate::listing::Listing;
 use crate::tally::Tally;
-use memento_sets::get_rising;
+use memento_sets::contains_rising;
 use memento_time::{NoMemory, Original};
 use std::alloc::Global;
 use std::collections::BTreeMap;
@@ -80,7 +80,7 @@ fn make_list(lists: &mut Lists, original: &Original) -> Result<(), NoMemory>
         → tree.get text_cmp lists.new o ≡ tree.get text_cmp lists.old o }
     ensures made { OnOk result (IsSome (tree.get text_cmp lists.new original.now)) }
 {
-    if get_rising(lists, original).is_none() {
+    if !contains_rising(lists, original) {
         let original = original.try_clone()?;
         lists.insert(original, Listing::new())?;
     }

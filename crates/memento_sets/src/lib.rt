@@ -5,7 +5,7 @@
 //! Taking in another set takes time in the number of mementos that come, and of those that stand after the first that
 //! comes. Contracts see the finite set.
 //!
-//! `get_rising` looks up an original in a map that takes in originals in their order.
+//! `get_rising` and `contains_rising` look up an original in a map that takes in originals in their order.
 //!
 //! `specs/Sets.antt` defines finite sets, as finite maps that have nothing at each key. `specs/Maps.antt` defines what
 //! two finite maps make value by value. Crates above use the same definitions for other sets and maps.
@@ -16,5 +16,5 @@ mod lookup;
 mod mementos;
 
 pub use laws::one_list_of_a_set;
-pub use lookup::get_rising;
+pub use lookup::{contains_rising, get_rising};
 pub use mementos::{Mementos, are_same};

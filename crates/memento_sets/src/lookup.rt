@@ -1,5 +1,5 @@
 //! Looking up keys that come in their order.
-ghost use Rattle.std.specs.Prelude.{◌≡◌, ◌↔◌, IsTrue, ℕ, List, None, option_copied};
+ghost use Rattle.std.specs.Prelude.{◌≡◌, IsTrue, None, is_some, option_copied};
 ghost use Rattle.std.specs.BTreeMap as tree;
 ghost use Rattle.memento_time.specs.Mementos.{text_cmp};
 
@@ -18,6 +18,13 @@ pub fn get_rising<'a, V>(map: &'a BTreeMap<Original, V>, original: &Original) ->
         return None;
     }
     map.get(original)
+}
+
+/// Whether a map has something at an original, told as soon as `get_rising` finds it.
+pub fn contains_rising<V>(map: &BTreeMap<Original, V>, original: &Original) -> bool
+    ensures { result ≡ is_some (tree.get text_cmp map.now original.now) }
+{
+    get_rising(map, original).is_some()
 }
 
 /// Whether an original is behind all of a map's.

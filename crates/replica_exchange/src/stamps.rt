@@ -11,7 +11,7 @@ ghost use Rattle.harvest_lattice.specs.Rows.{row_key};
 ghost use Rattle.replica_exchange.specs.StampShelves.{stamp_in, slot, key_of, stamp_after};
 
 use harvest_lattice::Row;
-use memento_sets::get_rising;
+use memento_sets::contains_rising;
 use memento_time::{ArchiveName, NoMemory, Original};
 use std::alloc::Global;
 use std::collections::btree_map::{BTreeMap, Iter};
@@ -110,7 +110,7 @@ impl StampShelf {
         ensures stay { (o : List ℕ) → IsSome (map.get self.old o) → IsSome (map.get self.new o) }
         ensures made { OnOk result (IsSome (map.get self.new original.now)) }
     {
-        if get_rising(&self.slots, original).is_none() {
+        if !contains_rising(&self.slots, original) {
             let original = original.try_clone()?;
             self.slots.insert(original, None)?;
         }

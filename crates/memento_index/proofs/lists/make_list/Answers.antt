@@ -12,7 +12,7 @@ returns-in_ok-insert-clause-grow c =
     let a = c.in_ok-original.original in
     let none : is_some (tree.get text_cmp m a) ≡ false =
     ap (λ o. is_some (tree.get text_cmp m o)) c.in_ok-original.ensures
-    ∙ (sym c.contains_key.ensures ∙ c.if-not-contains_key.true) in
+    ∙ (sym c.contains_rising.ensures ∙ c.if-not-contains_rising.true) in
     one_grows m c.insert.new.self a c.new.result c.in_ok-insert.ensures.updates.0
     (subst (λ (t : Option Tallied). Grows t (Some c.new.result)) (sym (none_there (tree.get text_cmp m a) none))
     c.new.ensures)

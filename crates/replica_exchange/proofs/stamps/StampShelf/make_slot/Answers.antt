@@ -8,7 +8,7 @@ pub returns-in_ok-insert-clause-same : goal.returns-in_ok-insert-clause-same
 returns-in_ok-insert-clause-same c o =
     let a = c.args.original.now in
     let none : is_some (map.get c.args.self.now a) ≡ false = ap (λ (s : Slots). is_some (map.get s a)) (sym c.self.view_is)
-    ∙ (ap is_some (get-slots c.self.inside.slots.entries a) ∙ (sym c.contains_key.ensures ∙ c.if-not-contains_key.true)) in
+    ∙ (ap is_some (get-slots c.self.inside.slots.entries a) ∙ (sym c.contains_rising.ensures ∙ c.if-not-contains_rising.true)) in
     let put = slot_put c.self.inside.slots.entries c.insert.new.self.entries c.in_ok-original.original None c.args.self.now c.self.view_is c.in_ok-insert.ensures.updates.0
     ∙ ap (λ (o : List ℕ). map.insert c.args.self.now o None) c.in_ok-original.ensures in
     ap (λ (s : Slots). stamp_in (map.get s o)) put ∙ slot_same c.args.self.now a none o
@@ -25,7 +25,7 @@ returns-in_ok-insert-clause-made c =
     ∙ ap (λ (o : List ℕ). map.insert c.args.self.now o None) c.in_ok-original.ensures in
     subst (λ (s : Slots). IsSome (map.get s c.args.original.now)) (sym put) (slot_made c.args.self.now c.args.original.now None)
 
-pub returns-else-not-contains_key-clause-made : goal.returns-else-not-contains_key-clause-made
-returns-else-not-contains_key-clause-made c =
+pub returns-else-not-contains_rising-clause-made : goal.returns-else-not-contains_rising-clause-made
+returns-else-not-contains_rising-clause-made c =
     let a = c.args.original.now in
-    ap (λ (s : Slots). is_some (map.get s a)) (sym c.self.view_is) ∙ (ap is_some (get-slots c.self.inside.slots.entries a) ∙ (sym c.contains_key.ensures ∙ c.if-not-contains_key.false))
+    ap (λ (s : Slots). is_some (map.get s a)) (sym c.self.view_is) ∙ (ap is_some (get-slots c.self.inside.slots.entries a) ∙ (sym c.contains_rising.ensures ∙ c.if-not-contains_rising.false))
