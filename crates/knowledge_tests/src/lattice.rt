@@ -63,6 +63,20 @@ fn entry_of_root(alloc: Global, state: &State) -> Result<Entry> {
     Ok(entry.try_clone()?)
 }
 
+/// Whether an entry has just these mementos of a revision at a place.
+fn has_revision(
+    alloc: Global,
+    entry: &Entry,
+    place: usize,
+    revision: u64,
+    captures: &[Capture],
+) -> Result<bool> {
+    if place >= entry.revisions() {
+        return Ok(false);
+    }
+    Ok(entry.revision(place) == revision && are(alloc, entry.mementos(place), captures)?)
+}
+
 #[test]
 fn harvests_of_one_revision_are_united(rt: HostRuntime) -> Result<()> {
     let alloc = rt.alloc();
@@ -74,8 +88,8 @@ fn harvests_of_one_revision_are_united(rt: HostRuntime) -> Result<()> {
     ];
     let entry = entry_of_root(alloc, &state_with(alloc, &all)?)?;
     assert!(rt; entry.whole() == Some(5) && entry.revisions() == 2);
-    assert!(rt; entry.revision(0) == 5 && are(alloc, entry.mementos(0), &[FIRST, SECOND])?);
-    assert!(rt; entry.revision(1) == 6 && are(alloc, entry.mementos(1), &[SECOND, THIRD])?);
+    assert!(rt; has_revision(alloc, &entry, 0, 5, &[FIRST, SECOND])?);
+    assert!(rt; has_revision(alloc, &entry, 1, 6, &[SECOND, THIRD])?);
     Ok(())
 }
 
@@ -230,12 +244,21 @@ fn begins_with(alloc: Global, state: &State, name: &[u8]) -> Result<bool> {
     Ok(state.len() > 0 && state.key(0) == (archive, &root))
 }
 
+/// The state of one row of archive a1, and one of b1.
+fn state_of_two(alloc: Global) -> Result<State> {
+    state_of(alloc, &row(alloc, b"a1", 1)?, &row(alloc, b"b1", 1)?)
+}
+
+/// Whether another state has two rows, and this one grows above it.
+fn takes_two(state: &mut State, other: &State) -> Result<bool> {
+    Ok(other.len() == 2 && grows_above(state, other)?)
+}
+
 #[test]
 fn rows_make_states_that_are_joined(rt: HostRuntime) -> Result<()> {
     let alloc = rt.alloc();
     let mut state = state_with(alloc, &[whole(b"c1", 1, &[SECOND])])?;
-    let other = state_of(alloc, &row(alloc, b"a1", 1)?, &row(alloc, b"b1", 1)?)?;
-    assert!(rt; other.len() == 2 && grows_above(&mut state, &other)?);
+    assert!(rt; takes_two(&mut state, &state_of_two(alloc)?)?);
     assert!(rt; state.len() == 3 && begins_with(alloc, &state, b"a1")?);
     assert!(rt; state.rows().next().is_some());
     Ok(())
@@ -277,13 +300,18 @@ fn copy_of(alloc: Global, had: Had<'_>) -> Result<Harvest> {
     Ok(harvest_of(alloc, had)?.try_clone()?)
 }
 
+/// Whether a harvest is of revision 7 of archive a1, whole, and of these mementos.
+fn is_seventh(alloc: Global, harvest: &Harvest, captures: &[Capture]) -> Result<bool> {
+    let is_named = harvest.archive() == archive(b"a1")? && harvest.original().as_bytes() == ROOT;
+    let is_whole = harvest.revision() == 7 && !harvest.is_part();
+    Ok(is_named && is_whole && are(alloc, harvest.mementos(), captures)?)
+}
+
 #[test]
 fn a_harvest_keeps_each_memento_once(rt: HostRuntime) -> Result<()> {
     let alloc = rt.alloc();
     let copy = copy_of(alloc, whole(b"a1", 7, &[SECOND, FIRST, SECOND]))?;
-    assert!(rt; copy.archive() == archive(b"a1")? && copy.original().as_bytes() == ROOT);
-    assert!(rt; copy.revision() == 7 && !copy.is_part());
-    assert!(rt; are(alloc, copy.mementos(), &[FIRST, SECOND])?);
+    assert!(rt; is_seventh(alloc, &copy, &[FIRST, SECOND])?);
     assert!(rt; copy_of(alloc, part(7, &[FIRST]))?.is_part());
     Ok(())
 }

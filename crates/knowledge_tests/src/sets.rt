@@ -22,16 +22,19 @@ fn unite(set: &mut Mementos, other: &Mementos) -> Result<()> {
     Ok(())
 }
 
+/// Whether a set comes to have another and is more than that one, of which just these are news.
+fn takes(alloc: Global, set: &mut Mementos, other: &Mementos, news: &[Capture]) -> Result<bool> {
+    let is_news = !other.is_subset(set) && is_rest(alloc, other, set, news)?;
+    unite(set, other)?;
+    Ok(is_news && other.is_subset(set) && !are_same(other.as_slice(), set.as_slice()))
+}
+
 #[test]
 fn sets_are_united(rt: HostRuntime) -> Result<()> {
     let alloc = rt.alloc();
     let mut all = set(alloc, &[THIRD, SECOND, THIRD])?;
     assert!(rt; all.len() == 2);
-    let second = set(alloc, &[THIRD, FIRST])?;
-    assert!(rt; is_rest(alloc, &second, &all, &[FIRST])?);
-    assert!(rt; !second.is_subset(&all));
-    unite(&mut all, &second)?;
-    assert!(rt; second.is_subset(&all) && !are_same(second.as_slice(), all.as_slice()));
+    assert!(rt; takes(alloc, &mut all, &set(alloc, &[THIRD, FIRST])?, &[FIRST])?);
     assert!(rt; are(alloc, &all.into_vec(), &[FIRST, SECOND, THIRD])?);
     Ok(())
 }
@@ -41,13 +44,25 @@ fn has(alloc: Global, set: &Mementos, capture: Capture) -> Result<bool> {
     Ok(set.has(&memento))
 }
 
+/// The set of a list, if the list is in order.
+fn sorted_set(alloc: Global, captures: &[Capture]) -> Result<Option<Mementos>> {
+    Ok(Mementos::of_sorted(mementos(alloc, captures)?))
+}
+
+/// Whether a set has the first memento and the third, and not the second.
+fn lacks_second(set: &Mementos) -> Result<bool> {
+    let alloc = set.allocator();
+    Ok(
+        are(alloc, set.as_slice(), &[FIRST, THIRD])?
+            && has(alloc, set, THIRD)?
+            && !has(alloc, set, SECOND)?,
+    )
+}
+
 #[test]
 fn a_list_in_order_makes_a_set(rt: HostRuntime) -> Result<()> {
-    let alloc = rt.alloc();
-    let made = Mementos::of_sorted(mementos(alloc, &[FIRST, THIRD])?).context("in order")?;
-    assert!(rt; are(made.allocator(), made.as_slice(), &[FIRST, THIRD])?);
-    assert!(rt; has(alloc, &made, THIRD)?);
-    assert!(rt; !has(alloc, &made, SECOND)?);
-    assert!(rt; Mementos::of_sorted(mementos(alloc, &[THIRD, FIRST])?).is_none());
+    let made = sorted_set(rt.alloc(), &[FIRST, THIRD])?.context("in order")?;
+    assert!(rt; lacks_second(&made)?);
+    assert!(rt; sorted_set(rt.alloc(), &[THIRD, FIRST])?.is_none());
     Ok(())
 }

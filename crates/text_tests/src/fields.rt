@@ -1,7 +1,7 @@
 //! The fields and the decimals of a text's lines (`text_fields`).
-use crate::tables::{are_same, halves, hold, is, number};
+use crate::tables::{are_same, halves, hold, is, is_number};
+use anyhow::Result;
 use std::alloc::Global;
-use std::test::Fail;
 use text_fields::{
     decimals_are_read_back, leading_decimal, next_field, next_line, parts_are_read_back,
     read_decimal, split_once, write_decimal,
@@ -17,20 +17,20 @@ const DECIMALS: &str = "0|0
 7 |none
 ";
 
-fn is_decimal(_: Global, case: &str) -> Result<bool, Fail> {
-    let (text, wanted) = halves(case)?;
-    Ok(read_decimal(text.as_bytes()) == number(wanted)?)
+fn is_decimal(_: Global, case: &str) -> Result<bool> {
+    let (text, wanted) = halves(case);
+    Ok(is_number(read_decimal(text.as_bytes()), wanted))
 }
 
 #[test]
-fn decimals(rt: HostRuntime) -> Result<(), Fail> {
+fn decimals(rt: HostRuntime) -> Result<()> {
     decimals_are_read_back();
-    hold(&rt, DECIMALS, is_decimal)
+    hold(rt.alloc(), DECIMALS, is_decimal)
 }
 
 /// Each is written behind what stands there.
 #[test]
-fn written_decimals(rt: HostRuntime) -> Result<(), Fail> {
+fn written_decimals(rt: HostRuntime) -> Result<()> {
     let mut out = Vec::new(rt.alloc());
     write_decimal(&mut out, 0)?;
     write_decimal(&mut out, u64::MAX)?;
@@ -51,18 +51,18 @@ const FRONTS: &str = "0:7|0|:7
 |none|
 ";
 
-fn is_front(_: Global, case: &str) -> Result<bool, Fail> {
-    let (text, answer) = halves(case)?;
-    let (front, wanted) = halves(answer)?;
+fn is_front(_: Global, case: &str) -> Result<bool> {
+    let (text, answer) = halves(case);
+    let (front, wanted) = halves(answer);
     Ok(match leading_decimal(text.as_bytes()) {
-        Some((found, rest)) => Some(found) == number(front)? && is(rest, wanted),
-        None => number(front)?.is_none(),
+        Some((found, rest)) => is_number(Some(found), front) && is(rest, wanted),
+        None => is_number(None, front),
     })
 }
 
 #[test]
-fn leading_decimals(rt: HostRuntime) -> Result<(), Fail> {
-    hold(&rt, FRONTS, is_front)
+fn leading_decimals(rt: HostRuntime) -> Result<()> {
+    hold(rt.alloc(), FRONTS, is_front)
 }
 
 /// Whether a text was parted into these.

@@ -1,11 +1,11 @@
 //! Link-format (RFC 6690, section 2), read and written (`link_format`).
-use crate::tables::{are_same, expanded, halves, hold, is, number};
+use crate::tables::{are_same, expanded, halves, hold, is, is_number, number};
+use anyhow::Result;
 use link_format::{
-    LinkReader, is_name, is_target, is_value, read_links, write_param, write_target,
+    LinkReader, LinkRef, Links, is_name, is_target, is_value, read_links, write_param, write_target,
 };
 use std::alloc::Global;
 use std::borrow::CowSlice;
-use std::test::Fail;
 
 /// Texts, and how many links each has, or why it is refused. Each place was counted by hand: that of the first byte
 /// with which no link-format can begin, or the text's end where only more bytes are missing.
@@ -48,27 +48,27 @@ const LIMITS: &str = "<a>{;x=y*32} |1 links
 ";
 
 /// How many links a text has, or why it is refused.
-fn told(alloc: Global, text: &[u8]) -> Result<String, Fail> {
+fn told(alloc: Global, text: &[u8]) -> Result<String> {
     match read_links(alloc, text) {
         Ok(links) => Ok(format!(in alloc; "{} links", links.len())?),
         Err(fault) => Ok(format!(in alloc; "{fault}")?),
     }
 }
 
-fn is_told(alloc: Global, case: &str) -> Result<bool, Fail> {
-    let (text, wanted) = halves(case)?;
+fn is_told(alloc: Global, case: &str) -> Result<bool> {
+    let (text, wanted) = halves(case);
     let told = told(alloc, &expanded(alloc, text)?)?;
     Ok(is(told.as_bytes(), wanted))
 }
 
 #[test]
-fn reads_texts_or_says_why_not(rt: HostRuntime) -> Result<(), Fail> {
-    hold(&rt, TEXTS, is_told)
+fn reads_texts_or_says_why_not(rt: HostRuntime) -> Result<()> {
+    hold(rt.alloc(), TEXTS, is_told)
 }
 
 #[test]
-fn keeps_the_limits(rt: HostRuntime) -> Result<(), Fail> {
-    hold(&rt, LIMITS, is_told)
+fn keeps_the_limits(rt: HostRuntime) -> Result<()> {
+    hold(rt.alloc(), LIMITS, is_told)
 }
 
 /// attr-char and `*` (RFC 6690, section 2, and RFC 5987, section 3.2.1).
@@ -126,25 +126,27 @@ const OUTLINES: &str = ",,<a>;;, <b\u{E9}> ; REL = x;rel=y; bare|2|0|a|0|
 ,,<a>;;, <b\u{E9}> ; REL = x;rel=y; bare|2|1|b\u{E9}|3|bare
 ";
 
-fn is_outline(alloc: Global, case: &str) -> Result<bool, Fail> {
-    let (text, rest) = halves(case)?;
-    let (links, rest) = halves(rest)?;
-    let (place, rest) = halves(rest)?;
-    let (target, rest) = halves(rest)?;
-    let (params, last) = halves(rest)?;
-    let (count, place) = (number(links)?, number(place)?);
-    let links = read_links(alloc, text.as_bytes())?;
-    let place = usize::try_from(place.unwrap_or(0))?;
-    if count != Some(links.len() as u64) || place >= links.len() {
-        return Ok(false);
+/// Whether the link at a place has this target, so many parameters, and this name of the last one.
+fn has_outline(links: &Links<'_>, place: usize, outline: &str) -> bool {
+    let (target, rest) = halves(outline);
+    let (params, last) = halves(rest);
+    if place >= links.len() {
+        return false;
     }
     let count = links.params(place);
-    Ok(
-        number(params)? == Some(count as u64)
-            && is(links.target(place), target)
-            && is(links.link(place).target(), target)
-            && (count == 0 || is(links.name(place, count - 1), last)),
-    )
+    is_number(Some(count as u64), params)
+        && is(links.target(place), target)
+        && is(links.link(place).target(), target)
+        && (count == 0 || is(links.name(place, count - 1), last))
+}
+
+fn is_outline(alloc: Global, case: &str) -> Result<bool> {
+    let (text, rest) = halves(case);
+    let (count, rest) = halves(rest);
+    let (place, outline) = halves(rest);
+    let place = usize::try_from(number(place)?)?;
+    let links = read_links(alloc, text.as_bytes())?;
+    Ok(is_number(Some(links.len() as u64), count) && has_outline(&links, place, outline))
 }
 
 /// Texts, the place of a link and the name of a parameter, how its value is got, and the value. A value without escapes
@@ -175,28 +177,33 @@ fn is_owned(value: Option<Vec<u8>>, how: &str, wanted: &str) -> bool {
     }
 }
 
-fn is_value_got(alloc: Global, case: &str) -> Result<bool, Fail> {
-    let (text, rest) = halves(case)?;
-    let (place, rest) = halves(rest)?;
-    let (name, rest) = halves(rest)?;
-    let (how, wanted) = halves(rest)?;
-    let links = read_links(alloc, text.as_bytes())?;
-    let place = usize::try_from(number(place)?.unwrap_or(0))?;
+/// Whether the link at a place has a value of this name that is got in this way, and is this.
+fn has_value(links: &Links<'_>, place: usize, value: &str) -> Result<bool> {
+    let (name, rest) = halves(value);
+    let (how, wanted) = halves(rest);
+    let name = name.as_bytes();
     if place >= links.len() {
         return Ok(false);
     }
     let link = links.link(place);
     Ok(
-        is_got(link.value_ref(name.as_bytes())?, how, wanted)
-            && is_owned(link.value(name.as_bytes())?, how, wanted)
-            && is_owned(links.value(place, name.as_bytes())?, how, wanted),
+        is_got(link.value_ref(name)?, how, wanted)
+            && is_owned(link.value(name)?, how, wanted)
+            && is_owned(links.value(place, name)?, how, wanted),
     )
 }
 
+fn is_value_got(alloc: Global, case: &str) -> Result<bool> {
+    let (text, rest) = halves(case);
+    let (place, value) = halves(rest);
+    let place = usize::try_from(number(place)?)?;
+    has_value(&read_links(alloc, text.as_bytes())?, place, value)
+}
+
 #[test]
-fn reads_the_parts_of_a_link(rt: HostRuntime) -> Result<(), Fail> {
-    hold(&rt, OUTLINES, is_outline)?;
-    hold(&rt, VALUES, is_value_got)
+fn reads_the_parts_of_a_link(rt: HostRuntime) -> Result<()> {
+    hold(rt.alloc(), OUTLINES, is_outline)?;
+    hold(rt.alloc(), VALUES, is_value_got)
 }
 
 /// Texts, and the targets that a reader reads in them one after the other, and what it says then, twice. A link that
@@ -210,7 +217,7 @@ const READINGS: &str = "<a>;b, ,<c>,|ac; the end; the end
 ";
 
 /// What the next link of a text is: its target, or why there is none.
-fn next(alloc: Global, links: &mut LinkReader<'_>, told: &mut Vec<u8>) -> Result<bool, Fail> {
+fn next(alloc: Global, links: &mut LinkReader<'_>, told: &mut Vec<u8>) -> Result<bool> {
     match links.read() {
         Ok(Some(link)) => {
             told.extend_from_slice(link.target())?;
@@ -227,8 +234,8 @@ fn next(alloc: Global, links: &mut LinkReader<'_>, told: &mut Vec<u8>) -> Result
     }
 }
 
-fn is_reading(alloc: Global, case: &str) -> Result<bool, Fail> {
-    let (text, wanted) = halves(case)?;
+fn is_reading(alloc: Global, case: &str) -> Result<bool> {
+    let (text, wanted) = halves(case);
     let text = expanded(alloc, text)?;
     let mut links = LinkReader::new(alloc, &text);
     let mut told = Vec::new(alloc);
@@ -242,8 +249,8 @@ fn is_reading(alloc: Global, case: &str) -> Result<bool, Fail> {
 }
 
 #[test]
-fn reads_one_link_after_another(rt: HostRuntime) -> Result<(), Fail> {
-    hold(&rt, READINGS, is_reading)
+fn reads_one_link_after_another(rt: HostRuntime) -> Result<()> {
+    hold(rt.alloc(), READINGS, is_reading)
 }
 
 /// The parameters of a link, how many there are, and how the first values of `rel` and `datetime` are got, each with
@@ -258,30 +265,34 @@ const ROLES: &str = "; rel=\"memento\"; datetime=\"d\"|2|lent|memento|lent|d
 ; datetime=\"d\"|1|none||lent|d
 ";
 
-fn is_role(alloc: Global, case: &str) -> Result<bool, Fail> {
-    let (params, rest) = halves(case)?;
-    let (count, rest) = halves(rest)?;
-    let (how_rel, rest) = halves(rest)?;
-    let (rel, rest) = halves(rest)?;
-    let (how_datetime, datetime) = halves(rest)?;
-    let mut text = Vec::from_slice(alloc, b"<a>")?;
-    text.extend_from_slice(params.as_bytes())?;
-    let links = read_links(alloc, &text)?;
-    if links.len() != 1 || number(count)? != Some(links.params(0) as u64) {
-        return Ok(false);
-    }
-    let found = links.link(0).rel_and_datetime()?;
+/// Whether a link's first values of `rel` and `datetime` are got in these ways, and are these.
+fn has_roles(link: LinkRef<'_>, roles: &str) -> Result<bool> {
+    let (how_rel, rest) = halves(roles);
+    let (rel, rest) = halves(rest);
+    let (how_datetime, datetime) = halves(rest);
+    let found = link.rel_and_datetime()?;
     Ok(is_got(found.0, how_rel, rel) && is_got(found.1, how_datetime, datetime))
 }
 
+fn is_role(alloc: Global, case: &str) -> Result<bool> {
+    let (params, rest) = halves(case);
+    let (count, roles) = halves(rest);
+    let text = format!(in alloc; "<a>{params}")?;
+    let links = read_links(alloc, text.as_bytes())?;
+    if links.len() != 1 || !is_number(Some(links.params(0) as u64), count) {
+        return Ok(false);
+    }
+    has_roles(links.link(0), roles)
+}
+
 #[test]
-fn reads_rel_and_datetime(rt: HostRuntime) -> Result<(), Fail> {
-    hold(&rt, ROLES, is_role)
+fn reads_rel_and_datetime(rt: HostRuntime) -> Result<()> {
+    hold(rt.alloc(), ROLES, is_role)
 }
 
 /// What is read back of it, `VALUES` says.
 #[test]
-fn writes_links(rt: HostRuntime) -> Result<(), Fail> {
+fn writes_links(rt: HostRuntime) -> Result<()> {
     assert!(rt; is_target(b"x") && is_name(b"t") && is_value(b"a\"b\\c"));
     let mut text = Vec::new(rt.alloc());
     write_target(&mut text, b"x")?;

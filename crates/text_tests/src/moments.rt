@@ -1,13 +1,13 @@
 //! Seconds and dates, clean texts, names of archives, and lists of mementos (`memento_time`).
 use crate::makers::{FIRST_DAY, THIRD_DAY, archive, clean, memento, mementos, moment, original};
-use crate::tables::{expanded, first_case, halves, hold, is, number};
+use crate::tables::{expanded, follow, halves, hold, is, is_number, number};
+use anyhow::Result;
 use memento_time::{
     ArchiveName, Clean, CleanFault, DateReader, DateWriter, Items, Memento, MementosBuilder,
     Moment, Octets, Original, in_order, is_clean,
 };
 use std::alloc::Global;
 use std::sync::Arc;
-use std::test::Fail;
 
 /// IMF-fixdates and their seconds, as `date -u -d @SECONDS` tells them: days in a row, back and forth, leap days.
 const DATES: &str = "Sun, 06 Nov 1994 08:49:37 GMT|784111777
@@ -23,48 +23,47 @@ Fri, 31 Dec 9999 23:59:59 GMT|253402300799
 Thu, 01 Jan 1970 00:00:00 GMT|0
 ";
 
-/// The second of a moment.
-fn second_of(moment: Option<Moment>) -> Option<u64> {
-    Some(moment?.secs())
+/// Whether a moment is that of a second, or there is none where there is none.
+fn is_second(moment: Option<Moment>, second: &str) -> bool {
+    match moment {
+        Some(moment) => is_number(Some(moment.secs()), second),
+        None => is_number(None, second),
+    }
 }
 
-fn is_date(_: Global, case: &str) -> Result<bool, Fail> {
-    let (text, second) = halves(case)?;
-    let second = number(second)?;
-    let moment = moment(second.ok_or("no second")?)?;
+fn is_date(_: Global, case: &str) -> Result<bool> {
+    let (text, second) = halves(case);
+    let moment = moment(number(second)?)?;
     Ok(
         is(moment.to_imf().as_slice(), text)
-            && second_of(Moment::read_imf(text.as_bytes())) == second
-            && second_of(Moment::read_asked(text.as_bytes())) == second,
+            && is_second(Moment::read_imf(text.as_bytes()), second)
+            && is_second(Moment::read_asked(text.as_bytes()), second),
     )
 }
 
 #[test]
-fn dates(rt: HostRuntime) -> Result<(), Fail> {
-    hold(&rt, DATES, is_date)?;
+fn dates(rt: HostRuntime) -> Result<()> {
+    hold(rt.alloc(), DATES, is_date)?;
     assert!(rt; Moment::from_secs(253_402_300_800).is_none());
     Ok(())
 }
 
+fn is_read_next(reader: &mut DateReader, case: &str) -> Result<bool> {
+    let (text, second) = halves(case);
+    Ok(is_second(reader.read(text.as_bytes()), second))
+}
+
+fn is_written_next(writer: &mut DateWriter, case: &str) -> Result<bool> {
+    let (text, second) = halves(case);
+    let moment = moment(number(second)?)?;
+    Ok(is(writer.write(moment).as_slice(), text))
+}
+
 /// One reader and one writer go from date to date.
 #[test]
-fn rows_of_dates(rt: HostRuntime) -> Result<(), Fail> {
-    let mut reader = DateReader::new();
-    let mut writer = DateWriter::new();
-    let mut rest = DATES;
-    for _ in 0..DATES.len() {
-        let Some((case, more)) = first_case(rest) else {
-            break;
-        };
-        let (text, second) = halves(case)?;
-        let second = number(second)?;
-        assert!(rt; second_of(reader.read(text.as_bytes())) == second, "{case}");
-        let moment = moment(second.unwrap_or(0))?;
-        assert!(rt; is(writer.write(moment).as_slice(), text), "{case}");
-        rest = more;
-    }
-    assert!(rt; rest.is_empty());
-    Ok(())
+fn rows_of_dates(_rt: HostRuntime) -> Result<()> {
+    follow(&mut DateReader::new(), DATES, is_read_next)?;
+    follow(&mut DateWriter::new(), DATES, is_written_next)
 }
 
 /// Dates, and their seconds: a reader that has read a date reads others of the same day as they stand.
@@ -76,22 +75,8 @@ Fri, 01 Jan 1970 00:00:01 GMT|1
 ";
 
 #[test]
-fn dates_of_one_day(rt: HostRuntime) -> Result<(), Fail> {
-    let mut reader = DateReader::new();
-    let mut rest = ONE_DAY;
-    for _ in 0..ONE_DAY.len() {
-        let Some((case, more)) = first_case(rest) else {
-            break;
-        };
-        let (text, second) = halves(case)?;
-        assert!(rt;
-            second_of(reader.read(text.as_bytes())) == number(second)?,
-            "{case}"
-        );
-        rest = more;
-    }
-    assert!(rt; rest.is_empty());
-    Ok(())
+fn dates_of_one_day(_rt: HostRuntime) -> Result<()> {
+    follow(&mut DateReader::new(), ONE_DAY, is_read_next)
 }
 
 /// Dates, and the second that each asks for.
@@ -107,14 +92,14 @@ sat, 01 Jan 2000 00:00:00 GMT|none
 |none
 ";
 
-fn is_asked(_: Global, case: &str) -> Result<bool, Fail> {
-    let (text, second) = halves(case)?;
-    Ok(second_of(Moment::read_asked(text.as_bytes())) == number(second)?)
+fn is_asked(_: Global, case: &str) -> Result<bool> {
+    let (text, second) = halves(case);
+    Ok(is_second(Moment::read_asked(text.as_bytes()), second))
 }
 
 #[test]
-fn asked(rt: HostRuntime) -> Result<(), Fail> {
-    hold(&rt, ASKED, is_asked)?;
+fn asked(rt: HostRuntime) -> Result<()> {
+    hold(rt.alloc(), ASKED, is_asked)?;
     assert!(rt; is_asked(rt.alloc(), "\nSat, 01 Jan 2000 00:00:00 GMT|none")?);
     assert!(rt; Moment::read_imf(b" Mon, 01 Jan 2000 00:00:00 GMT").is_none());
     Ok(())
@@ -148,8 +133,8 @@ fn kinds_of(alloc: Global, text: &[u8]) -> &'static str {
     }
 }
 
-fn are_kinds(alloc: Global, case: &str) -> Result<bool, Fail> {
-    let (text, kinds) = halves(case)?;
+fn are_kinds(alloc: Global, case: &str) -> Result<bool> {
+    let (text, kinds) = halves(case);
     let text = expanded(alloc, text)?;
     Ok(
         is(kinds_of(alloc, &text).as_bytes(), kinds)
@@ -158,28 +143,28 @@ fn are_kinds(alloc: Global, case: &str) -> Result<bool, Fail> {
 }
 
 #[test]
-fn kinds_of_texts(rt: HostRuntime) -> Result<(), Fail> {
-    hold(&rt, TEXTS, are_kinds)
+fn kinds_of_texts(rt: HostRuntime) -> Result<()> {
+    hold(rt.alloc(), TEXTS, are_kinds)
 }
 
-fn is_copied(text: &Clean) -> Result<bool, Fail> {
+fn is_copied(text: &Clean) -> Result<bool> {
     Ok(text.try_clone()? == *text)
 }
 
-fn is_original_copied(text: &Original) -> Result<bool, Fail> {
+fn is_original_copied(text: &Original) -> Result<bool> {
     Ok(text.try_clone()? == *text)
 }
 
-fn are_octets_copied(text: &Octets) -> Result<bool, Fail> {
+fn are_octets_copied(text: &Octets) -> Result<bool> {
     Ok(text.try_clone()? == *text)
 }
 
-fn is_memento_copied(memento: &Memento) -> Result<bool, Fail> {
+fn is_memento_copied(memento: &Memento) -> Result<bool> {
     Ok(memento.try_clone()? == *memento)
 }
 
 #[test]
-fn copies(rt: HostRuntime) -> Result<(), Fail> {
+fn copies(rt: HostRuntime) -> Result<()> {
     let alloc = rt.alloc();
     assert!(rt; is_copied(&clean(alloc, b"a")?)?);
     assert!(rt; is_original_copied(&original(alloc, b"a")?)?);
@@ -189,7 +174,7 @@ fn copies(rt: HostRuntime) -> Result<(), Fail> {
 }
 
 #[test]
-fn bytes(rt: HostRuntime) -> Result<(), Fail> {
+fn bytes(rt: HostRuntime) -> Result<()> {
     let alloc = rt.alloc();
     assert!(rt; is(clean(alloc, b"a")?.as_bytes(), "a"));
     assert!(rt; is(&Octets::from_slice(alloc, b"ab")?.into_vec(), "ab"));
@@ -197,7 +182,7 @@ fn bytes(rt: HostRuntime) -> Result<(), Fail> {
 }
 
 #[test]
-fn names(rt: HostRuntime) -> Result<(), Fail> {
+fn names(rt: HostRuntime) -> Result<()> {
     let (short, long) = (archive(b"a-1.z")?, archive(b"a-1.zs")?);
     assert!(rt; short < long && is(short.as_bytes(), "a-1.z"));
     let items = Items::of(vec![in rt.alloc(); short, long]?);
@@ -207,7 +192,7 @@ fn names(rt: HostRuntime) -> Result<(), Fail> {
 }
 
 /// Whether this is what the text says, with its fragment and without; nothing is left of a fragment alone.
-fn says(text: &Clean, whole: &str, front: &str) -> Result<bool, Fail> {
+fn says(text: &Clean, whole: &str, front: &str) -> Result<bool> {
     let without = match text.without_fragment()? {
         Some(without) => is(without.as_bytes(), front),
         None => front.is_empty(),
@@ -217,7 +202,7 @@ fn says(text: &Clean, whole: &str, front: &str) -> Result<bool, Fail> {
 
 /// The parts of a buffer.
 #[test]
-fn parts(rt: HostRuntime) -> Result<(), Fail> {
+fn parts(rt: HostRuntime) -> Result<()> {
     let alloc = rt.alloc();
     let buffer = Arc::new(alloc, Vec::from_slice(alloc, b"ab x:/#top")?)?;
     assert!(rt; says(&Clean::part(&buffer, 3, 7)?, "x:/#top", "x:/")?);
@@ -229,7 +214,7 @@ fn parts(rt: HostRuntime) -> Result<(), Fail> {
 
 /// A part of a buffer, and then a text that has its buffer to itself.
 #[test]
-fn packed_texts(rt: HostRuntime) -> Result<(), Fail> {
+fn packed_texts(rt: HostRuntime) -> Result<()> {
     let alloc = rt.alloc();
     let buffer = Arc::new(alloc, Vec::from_slice(alloc, b"ab x:/#top")?)?;
     let packed = Clean::part(&buffer, 3, 7)?.packed(alloc)?;
@@ -250,7 +235,7 @@ const CAPTURES: [(u64, &[u8]); 4] = [
 const IN_ORDER: [(u64, &[u8]); 3] = [(FIRST_DAY, b"a"), (FIRST_DAY, b"b"), (THIRD_DAY, b"b")];
 
 /// The mementos of these captures, of which a builder makes a list.
-fn built(alloc: Global, captures: &[(u64, &[u8])]) -> Result<Vec<Memento>, Fail> {
+fn built(alloc: Global, captures: &[(u64, &[u8])]) -> Result<Vec<Memento>> {
     let mut builder = MementosBuilder::new(alloc);
     for (second, uri) in captures {
         builder.push(moment(*second)?, uri)?;
@@ -259,7 +244,7 @@ fn built(alloc: Global, captures: &[(u64, &[u8])]) -> Result<Vec<Memento>, Fail>
 }
 
 #[test]
-fn lists_of_mementos(rt: HostRuntime) -> Result<(), Fail> {
+fn lists_of_mementos(rt: HostRuntime) -> Result<()> {
     let alloc = rt.alloc();
     assert!(rt; built(alloc, &CAPTURES)? == mementos(alloc, &CAPTURES)?);
     assert!(rt; in_order(built(alloc, &CAPTURES)?) == mementos(alloc, &IN_ORDER)?);
@@ -268,7 +253,7 @@ fn lists_of_mementos(rt: HostRuntime) -> Result<(), Fail> {
 
 /// What can't be added leaves the list as it was.
 #[test]
-fn refused_mementos(rt: HostRuntime) -> Result<(), Fail> {
+fn refused_mementos(rt: HostRuntime) -> Result<()> {
     let mut builder = MementosBuilder::new(rt.alloc());
     let refused = builder.push(moment(FIRST_DAY)?, b"a b");
     assert!(rt; refused == Err(CleanFault::NotClean));

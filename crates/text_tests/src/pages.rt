@@ -1,15 +1,15 @@
 //! Pages of archives, and originals, as they are read (`timemap_reader`).
 use crate::tables::{are_same, expanded, halves, hold, is};
+use anyhow::Result;
 use link_format::LinkFault;
 use std::alloc::Global;
-use std::test::Fail;
 use timemap_reader::{Page, PageFault, read_original, read_page};
 
 /// Where the pages here were fetched.
 const BASE: &str = "http://arc.example/list/x";
 
 /// What a page says: its mementos, its further TimeMaps, and how many links it leaves out, if any.
-fn words_of(alloc: Global, page: &Page) -> Result<Vec<u8>, Fail> {
+fn words_of(alloc: Global, page: &Page) -> Result<Vec<u8>> {
     let mut words = Vec::new(alloc);
     for memento in page.mementos.as_slice() {
         let at = format!(in alloc; "{} ", memento.at.secs())?;
@@ -28,7 +28,7 @@ fn words_of(alloc: Global, page: &Page) -> Result<Vec<u8>, Fail> {
 }
 
 /// What a body that was fetched at a base says, or why it is refused.
-fn told(alloc: Global, base: &str, body: &[u8]) -> Result<Vec<u8>, Fail> {
+fn told(alloc: Global, base: &str, body: &[u8]) -> Result<Vec<u8>> {
     match read_page(alloc, base, body) {
         Ok(page) => words_of(alloc, &page),
         Err(fault) => Ok(format!(in alloc; "{fault}")?.into_bytes()),
@@ -52,7 +52,7 @@ const PAGE_SAYS: &str =
     "946684800 http://m/1, 946857600 http://m/1, 946857600 http://m/2, timemap http://m/t, timemap http://m/s, 0 left out";
 
 #[test]
-fn a_page(rt: HostRuntime) -> Result<(), Fail> {
+fn a_page(rt: HostRuntime) -> Result<()> {
     assert!(rt; is(&told(rt.alloc(), BASE, PAGE.as_bytes())?, PAGE_SAYS));
     Ok(())
 }
@@ -137,7 +137,7 @@ http://m/\"{x*8181}|rel=timemap|1 left out
 ";
 
 /// Whether a page says this whose one link has this target, these parameters, and the datetime of 1 January 2000.
-fn names(alloc: Global, target: &[u8], params: &str, wanted: &[u8]) -> Result<bool, Fail> {
+fn names(alloc: Global, target: &[u8], params: &str, wanted: &[u8]) -> Result<bool> {
     let mut text = Vec::from_slice(alloc, b"<")?;
     text.extend_from_slice(target)?;
     text.extend_from_slice(b">;datetime=\"Sat, 01 Jan 2000 00:00:00 GMT\";")?;
@@ -145,9 +145,9 @@ fn names(alloc: Global, target: &[u8], params: &str, wanted: &[u8]) -> Result<bo
     Ok(are_same(&told(alloc, BASE, &text)?, wanted))
 }
 
-fn is_link(alloc: Global, case: &str) -> Result<bool, Fail> {
-    let (target, rest) = halves(case)?;
-    let (params, wanted) = halves(rest)?;
+fn is_link(alloc: Global, case: &str) -> Result<bool> {
+    let (target, rest) = halves(case);
+    let (params, wanted) = halves(rest);
     let target = expanded(alloc, target)?;
     names(alloc, &target, params, &expanded(alloc, wanted)?)
 }
@@ -160,8 +160,8 @@ const TWO_LINES: &str =
     "//m/x|rel=\"memento\ntimemap\"|946684800 http://m/x, timemap http://m/x, 0 left out";
 
 #[test]
-fn links(rt: HostRuntime) -> Result<(), Fail> {
-    hold(&rt, LINKS, is_link)?;
+fn links(rt: HostRuntime) -> Result<()> {
+    hold(rt.alloc(), LINKS, is_link)?;
     assert!(rt; is_link(rt.alloc(), FOLDED)?);
     assert!(rt; is_link(rt.alloc(), TWO_LINES)?);
     Ok(())
@@ -169,7 +169,7 @@ fn links(rt: HostRuntime) -> Result<(), Fail> {
 
 /// A target that is no text.
 #[test]
-fn targets_that_are_no_texts(rt: HostRuntime) -> Result<(), Fail> {
+fn targets_that_are_no_texts(rt: HostRuntime) -> Result<()> {
     let alloc = rt.alloc();
     assert!(rt; names(alloc, b"\xFF", "rel=\"memento timemap\"", b"2 left out")?);
     assert!(rt; names(alloc, b"\xFF", "rel=memento", b"1 left out")?);
@@ -195,25 +195,25 @@ http://arc/|<a>{;b*33}|a link with more than 32 parameters
 http://arc/|<{a*8193}>|a target of more than 8,192 bytes
 ";
 
-fn is_told(alloc: Global, case: &str) -> Result<bool, Fail> {
-    let (base, rest) = halves(case)?;
-    let (body, wanted) = halves(rest)?;
+fn is_told(alloc: Global, case: &str) -> Result<bool> {
+    let (base, rest) = halves(case);
+    let (body, wanted) = halves(rest);
     let base = expanded(alloc, base)?;
     let told = told(alloc, str::from_utf8(&base)?, &expanded(alloc, body)?)?;
     Ok(is(&told, wanted))
 }
 
 #[test]
-fn bodies(rt: HostRuntime) -> Result<(), Fail> {
-    hold(&rt, BODIES, is_told)
+fn bodies(rt: HostRuntime) -> Result<()> {
+    hold(rt.alloc(), BODIES, is_told)
 }
 
 /// The longest page, and one that is longer.
 #[test]
-fn limits_of_pages(rt: HostRuntime) -> Result<(), Fail> {
-    hold(&rt, "http://arc/|{,*8388608}|0 left out\n", is_told)?;
+fn limits_of_pages(rt: HostRuntime) -> Result<()> {
+    hold(rt.alloc(), "http://arc/|{,*8388608}|0 left out\n", is_told)?;
     hold(
-        &rt,
+        rt.alloc(),
         "http://arc/|{,*8388609}|a page of more than 8,388,608 bytes\n",
         is_told,
     )
@@ -234,8 +234,8 @@ http://a/1{\u{E9}*681}|http://a/1{%C3%A9*681}
 http://a/12{\u{E9}*681}|an original of more than 4,096 bytes
 ";
 
-fn is_original(alloc: Global, case: &str) -> Result<bool, Fail> {
-    let (text, wanted) = halves(case)?;
+fn is_original(alloc: Global, case: &str) -> Result<bool> {
+    let (text, wanted) = halves(case);
     let text = expanded(alloc, text)?;
     let wanted = expanded(alloc, wanted)?;
     Ok(match read_original(alloc, str::from_utf8(&text)?) {
@@ -245,6 +245,6 @@ fn is_original(alloc: Global, case: &str) -> Result<bool, Fail> {
 }
 
 #[test]
-fn originals(rt: HostRuntime) -> Result<(), Fail> {
-    hold(&rt, ORIGINALS, is_original)
+fn originals(rt: HostRuntime) -> Result<()> {
+    hold(rt.alloc(), ORIGINALS, is_original)
 }

@@ -1,9 +1,9 @@
 //! What is written of mementos, and the base that it is written under (`timemap_writer`).
 use crate::makers::{FIRST_DAY, THIRD_DAY, mementos, numbered, original, service};
-use crate::tables::{expanded, halves, hold, is, number};
+use crate::tables::{are_same, expanded, halves, hold, is, is_number, number};
+use anyhow::{Result, bail};
 use memento_time::Memento;
 use std::alloc::Global;
-use std::test::Fail;
 use timemap_writer::{Service, pages, write_gate_links, write_index, write_page, write_timemap};
 
 /// Texts, and the base that a copy of the service stands at which each names, or why it names none. A base has at most
@@ -24,20 +24,23 @@ http://agg.example:{0*4075}80|http://agg.example
 http://agg.example:{0*4076}80|bad base
 ";
 
-fn is_base(alloc: Global, case: &str) -> Result<bool, Fail> {
-    let (text, wanted) = halves(case)?;
-    let text = expanded(alloc, text)?;
-    let wanted = expanded(alloc, wanted)?;
-    let wanted = str::from_utf8(&wanted)?;
-    Ok(match Service::new(alloc, str::from_utf8(&text)?) {
-        Ok(service) => is(service.try_clone()?.base(), wanted),
-        Err(fault) => is(format!(in alloc; "{fault}")?.as_bytes(), wanted),
-    })
+/// The base that a text names, or why it names none.
+fn base_of(alloc: Global, text: &[u8]) -> Result<Vec<u8>> {
+    match Service::new(alloc, str::from_utf8(text)?) {
+        Ok(service) => Ok(Vec::from_slice(alloc, service.try_clone()?.base())?),
+        Err(fault) => Ok(format!(in alloc; "{fault}")?.into_bytes()),
+    }
+}
+
+fn is_base(alloc: Global, case: &str) -> Result<bool> {
+    let (text, wanted) = halves(case);
+    let found = base_of(alloc, &expanded(alloc, text)?)?;
+    Ok(are_same(&found, &expanded(alloc, wanted)?))
 }
 
 #[test]
-fn bases(rt: HostRuntime) -> Result<(), Fail> {
-    hold(&rt, BASES, is_base)
+fn bases(rt: HostRuntime) -> Result<()> {
+    hold(rt.alloc(), BASES, is_base)
 }
 
 /// What every TimeMap of the original `o` begins with.
@@ -63,7 +66,7 @@ const OF_THREE: &str =
 const DAYS: [(u64, &[u8]); 3] = [(FIRST_DAY, b"m"), (946_771_200, b"n"), (THIRD_DAY, b"p")];
 
 /// The first so many of three mementos.
-fn days(alloc: Global, count: usize) -> Result<Vec<Memento>, Fail> {
+fn days(alloc: Global, count: usize) -> Result<Vec<Memento>> {
     Ok(mementos(alloc, &DAYS[..count.min(3)])?)
 }
 
@@ -76,7 +79,7 @@ fn is_written(text: &Vec<u8>, front: &str, rest: &str, count: usize) -> bool {
     is_right && (count == 0 || text.capacity() == text.len())
 }
 
-fn is_timemap(alloc: Global, count: usize, rest: &str) -> Result<bool, Fail> {
+fn is_timemap(alloc: Global, count: usize, rest: &str) -> Result<bool> {
     let mementos = days(alloc, count)?;
     let (service, original) = (service(alloc)?, original(alloc, b"o")?);
     let text = write_timemap(alloc, &service, &original, &mementos)?;
@@ -84,7 +87,7 @@ fn is_timemap(alloc: Global, count: usize, rest: &str) -> Result<bool, Fail> {
 }
 
 #[test]
-fn timemaps(rt: HostRuntime) -> Result<(), Fail> {
+fn timemaps(rt: HostRuntime) -> Result<()> {
     assert!(rt; is_timemap(rt.alloc(), 0, OF_NONE)?);
     assert!(rt; is_timemap(rt.alloc(), 1, OF_ONE)?);
     assert!(rt; is_timemap(rt.alloc(), 3, OF_THREE)?);
@@ -98,7 +101,7 @@ const LINKS_FRONT: &str =
 const LINKS_OF_THREE: &str =
     "; from=\"Sat, 01 Jan 2000 00:00:00 GMT\"; until=\"Mon, 03 Jan 2000 00:00:00 GMT\"";
 
-fn are_gate_links(alloc: Global, count: usize, rest: &str) -> Result<bool, Fail> {
+fn are_gate_links(alloc: Global, count: usize, rest: &str) -> Result<bool> {
     let mementos = days(alloc, count)?;
     let (service, original) = (service(alloc)?, original(alloc, b"o")?);
     let text = write_gate_links(alloc, &service, &original, &mementos)?;
@@ -106,7 +109,7 @@ fn are_gate_links(alloc: Global, count: usize, rest: &str) -> Result<bool, Fail>
 }
 
 #[test]
-fn gate_links(rt: HostRuntime) -> Result<(), Fail> {
+fn gate_links(rt: HostRuntime) -> Result<()> {
     assert!(rt; are_gate_links(rt.alloc(), 0, "")?);
     assert!(rt; are_gate_links(rt.alloc(), 3, LINKS_OF_THREE)?);
     Ok(())
@@ -115,15 +118,15 @@ fn gate_links(rt: HostRuntime) -> Result<(), Fail> {
 const ROOT: &[u8] = b"http://a.example/";
 
 /// The page of this number of the list, if it has one.
-fn page_of(alloc: Global, mementos: &[Memento], number: usize) -> Result<Vec<u8>, Fail> {
+fn page_of(alloc: Global, mementos: &[Memento], number: usize) -> Result<Vec<u8>> {
     if number == 0 || number > pages(mementos) {
-        return Err("no such page".into());
+        bail!("no such page");
     }
     let (service, original) = (service(alloc)?, original(alloc, ROOT)?);
     Ok(write_page(alloc, &service, &original, mementos, number)?)
 }
 
-fn index_of(alloc: Global, mementos: &[Memento]) -> Result<Vec<u8>, Fail> {
+fn index_of(alloc: Global, mementos: &[Memento]) -> Result<Vec<u8>> {
     let (service, original) = (service(alloc)?, original(alloc, ROOT)?);
     Ok(write_index(alloc, &service, &original, mementos)?)
 }
@@ -151,7 +154,7 @@ fn ends_with(text: &[u8], length: usize, end: &str) -> bool {
 }
 
 #[test]
-fn pages_of_a_long_list(rt: HostRuntime) -> Result<(), Fail> {
+fn pages_of_a_long_list(rt: HostRuntime) -> Result<()> {
     let alloc = rt.alloc();
     let mementos = numbered(alloc, 1_001)?;
     assert!(rt; ends_with(&index_of(alloc, &mementos)?, 643, TWO_PAGES));
@@ -166,7 +169,7 @@ fn is_lean(text: &Vec<u8>, more: usize) -> bool {
 }
 
 #[test]
-fn memory_of_pages(rt: HostRuntime) -> Result<(), Fail> {
+fn memory_of_pages(rt: HostRuntime) -> Result<()> {
     let alloc = rt.alloc();
     let mementos = numbered(alloc, 2_001)?;
     for number in 1..4 {
@@ -188,19 +191,20 @@ const NUMBERS: &str = "0|0
 2001|3
 ";
 
-fn is_number(alloc: Global, case: &str) -> Result<bool, Fail> {
-    let (count, wanted) = halves(case)?;
-    let count = u32::try_from(number(count)?.ok_or("no count")?)?;
-    Ok(number(wanted)? == Some(pages(&numbered(alloc, count)?) as u64))
+fn are_pages(alloc: Global, case: &str) -> Result<bool> {
+    let (count, wanted) = halves(case);
+    let count = u32::try_from(number(count)?)?;
+    let found = pages(&numbered(alloc, count)?);
+    Ok(is_number(Some(found as u64), wanted))
 }
 
 #[test]
-fn numbers_of_pages(rt: HostRuntime) -> Result<(), Fail> {
-    hold(&rt, NUMBERS, is_number)
+fn numbers_of_pages(rt: HostRuntime) -> Result<()> {
+    hold(rt.alloc(), NUMBERS, are_pages)
 }
 
 #[test]
-fn the_page_of_one_memento(rt: HostRuntime) -> Result<(), Fail> {
+fn the_page_of_one_memento(rt: HostRuntime) -> Result<()> {
     let alloc = rt.alloc();
     let one: (u64, &[u8]) = (
         FIRST_DAY,

@@ -1,35 +1,22 @@
-//! Tests of the book of wishes, and of gates that note in it.
-use anyhow::{Context, Result};
+//! Tests of the book of wishes, and of gates that note in it. They are scripts, as those of wishes are.
+use crate::wishes::{asked, is_named, named, set_of_one};
+use anyhow::{Context, Result, bail};
 use gate_server::Answers;
 use knowledge_tests::makers::{get, request};
-use memento_time::{Items, Octets, Original};
-use original_sets::OriginalSet;
+use memento_time::{Items, Octets};
 use published_index::GateFault;
 use std::alloc::{AllocGlobal, Global};
 use std::hash::RandomState;
 use std::num::NonZeroUsize;
 use std::random::RandomSource;
+use std::sync::Wait;
 use std::test::*;
 use std::time::{Clock, SystemTime, UNIX_EPOCH};
-use text_tests::makers::original;
+use text_tests::scripts::{Step, is_told, read_step};
+use text_tests::tables::{follow, halves, hold, number};
 use timegate::{Reply, Request};
-use wish_list::{AskedOriginal, Decision, Outcome, WishLimits};
-use wishing_gates::{WishBook, WishingGate, asked_original, wished_at};
-
-const A: &[u8] = b"http://a.example/";
-
-const B: &[u8] = b"http://b.example/";
-
-const FOUND: Outcome = Outcome {
-    is_found: true,
-    is_whole: true,
-    is_asked: true,
-};
-
-/// The original that a text names, to be wished for.
-fn asked(alloc: Global, text: &[u8]) -> Result<AskedOriginal> {
-    wished_at(alloc, text)?.context("no original")
-}
+use wish_list::{Outcome, WishLimits};
+use wishing_gates::{WishBook, WishingGate, asked_original};
 
 /// Answers each request with this status.
 #[derive(Drop)]
@@ -94,209 +81,318 @@ where
     Ok(reply.status)
 }
 
-#[test]
-fn a_closed_book_takes_nothing(rt: HostRuntime) -> Result<()> {
-    let book = WishBook::closed();
-    assert!(rt; !book.is_open() && !book.share()?.is_open());
-    assert!(rt; book.note(asked(rt.alloc(), A)?, false, 60).is_none());
-    assert!(rt; book.grant(&rt).is_none());
-    assert!(rt; book.is_settled(&original(rt.alloc(), A)?, 60).is_none());
-    assert!(rt; book.turned_away(&rt) == 0 && book.late(&rt) == 0);
-    assert!(rt; ask(&rt, &book, 404, b"/timegate/http://a.example/")? == 404);
-    Ok(())
+/// A book, and what its gates run in.
+#[derive(Drop)]
+struct Tried<'a, R> {
+    rt: &'a R,
+    book: WishBook,
 }
 
-/// A wish: for an original of which something is shown or nothing, and in its second; and what a book decides on it.
-type Made = (&'static [u8], bool, u64, Decision);
+/// `wish a hidden 60: Some(Added)`: what becomes of a wish in second 60 for an original of which nothing is shown.
+fn wish<R: AllocGlobal>(tried: &mut Tried<'_, R>, step: Step<'_>) -> Result<bool> {
+    let alloc = tried.rt.alloc();
+    let second = number(step.second)?;
+    let asked = asked(alloc, step.name)?;
+    is_told(
+        alloc,
+        tried.book.note(asked, step.how == "shown", second),
+        step.wanted,
+    )
+}
 
-/// Whether a book decides just this on these wishes, one after the other.
-fn decides(alloc: Global, book: &WishBook, made: &[Made]) -> Result<bool> {
-    for (uri, is_shown, second, decision) in made {
-        if book.note(asked(alloc, uri)?, *is_shown, *second) != Some(*decision) {
-            return Ok(false);
-        }
-    }
+/// `grant: a`, or `grant: none`.
+fn grant<R: Wait + AllocGlobal>(tried: &mut Tried<'_, R>, step: Step<'_>) -> Result<bool> {
+    is_named(tried.rt.alloc(), tried.book.grant(tried.rt), step.wanted)
+}
+
+/// `put-back a`.
+fn put_back<R: Wait + AllocGlobal>(tried: &mut Tried<'_, R>, step: Step<'_>) -> Result<bool> {
+    let original = named(tried.rt.alloc(), step.name)?;
+    tried.book.put_back(tried.rt, &original);
     Ok(true)
 }
 
-/// Whether there is an original, and it is this one.
-fn is(found: Option<Original>, wanted: &Original) -> bool {
-    match found {
-        Some(found) => found == *wanted,
-        None => false,
+/// The second that a step names, which may be `now`.
+fn second_of(rt: &impl Clock, step: Step<'_>) -> Result<u64> {
+    if step.second == "now" {
+        now(rt)
+    } else {
+        number(step.second)
     }
+}
+
+/// `end a asked 60`, or `end a spared 60`: something of the original is shown then.
+fn end<R: Wait + Clock + AllocGlobal>(tried: &mut Tried<'_, R>, step: Step<'_>) -> Result<bool> {
+    let second = second_of(tried.rt, step)?;
+    let original = named(tried.rt.alloc(), step.name)?;
+    let outcome = Outcome {
+        is_found: true,
+        is_whole: true,
+        is_asked: step.how == "asked",
+    };
+    tried.book.end(tried.rt, &original, true, outcome, second);
+    Ok(true)
+}
+
+/// `settled a at 60: Some(true)`.
+fn is_settled<R: AllocGlobal>(tried: &mut Tried<'_, R>, step: Step<'_>) -> Result<bool> {
+    let alloc = tried.rt.alloc();
+    let second = number(step.second)?;
+    let is_settled = tried.book.is_settled(&named(alloc, step.name)?, second);
+    is_told(alloc, is_settled, step.wanted)
+}
+
+/// `list a`: rounds look after this original alone.
+fn list<R: Wait + RandomSource + AllocGlobal>(
+    tried: &mut Tried<'_, R>,
+    step: Step<'_>,
+) -> Result<bool> {
+    let keys = RandomState::new(tried.rt)?;
+    let listed = set_of_one(tried.rt.alloc(), keys, step.name)?;
+    tried.book.set_listed(tried.rt, listed);
+    Ok(true)
+}
+
+/// `room 1`: so many wishes may stand of what isn't shown.
+fn set_room<R: Wait>(tried: &mut Tried<'_, R>, step: Step<'_>) -> Result<bool> {
+    let room = usize::try_from(number(step.name)?)?;
+    tried.book.set_room(tried.rt, room);
+    Ok(true)
+}
+
+/// `ask 404 /state`: a gate that answers with this status is asked for a target, and answers so.
+fn ask_gate<R>(tried: &mut Tried<'_, R>, step: Step<'_>) -> Result<bool>
+where
+    R: Clock + AllocGlobal + Clone + Drop,
+{
+    let status = u16::try_from(number(step.name)?)?;
+    let found = ask(tried.rt, &tried.book, status, step.how.as_bytes())?;
+    Ok(found == status)
+}
+
+/// `new`: another book.
+fn begin_anew<R: RandomSource + AllocGlobal>(tried: &mut Tried<'_, R>) -> Result<bool> {
+    tried.book = book_in(tried.rt)?;
+    Ok(true)
+}
+
+/// Takes a step of a script; `late: 1` and `turned-away: 1` ask how many wishes came too late, or to a full queue.
+fn take_step<R>(tried: &mut Tried<'_, R>, line: &str) -> Result<bool>
+where
+    R: Wait + Clock + RandomSource + AllocGlobal + Clone + Drop,
+{
+    let step = read_step(line);
+    let alloc = tried.rt.alloc();
+    match step.verb {
+        "new" => begin_anew(tried),
+        "ask" => ask_gate(tried, step),
+        "wish" => wish(tried, step),
+        "grant" => grant(tried, step),
+        "put-back" => put_back(tried, step),
+        "end" => end(tried, step),
+        "settled" => is_settled(tried, step),
+        "list" => list(tried, step),
+        "room" => set_room(tried, step),
+        "late" => is_told(alloc, tried.book.late(tried.rt), step.wanted),
+        "turned-away" => is_told(alloc, tried.book.turned_away(tried.rt), step.wanted),
+        "open" => is_told(alloc, tried.book.is_open(), step.wanted),
+        _ => bail!("there is no such step"),
+    }
+}
+
+/// Follows a script on a book.
+fn play_on<R>(rt: &R, book: WishBook, script: &str) -> Result<()>
+where
+    R: Wait + Clock + RandomSource + AllocGlobal + Clone + Drop,
+{
+    follow(&mut Tried { rt, book }, script, take_step)
+}
+
+/// Follows a script on a new book.
+fn play<R>(rt: &R, script: &str) -> Result<()>
+where
+    R: Wait + Clock + RandomSource + AllocGlobal + Clone + Drop,
+{
+    play_on(rt, book_in(rt)?, script)
+}
+
+#[test]
+fn a_closed_book_takes_nothing(rt: HostRuntime) -> Result<()> {
+    play_on(&rt, WishBook::closed().share()?, "open: false\n")?;
+    let script = "open: false
+wish a hidden 60: None
+grant: none
+settled a at 60: None
+turned-away: 0
+late: 0
+ask 404 /timegate/http://a.example/
+";
+    play_on(&rt, WishBook::closed(), script)
 }
 
 #[test]
 fn a_wish_goes_through_a_book(rt: HostRuntime) -> Result<()> {
-    let alloc = rt.alloc();
-    let a = original(alloc, A)?;
     let book = book_in(&rt)?;
-    assert!(rt; book.is_open());
-    let other = book.share()?;
-    assert!(rt; decides(alloc, &other, &[(A, false, 60, Decision::Added)])?);
-    assert!(rt; decides(alloc, &book, &[(A, false, 60, Decision::Waits)])?);
-    assert!(rt; is(book.grant(&rt), &a));
-    book.put_back(&rt, &a);
-    assert!(rt; is(book.grant(&rt), &a));
-    Ok(())
+    play_on(&rt, book.share()?, "wish a hidden 60: Some(Added)\n")?;
+    let script = "open: true
+wish a hidden 60: Some(Waits)
+grant: a
+put-back a
+grant: a
+";
+    play_on(&rt, book, script)
 }
 
 #[test]
 fn a_wish_that_ended_is_fresh(rt: HostRuntime) -> Result<()> {
-    let alloc = rt.alloc();
-    let book = book_in(&rt)?;
-    assert!(rt; decides(alloc, &book, &[(A, false, 60, Decision::Added)])?);
-    book.end(&rt, &original(alloc, A)?, true, FOUND, 60);
-    let made = [
-        (A, true, 1_059, Decision::Fresh),
-        (B, true, 60, Decision::Late),
-        (B, true, 120, Decision::Added),
-    ];
-    assert!(rt; decides(alloc, &book, &made)?);
-    assert!(rt; book.late(&rt) == 1 && book.late(&rt) == 0);
-    assert!(rt; book.is_settled(&original(alloc, A)?, 60) == Some(true));
-    assert!(rt; book.is_settled(&original(alloc, B)?, 60) == Some(false));
-    Ok(())
+    let script = "wish a hidden 60: Some(Added)
+end a asked 60
+wish a shown 1059: Some(Fresh)
+wish b shown 60: Some(Late)
+wish b shown 120: Some(Added)
+late: 1
+late: 0
+settled a at 60: Some(true)
+settled b at 60: Some(false)
+";
+    play(&rt, script)
 }
 
 #[test]
 fn a_wish_that_asked_nobody_gives_its_place_back(rt: HostRuntime) -> Result<()> {
-    let alloc = rt.alloc();
-    let book = book_in(&rt)?;
-    assert!(rt; decides(alloc, &book, &[(B, true, 120, Decision::Added)])?);
-    let spared = Outcome {
-        is_asked: false,
-        ..FOUND
-    };
-    book.end(&rt, &original(alloc, B)?, true, spared, 120);
-    assert!(rt; decides(alloc, &book, &[(A, false, 120, Decision::Added)])?);
-    Ok(())
+    let script = "wish b shown 120: Some(Added)
+end b spared 120
+wish a hidden 120: Some(Added)
+";
+    play(&rt, script)
 }
 
 #[test]
 fn a_book_has_room_and_what_rounds_look_after(rt: HostRuntime) -> Result<()> {
-    let alloc = rt.alloc();
-    let book = book_in(&rt)?;
-    book.set_room(&rt, 0);
-    assert!(rt; decides(alloc, &book, &[(A, false, 60, Decision::Full)])?);
-    assert!(rt; book.turned_away(&rt) == 1);
-    let mut listed = OriginalSet::with_room(alloc, 1, RandomState::new(&rt)?)?;
-    assert!(rt; listed.insert(original_sets::Key::new(&original(alloc, A)?)?)?);
-    book.set_listed(&rt, listed);
-    assert!(rt; decides(alloc, &book, &[(A, true, 60, Decision::Listed)])?);
-    Ok(())
+    let script = "room 0
+wish a hidden 60: Some(Full)
+turned-away: 1
+list a
+wish a shown 60: Some(Listed)
+";
+    play(&rt, script)
 }
 
 #[test]
 fn a_gate_notes_what_it_is_asked_for_in_vain(rt: HostRuntime) -> Result<()> {
-    let book = book_in(&rt)?;
-    for (status, target) in [
-        (404, b"/timemap/link/page/2/http://a.example/".as_slice()),
-        (404, b"/other/http://a.example/".as_slice()),
-        (400, b"/timegate/http://a.example/".as_slice()),
-        (405, b"/timegate/http://a.example/".as_slice()),
-    ] {
-        assert!(rt; ask(&rt, &book, status, target)? == status);
-        assert!(rt; book.grant(&rt).is_none());
-    }
-    assert!(rt; ask(&rt, &book, 404, b"/timegate/http://a.example/")? == 404);
-    assert!(rt; is(book.grant(&rt), &original(rt.alloc(), A)?));
-    Ok(())
+    let script = "ask 404 /timemap/link/page/2/http://a.example/
+grant: none
+ask 404 /other/http://a.example/
+grant: none
+ask 400 /timegate/http://a.example/
+grant: none
+ask 405 /timegate/http://a.example/
+grant: none
+ask 404 /timegate/http://a.example/
+grant: a
+";
+    play(&rt, script)
 }
 
 #[test]
 fn a_gate_notes_what_it_shows(rt: HostRuntime) -> Result<()> {
-    for (status, target) in [
-        (302, b"/timegate/http://a.example/".as_slice()),
-        (200, b"/timemap/link/http://a.example/".as_slice()),
-    ] {
-        let book = book_in(&rt)?;
-        assert!(rt; ask(&rt, &book, status, target)? == status);
-        assert!(rt; is(book.grant(&rt), &original(rt.alloc(), A)?));
-    }
-    Ok(())
+    let script = "ask 302 /timegate/http://a.example/
+grant: a
+new
+ask 200 /timemap/link/http://a.example/
+grant: a
+";
+    play(&rt, script)
 }
 
-/// Other spellings of one original: another case, a dot segment, a port that its scheme has anyway, a fragment.
-const SPELLINGS: [&[u8]; 5] = [
-    b"HTTP://A.example/",
-    b"http://A.EXAMPLE",
-    b"http://a.example/x/../",
-    b"http://a.example:80/",
-    b"http://a.example/#top",
-];
-
-/// The target of the TimeGate of what bytes name.
-fn timegate(alloc: Global, named: &[u8]) -> Result<Vec<u8>> {
-    let mut target = Vec::from_slice(alloc, b"/timegate/".as_slice())?;
-    target.extend_from_slice(named)?;
-    Ok(target)
-}
-
+/// Each in a new book. The spellings have another case, a dot segment, a port that the scheme has anyway, a fragment.
 #[test]
 fn however_it_is_spelled_what_is_shown_is_noted_under_one_name(rt: HostRuntime) -> Result<()> {
-    let a = original(rt.alloc(), A)?;
-    for spelling in SPELLINGS {
-        let book = book_in(&rt)?;
-        let target = timegate(rt.alloc(), spelling)?;
-        assert!(rt; ask(&rt, &book, 302, &target)? == 302);
-        assert!(rt; is(book.grant(&rt), &a));
-        assert!(rt; ask(&rt, &book, 302, &target)? == 302);
-        assert!(rt; book.grant(&rt).is_none(), "it waits");
-    }
-    Ok(())
+    let script = "ask 302 /timegate/HTTP://A.example/
+grant: a
+ask 302 /timegate/HTTP://A.example/
+grant: none
+new
+ask 302 /timegate/http://A.EXAMPLE
+grant: a
+ask 302 /timegate/http://A.EXAMPLE
+grant: none
+new
+ask 302 /timegate/http://a.example/x/../
+grant: a
+ask 302 /timegate/http://a.example/x/../
+grant: none
+new
+ask 302 /timegate/http://a.example:80/
+grant: a
+ask 302 /timegate/http://a.example:80/
+grant: none
+new
+ask 302 /timegate/http://a.example/#top
+grant: a
+ask 302 /timegate/http://a.example/#top
+grant: none
+";
+    play(&rt, script)
 }
 
 #[test]
 fn what_is_no_timegate_or_timemap_wishes_for_nothing(rt: HostRuntime) -> Result<()> {
-    let book = book_in(&rt)?;
-    for target in [
-        b"/timemap/link/page/1/http://a.example/".as_slice(),
-        b"/timemap/link/page/x".as_slice(),
-        b"/state".as_slice(),
-        b"/delta".as_slice(),
-        b"/other/http://a.example/".as_slice(),
-        b"/timegate/nothing".as_slice(),
-    ] {
-        assert!(rt; ask(&rt, &book, 200, target)? == 200);
-        assert!(rt; book.grant(&rt).is_none());
-    }
-    Ok(())
+    let script = "ask 200 /timemap/link/page/1/http://a.example/
+grant: none
+ask 200 /timemap/link/page/x
+grant: none
+ask 200 /state
+grant: none
+ask 200 /delta
+grant: none
+ask 200 /other/http://a.example/
+grant: none
+ask 200 /timegate/nothing
+grant: none
+";
+    play(&rt, script)
 }
 
 #[test]
 fn spellings_of_what_was_looked_after_wish_for_nothing(rt: HostRuntime) -> Result<()> {
-    let a = original(rt.alloc(), A)?;
-    let book = book_in(&rt)?;
-    assert!(rt; ask(&rt, &book, 302, b"/timegate/http://a.example/")? == 302);
-    assert!(rt; is(book.grant(&rt), &a));
-    book.end(&rt, &a, true, FOUND, now(&rt)?);
-    for spelling in SPELLINGS {
-        assert!(rt; ask(&rt, &book, 302, &timegate(rt.alloc(), spelling)?)? == 302);
-        assert!(rt; book.grant(&rt).is_none());
-    }
-    assert!(rt; ask(&rt, &book, 302, b"/timegate/http://a.example/")? == 302);
-    assert!(rt; book.grant(&rt).is_none());
-    Ok(())
+    let script = "ask 302 /timegate/http://a.example/
+grant: a
+end a asked now
+ask 302 /timegate/HTTP://A.example/
+grant: none
+ask 302 /timegate/http://A.EXAMPLE
+grant: none
+ask 302 /timegate/http://a.example/x/../
+grant: none
+ask 302 /timegate/http://a.example:80/
+grant: none
+ask 302 /timegate/http://a.example/#top
+grant: none
+ask 302 /timegate/http://a.example/
+grant: none
+";
+    play(&rt, script)
 }
 
-/// The original that a request by this method for a target asks for, if it asks for one.
-fn asked_by(alloc: Global, method: &[u8], target: &[u8]) -> Result<Option<AskedOriginal>> {
-    let request = request(alloc, method, target, &[])?;
-    Ok(asked_original(alloc, &request)?)
+/// Methods and targets, and the original that such a request asks for.
+const ASKED: &str = "HEAD|/timegate/http://a.example/|a
+POST|/timegate/http://a.example/|none
+HEAD|/timemap/link/http://a.example/|a
+POST|/timemap/link/http://a.example/|none
+";
+
+fn is_asked_for(alloc: Global, case: &str) -> Result<bool> {
+    let (method, rest) = halves(case);
+    let (target, name) = halves(rest);
+    let request = request(alloc, method.as_bytes(), target.as_bytes(), &[])?;
+    match asked_original(alloc, &request)? {
+        Some(asked) => Ok(*asked.as_original() == named(alloc, name)?),
+        None => Ok(name == "none"),
+    }
 }
 
 #[test]
 fn a_request_asks_for_an_original(rt: HostRuntime) -> Result<()> {
-    let a = original(rt.alloc(), A)?;
-    for target in [
-        b"/timegate/http://a.example/".as_slice(),
-        b"/timemap/link/http://a.example/".as_slice(),
-    ] {
-        let asked = asked_by(rt.alloc(), b"HEAD", target)?.context("no original")?;
-        assert!(rt; *asked.as_original() == a);
-        assert!(rt; asked_by(rt.alloc(), b"POST", target)?.is_none());
-    }
-    Ok(())
+    hold(rt.alloc(), ASKED, is_asked_for)
 }

@@ -1,29 +1,48 @@
 //! Tests of what the thread of the rounds keeps of granted wishes, and of what a wish's walk says.
 use anyhow::{Context, Result};
 use harvest_lattice::Harvest;
-use memento_time::ArchiveName;
+use memento_time::{ArchiveName, Original};
 use round_values::{Desk, Millis, answer_to};
 use service_log::WishCounts;
+use std::alloc::Global;
 use std::test::*;
 use text_tests::makers::original;
 use wish_list::WishAnswer;
 
 const A: &[u8] = b"http://a.example/";
 
+/// Whether the wish for this original ends, and an archive was asked for it in vain.
+fn ends_without_answer(desk: &mut Desk, original: &Original) -> bool {
+    match desk.take_ended() {
+        Some(ended) => {
+            let outcome = ended.outcome;
+            ended.original == *original
+                && outcome.is_asked
+                && !outcome.is_found
+                && !outcome.is_whole
+        }
+        None => false,
+    }
+}
+
+/// A desk with one wish for A, whose only archive may be asked.
+fn desk_of_one(alloc: Global) -> Result<Desk> {
+    let mut desk = Desk::new(alloc, 1)?;
+    desk.push(original(alloc, A)?, &[false])?;
+    desk.allow_all();
+    Ok(desk)
+}
+
 /// A wish whose archive stays busy isn't answered as a whole: it may soon be made again.
 #[test]
 fn an_archive_that_stays_busy_gives_no_harvest(rt: HostRuntime) -> Result<()> {
     let a = original(rt.alloc(), A)?;
-    let mut desk = Desk::new(rt.alloc(), 1)?;
-    desk.push(original(rt.alloc(), A)?, &[false])?;
-    desk.allow_all();
+    let mut desk = desk_of_one(rt.alloc())?;
     let job = desk.next().context("no job")?;
     desk.ask(&job);
     assert!(rt; desk.add_again(&a, 0) && desk.take_ended().is_none());
     desk.skip(0);
-    let ended = desk.take_ended().context("no end")?;
-    assert!(rt; ended.original == a && ended.outcome.is_asked);
-    assert!(rt; !ended.outcome.is_found && !ended.outcome.is_whole);
+    assert!(rt; ends_without_answer(&mut desk, &a));
     Ok(())
 }
 

@@ -14,6 +14,8 @@ mod jobs;
 #[cfg(test)]
 mod lists;
 #[cfg(test)]
+mod queues;
+#[cfg(test)]
 mod uses;
 #[cfg(test)]
 mod wishes;
