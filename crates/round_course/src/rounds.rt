@@ -1,12 +1,10 @@
 //! A round's beginning, its end, and the jobs of its turns.
-ghost use Rattle.std.specs.Prelude.{◌≡◌, ℕ, IfSome, Some, false, length, slice_get, true};
+ghost use Rattle.std.specs.Prelude.{◌≡◌, ℕ, IfSome, Some, false, slice_get, true};
 ghost use Rattle.std.specs.Arc.{arc_value};
 ghost use Rattle.harvest_workers.specs.declared.errands.Errand.TheVariants.{Round as OfRound};
-ghost use Rattle.harvest_schedule.specs.declared.schedules.Schedule.{Schedule};
 ghost use Rattle.round_values.specs.Counts.{round_after};
 ghost use Rattle.round_values.specs.Revisions.{revision_of as revision_by_rule};
 ghost use Rattle.round_standing.specs.Listing.{list_of};
-ghost use Rattle.round_standing.specs.Paces as paces;
 ghost use Rattle.round_course.specs.Permits.{GaveTurn, IsNeedless};
 ghost use Rattle.round_course.specs.Publishes.{Publishes};
 
@@ -53,10 +51,6 @@ where
     /// Begins the round with this number: reads what is listed and what is withdrawn, and tells the book of wishes.
     pub fn begin_round(&mut self, number: u64)
         ensures number { self.new.standing.number ≡ number }
-        ensures jobs { (before begun : Schedule) × paces.Begins (length (list_of self.new.standing.originals.all
-            (arc_value self.new.terms.now.settings).originals)) before begun
-            × paces.Passes 0 begun self.new.standing.passed self.new.standing.schedule
-            × paces.LeavesAsked self.new.standing.absences begun self.new.standing.schedule }
     {
         let settings = self.settings();
         self.read_list(number);
